@@ -1,0 +1,73 @@
+-- What each call on a core does to its line, and who leaves the list of waiters.
+use Rattle.std.specs.Prelude.{◌≡◌, ◌≢◌, ℕ, Bool, true, false, List, [], ◌∷◌, Option, Some, None}
+use Rattle.kanal_core.specs.declared.internal.outcome.Outcome.{Outcome}
+use Rattle.kanal_core.specs.declared.internal.outcome.Settled.{Settled}
+use Rattle.kanal_core.specs.declared.internal.outcome.Waiter.{Waiter}
+use Rattle.kanal_core.specs.declared.internal.outcome.Offer.{Offer}
+use Rattle.kanal_core.specs.declared.internal.outcome.Offer.TheVariants.{Entered, Handed, Full, Closed as OfferClosed, ReceiveClosed, NoMemory}
+use Rattle.kanal_core.specs.declared.internal.outcome.Take.{Take}
+use Rattle.kanal_core.specs.declared.internal.outcome.Take.TheVariants.{Got, Closed as TakeClosed, SendClosed, Empty}
+use Rattle.kanal_core.specs.Line.{Entry, Line, has_place}
+use Rattle.kanal_core.specs.Moves.{Moved, enter, leave}
+use Rattle.kanal_core.specs.Channel.{settlement, settlements}
+
+-- the line moved, and settled these tickets
+abbrev pub MovesTo : {T : Type 0} → Moved T → List (ℕ × Outcome T) → Line T → Type 0
+MovesTo moved settled new = moved ≡ record { line = new; settled = settled }
+
+-- the message entered
+pub record Enters {T : Type 0} (old : Line T) (m : T) (settled : List (ℕ × Outcome T)) (new : Line T) : Type 0 where
+  pub receiver : old.receivers ≢ 0
+  pub place : has_place old ≡ true
+  pub moves : MovesTo (enter old m) settled new
+
+-- the front of the line was taken
+pub record TakesFront {T : Type 0} (old : Line T) (m : T) (settled : List (ℕ × Outcome T)) (new : Line T) : Type 0 where
+  pub front : Entry T
+  pub rest : List (Entry T)
+  pub receiver : old.receivers ≢ 0
+  pub was : old.line ≡ front ∷ rest
+  pub message : m ≡ front.message
+  pub moves : MovesTo (leave old (front ∷ []) rest) settled new
+
+-- an open line stays as it was
+abbrev pub Stays : {T : Type 0} → Line T → Line T → Type 0
+Stays old new = (old.receivers ≢ 0) × (new ≡ old)
+
+module _ {T W : Type 0} where
+  -- a message was offered
+  abbrev pub Offers : Line T → T → Offer T W → Line T → Type 0
+  Offers old m Entered new = Enters old m [] new
+  Offers old m (Handed s) new = Enters old m (settlement s ∷ []) new
+  Offers old m (Full back) new = Stays old new × (has_place old ≡ false) × (back ≡ m)
+  Offers old m (OfferClosed back) new = (old.receivers ≡ 0) × (old.senders ≡ 0) × (back ≡ m) × (new ≡ old)
+  Offers old m (ReceiveClosed back) new = (old.receivers ≡ 0) × (old.senders ≢ 0) × (back ≡ m) × (new ≡ old)
+  Offers old m (NoMemory back) new = Stays old new × (old.demands ≡ []) × (old.capacity ≡ None) × (back ≡ m)
+
+  -- a message was asked for
+  abbrev pub Takes : Line T → Take T W → Line T → Type 0
+  Takes old (Got m settled) new = TakesFront old m (settlements settled) new
+  Takes old TakeClosed new = (old.receivers ≡ 0) × (new ≡ old)
+  Takes old SendClosed new = Stays old new × (old.line ≡ []) × (old.senders ≡ 0)
+  Takes old Empty new = Stays old new × (old.line ≡ []) × (old.senders ≢ 0)
+
+  -- the oldest waiter left the list and is settled, or nobody did
+  abbrev pub OldestLeft : List (Waiter T W) → Option (Settled T W) → List (Waiter T W) → Type 0
+  OldestLeft old None new = new ≡ old
+  OldestLeft old (Some s) new = (w : Waiter T W) × (old ≡ w ∷ new) × (s.ticket ≡ w.ticket) × (s.w ≡ w.w)
+
+  -- the waiter that an offer settled
+  abbrev pub handed : Offer T W → Option (Settled T W)
+  handed (Handed s) = Some s
+  handed Entered = None
+  handed (Full back) = None
+  handed (OfferClosed back) = None
+  handed (ReceiveClosed back) = None
+  handed (NoMemory back) = None
+
+  -- the waiter that a take settled
+  abbrev pub let_in : Take T W → Option (Settled T W)
+  let_in (Got m settled) = settled
+  let_in TakeClosed = None
+  let_in SendClosed = None
+  let_in Empty = None

@@ -1,0 +1,36 @@
+-- The fields of the core and of its rooms, read as what contracts see.
+use Rattle.std.specs.Prelude.{◌≡◌, ℕ, ◌<◌, ◌≤◌, List, [], length, map, Option, Some, None}
+use Rattle.std.specs.VecDeque.{deque_capacity}
+use Rattle.std.specs.declared.collections.VecDeque.{VecDeque}
+use Rattle.kanal_core.specs.Rooms.{Room}
+use Rattle.kanal_core.specs.Channel.{Channel, ended_by}
+use Rattle.kanal_core.specs.declared.internal.ChannelInternal.TheInside.{Inside}
+
+-- a number is within the limit, if there is one
+abbrev pub IsWithin : ℕ → Option ℕ → Type 0
+IsWithin n None = Unit {0}
+IsWithin n (Some limit) = n ≤ limit
+
+-- the room of a limit is there
+abbrev pub HasRoomFor : Option ℕ → ℕ → Type 0
+HasRoomFor None capacity = Unit {0}
+HasRoomFor (Some limit) capacity = limit ≤ capacity
+
+module _ {T W : Type 0} where
+  -- the core as contracts see it
+  abbrev pub channel_of : Inside T W → Channel T W
+  channel_of c =
+      record {
+        buffer = c.buffer.messages;
+        waiters = c.waiters;
+        capacity = c.capacity;
+        senders = c.senders;
+        receivers = c.receivers;
+        next = c.next;
+      }
+
+  -- nobody waits, the buffer is within the capacity, and while there is a receiver it has the capacity's room
+  pub record IsSound (c : Inside T W) : Type 0 where
+    pub nobody : c.waiters ≡ []
+    pub within : IsWithin (length c.buffer.messages) c.capacity
+    pub room : 0 < c.receivers → c.buffer.limit ≡ c.capacity

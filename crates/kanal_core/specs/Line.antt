@@ -1,0 +1,63 @@
+-- A channel as one line of messages and a list of demands.
+use Rattle.std.specs.Prelude.{ℕ, nat_lt, Bool, true, false, cond, List, [], ◌∷◌, length, map, take, drop, Option, Some, None}
+use Rattle.std.specs.List.{filter_map}
+
+-- a message in the line, with the ticket of the send that waits with it
+pub record Entry (T : Type 0) : Type 0 where
+  pub message : T
+  pub ticket : Option ℕ
+
+-- a capacity of None is no limit; the demands are the tickets of the receives that wait
+pub record Line (T : Type 0) : Type 0 where
+  pub capacity : Option ℕ
+  pub line : List (Entry T)
+  pub demands : List ℕ
+  pub senders : ℕ
+  pub receivers : ℕ
+  pub next : ℕ
+
+-- n is below the capacity
+abbrev pub is_below : ℕ → Option ℕ → Bool
+is_below n None = true
+is_below n (Some c) = nat_lt n c
+
+module _ {X : Type 0} where
+  -- the places below the capacity, which are the buffer
+  abbrev pub under : Option ℕ → List X → List X
+  under None xs = xs
+  under (Some c) xs = take c xs
+
+  -- the places at and above the capacity, which wait
+  abbrev pub over : Option ℕ → List X → List X
+  over None xs = []
+  over (Some c) xs = drop c xs
+
+  -- nothing is in the list
+  abbrev pub is_empty : List X → Bool
+  is_empty [] = true
+  is_empty (x ∷ xs) = false
+
+module _ {T : Type 0} where
+  -- an entry that waits for nothing
+  abbrev pub bare : T → Entry T
+  bare m = record { message = m; ticket = None }
+
+  -- an entry whose send waits with ticket t
+  abbrev pub waiting : T → ℕ → Entry T
+  waiting m t = record { message = m; ticket = Some t }
+
+  -- the messages of the entries, in order
+  abbrev pub messages : List (Entry T) → List T
+  messages line = map (λ e. e.message) line
+
+  -- the tickets that wait in the line, in order
+  abbrev pub tickets : List (Entry T) → List ℕ
+  tickets line = filter_map (λ e. e.ticket) line
+
+  -- a message may enter: a demand waits, or the line is shorter than the capacity
+  abbrev pub has_place : Line T → Bool
+  has_place old = cond (is_empty old.demands) (is_below (length old.line) old.capacity) true
+
+  -- how many messages are in the buffer
+  abbrev pub buffered : Line T → ℕ
+  buffered old = length (under old.capacity old.line)

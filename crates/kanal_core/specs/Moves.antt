@@ -1,0 +1,62 @@
+-- How the line moves: what enters, what is served, what leaves and what ends.
+use Rattle.std.specs.Prelude.{◌≡◌, ℕ, List, [], ◌∷◌, ◌++◌, map, Option, Some, None}
+use Rattle.std.specs.List.{filter_map}
+use Rattle.std.specs.Option.{option_map}
+use Rattle.kanal_core.specs.declared.internal.outcome.Reason.{Reason}
+use Rattle.kanal_core.specs.declared.internal.outcome.Reason.TheVariants.{Closed as ByClose}
+use Rattle.kanal_core.specs.declared.internal.outcome.Outcome.{Outcome}
+use Rattle.kanal_core.specs.declared.internal.outcome.Outcome.TheVariants.{Taken, Given, Ended}
+use Rattle.kanal_core.specs.Line.{Entry, Line, under, over, bare, messages, tickets}
+
+-- a move: the line after it, and the tickets that it settled, oldest first
+pub record Moved (T : Type 0) : Type 0 where
+  pub line : Line T
+  pub settled : List (ℕ × Outcome T)
+
+module _ {T : Type 0} where
+  -- nothing is settled
+  abbrev pub quiet : Line T → Moved T
+  quiet line = record { line = line; settled = [] }
+
+  -- Serving: while a message and a demand are there, the front goes to the first demand.
+  -- One side of a channel's line is always empty, so only an entering message is ever served here.
+  abbrev pub serve : Line T → List (Entry T) → List ℕ → Moved T
+  serve old line [] = quiet (record old { line = line; demands = [] })
+  serve old [] (d ∷ ds) = quiet (record old { line = []; demands = d ∷ ds })
+  serve old (e ∷ es) (d ∷ ds) = let rest = serve old es ds in record rest { settled = (d, Given e.message) ∷ rest.settled }
+
+  -- Entering: the message goes to the line's end, and is served if a demand waits.
+  abbrev pub enter : Line T → T → Moved T
+  enter old m = serve old (old.line ++ bare m ∷ []) old.demands
+
+  -- the entries whose place is below the capacity wait no more
+  abbrev pub seated : Option ℕ → List (Entry T) → List (Entry T)
+  seated capacity line = map (λ e. bare e.message) (under capacity line) ++ over capacity line
+
+  -- the sends that waited with these entries are settled as taken
+  abbrev pub taken : List (Entry T) → List (ℕ × Outcome T)
+  taken entries = map (λ t. (t, Taken)) (tickets entries)
+
+  -- Leaving: some entries leave from the front; they, and those whose place falls below the capacity, wait no more.
+  abbrev pub leave : Line T → List (Entry T) → List (Entry T) → Moved T
+  leave old gone rest = record { line = record old { line = seated old.capacity rest }; settled = taken (gone ++ under old.capacity rest) }
+
+  -- the end of a send that waits, with its message
+  abbrev pub ended_entry : Reason → Entry T → Option (ℕ × Outcome T)
+  ended_entry reason e = option_map (λ t. (t, Ended reason (Some e.message))) e.ticket
+
+  -- Ending: each ticket that waits ends, with its message if it has one.
+  abbrev pub ended : Reason → Line T → List (ℕ × Outcome T)
+  ended reason old = filter_map (ended_entry reason) old.line ++ map (λ t. (t, Ended reason None)) old.demands
+
+  -- Closing: all that waits ends, and nothing is left.
+  abbrev pub close : Line T → Moved T
+  close old =
+      record {
+        line = record old { line = []; demands = []; senders = 0; receivers = 0 };
+        settled = ended ByClose old;
+      }
+
+  -- what a close clears: the messages in the buffer
+  abbrev pub cleared : Line T → List T
+  cleared old = messages (under old.capacity old.line)

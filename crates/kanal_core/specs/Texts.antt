@@ -1,0 +1,14 @@
+-- The texts of the errors.
+use Rattle.std.specs.Prelude.{ℕ, List, codes}
+use Rattle.kanal_core.specs.declared.error.NewError.{NewError}
+use Rattle.kanal_core.specs.declared.error.NewError.TheVariants.{TooLarge, NoMemory}
+use Rattle.kanal_core.specs.declared.error.CloseError.{CloseError}
+
+-- why a channel could not be made
+abbrev pub new_error_text : NewError → List ℕ
+new_error_text TooLarge = codes "capacity too large"
+new_error_text NoMemory = codes "no memory"
+
+-- why a close was refused
+abbrev pub close_error_text : CloseError → List ℕ
+close_error_text e = codes "channel is already closed"

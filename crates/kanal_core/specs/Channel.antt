@@ -48,6 +48,10 @@ module _ {T W : Type 0} where
   abbrev pub opening : Option ℕ → Channel T W
   opening capacity = record { buffer = []; waiters = []; capacity = capacity; senders = 1; receivers = 1; next = 0 }
 
+  -- a channel that was closed
+  abbrev pub closed : Channel T W → Channel T W
+  closed c = record c { buffer = []; waiters = []; senders = 0; receivers = 0 }
+
   -- how a waiter ends
   abbrev pub ended_by : Reason → Waiter T W → Settled T W
   ended_by reason w = record { ticket = w.ticket; w = w.w; outcome = Ended reason w.message }

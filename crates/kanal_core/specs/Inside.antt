@@ -2,14 +2,10 @@
 use Rattle.std.specs.Prelude.{◌≡◌, ℕ, ◌<◌, ◌≤◌, List, [], length, map, Option, Some, None}
 use Rattle.std.specs.VecDeque.{deque_capacity}
 use Rattle.std.specs.declared.collections.VecDeque.{VecDeque}
+use Rattle.kanal_core.specs.Line.{IsWithin}
 use Rattle.kanal_core.specs.Rooms.{Room}
 use Rattle.kanal_core.specs.Channel.{Channel, ended_by}
 use Rattle.kanal_core.specs.declared.internal.ChannelInternal.TheInside.{Inside}
-
--- a number is within the limit, if there is one
-abbrev pub IsWithin : ℕ → Option ℕ → Type 0
-IsWithin n None = Unit {0}
-IsWithin n (Some limit) = n ≤ limit
 
 -- the room of a limit is there
 abbrev pub HasRoomFor : Option ℕ → ℕ → Type 0

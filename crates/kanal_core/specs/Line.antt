@@ -1,5 +1,5 @@
 -- A channel as one line of messages and a list of demands.
-use Rattle.std.specs.Prelude.{ℕ, nat_lt, Bool, true, false, cond, List, [], ◌∷◌, length, map, take, drop, Option, Some, None}
+use Rattle.std.specs.Prelude.{ℕ, ◌≤◌, nat_lt, Bool, true, false, cond, List, [], ◌∷◌, length, map, take, drop, Option, Some, None}
 use Rattle.std.specs.List.{filter_map}
 
 -- a message in the line, with the ticket of the send that waits with it
@@ -20,6 +20,11 @@ pub record Line (T : Type 0) : Type 0 where
 abbrev pub is_below : ℕ → Option ℕ → Bool
 is_below n None = true
 is_below n (Some c) = nat_lt n c
+
+-- n is not above the capacity
+abbrev pub IsWithin : ℕ → Option ℕ → Type 0
+IsWithin n None = Unit {0}
+IsWithin n (Some c) = n ≤ c
 
 module _ {X : Type 0} where
   -- the places below the capacity, which are the buffer

@@ -10,7 +10,7 @@
 ghost use Rattle.std.specs.Prelude.{◌≡◌, ◌<◌, ◌↔◌, [], length, map, MatchResult, IfOk, IfErr, IsErr, IsErrOf, Some, None};
 ghost use Rattle.kanal_core.specs.Line.{buffered, messages};
 ghost use Rattle.kanal_core.specs.Moves.{close, cleared};
-ghost use Rattle.kanal_core.specs.Channel.{line_of, opening, ended_by, settlement};
+ghost use Rattle.kanal_core.specs.Channel.{line_of, opening, closed, ended_by, settlement};
 ghost use Rattle.kanal_core.specs.Calls.{Offers, Takes, MovesTo, OldestLeft, handed, let_in};
 
 use crate::error::{CloseError, NewError};
@@ -154,6 +154,7 @@ impl<T, W> ChannelInternal<T, W> {
         ensures step { IfOk result (λ c. MovesTo (close (line_of self.old)) (map settlement c.ended) (line_of self.new)) }
         ensures cleared { IfOk result (λ c. c.cleared ≡ cleared (line_of self.old)) }
         ensures ended { IfOk result (λ c. c.ended ≡ map (ended_by Reason.Closed) self.old.waiters) }
+        ensures after { IfOk result (λ _. self.new ≡ closed self.old) }
         ensures refused { IfErr result (λ _. self.new ≡ self.old) }
         ensures shut { IsErr result ↔ ((self.old.senders ≡ 0) × (self.old.receivers ≡ 0)) }
     {

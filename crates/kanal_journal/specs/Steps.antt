@@ -1,0 +1,91 @@
+-- What one event does to the line, and what it tells.
+use Rattle.std.specs.Prelude.{◌≡◌, ◌≢◌, ℕ, ◌==◌, Bool, ◌&&◌, cond, List, [], ◌∷◌, ◌++◌, length, Option, Some, None, ◌⊎◌}
+use Rattle.kanal_core.specs.declared.internal.outcome.Outcome.{Outcome}
+use Rattle.kanal_core.specs.Line.{Entry, Line, has_place, buffered}
+use Rattle.kanal_core.specs.Moves.{Moved, enter, leave, close, cleared}
+use Rattle.kanal_journal.specs.declared.journal.event.Side.{Side}
+use Rattle.kanal_journal.specs.declared.journal.event.Ask.{Ask}
+use Rattle.kanal_journal.specs.declared.journal.event.Ask.TheVariants.{Len}
+use Rattle.kanal_journal.specs.declared.journal.event.Event.{Event}
+use Rattle.kanal_journal.specs.declared.journal.event.Event.TheVariants.{TrySend, TryRecv, Close, Ask as Asks}
+use Rattle.kanal_journal.specs.declared.journal.event.Refusal.{Refusal}
+use Rattle.kanal_journal.specs.declared.journal.event.Refusal.TheVariants.{Closed, ReceiveClosed, SendClosed, NoMemory, CloseError}
+use Rattle.kanal_journal.specs.declared.journal.event.Reply.{Reply}
+use Rattle.kanal_journal.specs.declared.journal.event.Reply.TheVariants.{Yes, No, Got, Nothing, Cleared, Number, Refused}
+
+-- what one event tells: the line after it, the reply, the tickets that it settles, the messages that it drains and those that it clears
+pub record Told (T : Type 0) : Type 0 where
+  pub line : Line T
+  pub reply : Reply T
+  pub settled : List (ℕ × Outcome T)
+  pub drained : List T
+  pub cleared : List T
+
+module _ {T : Type 0} where
+  -- the event gives this reply, and leaves this line
+  abbrev pub only : Line T → Reply T → Told T
+  only line reply = record { line = line; reply = reply; settled = []; drained = []; cleared = [] }
+
+  -- the event moves the line so, and gives this reply
+  abbrev pub moving : Moved T → Reply T → Told T
+  moving moved reply = record { line = moved.line; reply = reply; settled = moved.settled; drained = []; cleared = [] }
+
+  -- a message is offered: it enters, or the call goes on in its own way
+  abbrev pub offer : Line T → T → Reply T → Told T → Told T
+  offer old m entered otherwise =
+      cond (old.receivers == 0)
+      (only old (Refused (cond (old.senders == 0) Closed ReceiveClosed) (Some m)))
+      (cond (has_place old) (moving (enter old m) entered) otherwise)
+
+  -- the front is taken if there is one, or the call goes on in its own way
+  abbrev pub take_front : Line T → List (Entry T) → Told T → Told T
+  take_front old [] otherwise = otherwise
+  take_front old (e ∷ es) otherwise = moving (leave old (e ∷ []) es) (Got e.message)
+
+  -- a message is asked for
+  abbrev pub take : Line T → Told T → Told T
+  take old otherwise = cond (old.receivers == 0) (only old (Refused Closed None)) (take_front old old.line otherwise)
+
+  -- on an empty line: no sender is left, or the call goes on in its own way
+  abbrev pub nothing_there : Line T → Told T → Told T
+  nothing_there old otherwise = cond (old.senders == 0) (only old (Refused SendClosed None)) otherwise
+
+  -- the channel is closed: all waits end, and the buffer is cleared
+  abbrev pub shut : Line T → Told T
+  shut old =
+      cond ((old.senders == 0) && (old.receivers == 0))
+      (only old (Refused CloseError None))
+      (record (moving (close old) (Cleared (length (cleared old)))) { cleared = cleared old })
+
+  -- a question looks at the buffer
+  abbrev pub answer : Line T → Side → Ask → Reply T
+  answer old side Len = Number (buffered old)
+
+  -- what the event does, where it is not refused for memory
+  abbrev pub step : Line T → Event T → Told T
+  step old (TrySend m) = offer old m Yes (only old (No m))
+  step old TryRecv = take old (nothing_there old (only old Nothing))
+  step old Close = shut old
+  step old (Asks side ask) = only old (answer old side ask)
+
+  -- the message of an event, which a refusal gives back
+  abbrev pub message_of : Event T → Option T
+  message_of (TrySend m) = Some m
+  message_of event = None
+
+  -- the event is refused: nothing changes, and its message comes back
+  abbrev pub refused : Line T → Refusal → Event T → Told T
+  refused old reason event = only old (Refused reason (message_of event))
+
+  -- the event may be refused for memory: it would lengthen an unlimited line while no demand waits
+  abbrev pub MayRefuse : Line T → Event T → Type 0
+  MayRefuse old (TrySend m) = (old.receivers ≢ 0) × (old.demands ≡ []) × (old.capacity ≡ None)
+  MayRefuse old event = ⊥
+
+  -- the event was made, or was refused for memory where it may be
+  abbrev pub Tells : Line T → Event T → Told T → Type 0
+  Tells old event told = (told ≡ step old event) ⊎ (MayRefuse old event × (told ≡ refused old NoMemory event))
+
+  -- the event leaves this line, gives this reply, settles and drains nothing, and what it clears goes to the end of a list
+  abbrev pub TellsOf : Line T → Event T → Line T → Reply T → List T → List T → Type 0
+  TellsOf old event new reply cleared now = (gone : List T) × Tells old event (record (only new reply) { cleared = gone }) × (now ≡ cleared ++ gone)

@@ -1,0 +1,90 @@
+//! The events that a channel can be put through, and what it tells of each.
+//!
+//! Plain data: no other module defines an event or a reply.
+use kanal_core::internal::Outcome;
+
+/// A side of the channel: the senders' or the receivers'.
+#[derive(Clone, Copy, Debug, PartialEq, Eq)]
+pub enum Side {
+    /// The senders' side.
+    Tx,
+    /// The receivers' side.
+    Rx,
+}
+
+/// A question that either side may ask.
+#[derive(Clone, Copy, Debug, PartialEq, Eq)]
+pub enum Ask {
+    /// How many messages are in the buffer.
+    Len,
+}
+
+/// One call on a channel.
+#[derive(Drop)]
+pub enum Event<T> {
+    /// Send this message if it can enter at once.
+    TrySend(T),
+    /// Receive a message if one is there.
+    TryRecv,
+    /// Close both sides.
+    Close,
+    /// Ask a question through this side.
+    Ask(Side, Ask),
+}
+
+/// Why an event changed nothing.
+#[derive(Clone, Copy, Debug, PartialEq, Eq)]
+pub enum Refusal {
+    /// The channel is closed.
+    Closed,
+    /// A send, and no receiver is left.
+    ReceiveClosed,
+    /// A receive, nothing is there, and no sender is left.
+    SendClosed,
+    /// A growth was refused for memory.
+    NoMemory,
+    /// A close of a channel whose sides are both gone.
+    CloseError,
+}
+
+/// What an event is answered.
+#[derive(Drop)]
+pub enum Reply<T> {
+    /// The message of a `TrySend` entered.
+    Yes,
+    /// The message of a `TrySend` comes back: there is no place for it.
+    No(T),
+    /// The message that was received.
+    Got(T),
+    /// There is no message.
+    Nothing,
+    /// The channel was closed, and so many messages were cleared.
+    Cleared(usize),
+    /// A number that was asked for.
+    Number(u64),
+    /// Nothing changed, and the event's message, if it had one, comes back.
+    Refused(Refusal, Option<T>),
+}
+
+/// A wait that was settled at a step: its ticket's number, and what became of it.
+#[derive(Drop)]
+pub struct Settlement<T> {
+    pub step: usize,
+    pub ticket: u64,
+    pub outcome: Outcome<T>,
+}
+
+/// All that was told along a list of events.
+#[derive(Drop)]
+pub struct Report<T> {
+    /// One reply for each event.
+    pub replies: Vec<Reply<T>>,
+    /// Every wait that was settled, in order.
+    pub settled: Vec<Settlement<T>>,
+    /// The messages of all drains, in order.
+    pub drained: Vec<T>,
+    /// The messages that a close cleared, in order.
+    pub cleared: Vec<T>,
+    /// The messages still in the line at the end, the buffer's first.
+    pub left: Vec<T>,
+}

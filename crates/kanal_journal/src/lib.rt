@@ -1,0 +1,6 @@
+//! A channel's history: what a list of events does on one core, and what can be proved of it.
+//!
+//! Stands on `kanal_core` alone. Nothing in this crate waits or starts a thread.
+#![tactic(auto)]
+
+pub mod journal;

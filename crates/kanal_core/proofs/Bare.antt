@@ -1,7 +1,7 @@
 -- Entries that wait for nothing.
-use Rattle.std.proofs.Common.{◌≡◌, ℕ, zero, suc, List, [], ◌∷◌, ◌++◌, map, take, drop, length, Option, Some, None, refl, sym, ap, ◌∙◌, append-nil}
+use Rattle.std.proofs.Common.{◌≡◌, ℕ, zero, suc, List, [], ◌∷◌, ◌++◌, map, take, Option, Some, None, refl, ap, append-nil}
 use Rattle.std.proofs.lemmas.List.{take-append-drop}
-use Rattle.kanal_core.specs.Line.{Entry, Line, bare, messages, tickets, under, over}
+use Rattle.kanal_core.specs.Line.{Entry, Line, bare, messages, tickets, under}
 use Rattle.kanal_core.specs.Moves.{seated, taken, leave}
 
 module _ {T : Type 0} where

@@ -1,3 +1,13 @@
 pub mod Bare
-pub mod Quiet
 pub mod Within
+pub mod WaiterPlaces
+pub mod Sides
+pub mod Sided
+pub mod Stepping
+pub mod Sounding
+pub mod LettingIn
+pub mod CellBools
+pub mod CellPlaces
+pub mod CellLawful
+pub mod CellKeeps
+pub mod CellSecond

@@ -1,14 +1,15 @@
 -- What each call on a core does to its line, and who leaves the list of waiters.
-use Rattle.std.specs.Prelude.{◌≡◌, ◌≢◌, ℕ, Bool, true, false, List, [], ◌∷◌, Option, Some, None}
+use Rattle.std.specs.Prelude.{◌≡◌, ◌≢◌, ℕ, true, false, List, [], ◌∷◌, Option, Some, None}
 use Rattle.kanal_core.specs.declared.internal.outcome.Outcome.{Outcome}
 use Rattle.kanal_core.specs.declared.internal.outcome.Settled.{Settled}
+use Rattle.kanal_core.specs.declared.internal.outcome.Ticket.{Ticket}
 use Rattle.kanal_core.specs.declared.internal.outcome.Waiter.{Waiter}
 use Rattle.kanal_core.specs.declared.internal.outcome.Offer.{Offer}
 use Rattle.kanal_core.specs.declared.internal.outcome.Offer.TheVariants.{Entered, Handed, Full, Closed as OfferClosed, ReceiveClosed, NoMemory}
 use Rattle.kanal_core.specs.declared.internal.outcome.Take.{Take}
 use Rattle.kanal_core.specs.declared.internal.outcome.Take.TheVariants.{Got, Closed as TakeClosed, SendClosed, Empty}
-use Rattle.kanal_core.specs.Line.{Entry, Line, has_place}
-use Rattle.kanal_core.specs.Moves.{Moved, enter, leave}
+use Rattle.kanal_core.specs.Line.{Entry, Line, has_place, has, found}
+use Rattle.kanal_core.specs.Moves.{Moved, enter, leave, without_entry, without_demand}
 use Rattle.kanal_core.specs.Channel.{settlement, settlements}
 
 -- the line moved, and settled these tickets
@@ -33,6 +34,20 @@ pub record TakesFront {T : Type 0} (old : Line T) (m : T) (settled : List (ℕ �
 -- an open line stays as it was
 abbrev pub Stays : {T : Type 0} → Line T → Line T → Type 0
 Stays old new = (old.receivers ≢ 0) × (new ≡ old)
+
+-- an offer would be answered `Full`
+abbrev pub IsFull : {T : Type 0} → Line T → Type 0
+IsFull old = (old.receivers ≢ 0) × (has_place old ≡ false)
+
+-- a take would be answered `Empty`
+abbrev pub IsEmpty : {T : Type 0} → Line T → Type 0
+IsEmpty old = (old.receivers ≢ 0) × (old.senders ≢ 0) × (old.line ≡ [])
+
+-- a ticket was withdrawn: its entry or its demand leaves, with its message if it has one
+abbrev pub Withdraws : {T : Type 0} → Line T → Ticket → Option (Option T) → Line T → Type 0
+Withdraws old t None new = (found t.number old.line ≡ []) × (has t.number old.demands ≡ false) × (new ≡ old)
+Withdraws old t (Some (Some m)) new = (found t.number old.line ≡ m ∷ []) × (new ≡ without_entry old t.number)
+Withdraws old t (Some None) new = (found t.number old.line ≡ []) × (has t.number old.demands ≡ true) × (new ≡ without_demand old t.number)
 
 module _ {T W : Type 0} where
   -- a message was offered

@@ -1,5 +1,5 @@
 -- What a contract sees of a channel's core, and the line that it stands for.
-use Rattle.std.specs.Prelude.{◌≡◌, ℕ, List, [], ◌∷◌, ◌++◌, map, Option, Some, None}
+use Rattle.std.specs.Prelude.{ℕ, List, [], ◌∷◌, ◌++◌, map, Option, Some, None}
 use Rattle.std.specs.List.{filter_map}
 use Rattle.std.specs.Option.{option_map}
 use Rattle.kanal_core.specs.declared.internal.outcome.Reason.{Reason}
@@ -47,6 +47,10 @@ module _ {T W : Type 0} where
   -- a new channel
   abbrev pub opening : Option ℕ → Channel T W
   opening capacity = record { buffer = []; waiters = []; capacity = capacity; senders = 1; receivers = 1; next = 0 }
+
+  -- a channel with these numbers, in which nothing is and nobody waits
+  abbrev pub starting : Option ℕ → ℕ → ℕ → ℕ → Channel T W
+  starting capacity first senders receivers = record { buffer = []; waiters = []; capacity = capacity; senders = senders; receivers = receivers; next = first }
 
   -- a channel that was closed
   abbrev pub closed : Channel T W → Channel T W

@@ -1,10 +1,8 @@
 -- The fields of the core and of its rooms, read as what contracts see.
-use Rattle.std.specs.Prelude.{◌≡◌, ℕ, ◌<◌, ◌≤◌, List, [], length, map, Option, Some, None}
-use Rattle.std.specs.VecDeque.{deque_capacity}
-use Rattle.std.specs.declared.collections.VecDeque.{VecDeque}
+use Rattle.std.specs.Prelude.{◌≡◌, ℕ, ◌<◌, ◌≤◌, length, Option, Some, None}
 use Rattle.kanal_core.specs.Line.{IsWithin}
-use Rattle.kanal_core.specs.Rooms.{Room}
-use Rattle.kanal_core.specs.Channel.{Channel, ended_by}
+use Rattle.kanal_core.specs.Sided.{IsOneSided, Rises}
+use Rattle.kanal_core.specs.Channel.{Channel}
 use Rattle.kanal_core.specs.declared.internal.ChannelInternal.TheInside.{Inside}
 
 -- the room of a limit is there
@@ -25,8 +23,9 @@ module _ {T W : Type 0} where
         next = c.next;
       }
 
-  -- nobody waits, the buffer is within the capacity, and while there is a receiver it has the capacity's room
+  -- one side waits at most, under rising numbers; the buffer is within the capacity, and has its room while there is a receiver
   pub record IsSound (c : Inside T W) : Type 0 where
-    pub nobody : c.waiters ≡ []
+    pub side : IsOneSided c.buffer.messages c.capacity c.waiters
+    pub rises : Rises 0 c.waiters c.next
     pub within : IsWithin (length c.buffer.messages) c.capacity
     pub room : 0 < c.receivers → c.buffer.limit ≡ c.capacity

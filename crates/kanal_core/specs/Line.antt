@@ -1,6 +1,6 @@
 -- A channel as one line of messages and a list of demands.
-use Rattle.std.specs.Prelude.{ℕ, ◌≤◌, nat_lt, Bool, true, false, cond, List, [], ◌∷◌, length, map, take, drop, Option, Some, None}
-use Rattle.std.specs.List.{filter_map}
+use Rattle.std.specs.Prelude.{ℕ, ◌≤◌, ◌==◌, nat_lt, filter, Bool, true, false, cond, List, [], ◌∷◌, length, map, take, drop, Option, Some, None}
+use Rattle.std.specs.List.{filter_map, list_any}
 
 -- a message in the line, with the ticket of the send that waits with it
 pub record Entry (T : Type 0) : Type 0 where
@@ -15,6 +15,10 @@ pub record Line (T : Type 0) : Type 0 where
   pub senders : ℕ
   pub receivers : ℕ
   pub next : ℕ
+
+-- the largest word, which is no ticket's number
+abbrev pub last_word : ℕ
+last_word = 18446744073709551615
 
 -- n is below the capacity
 abbrev pub is_below : ℕ → Option ℕ → Bool
@@ -42,6 +46,15 @@ module _ {X : Type 0} where
   is_empty [] = true
   is_empty (x ∷ xs) = false
 
+-- the number is in the list
+abbrev pub has : ℕ → List ℕ → Bool
+has t ts = list_any (λ u. u == t) ts
+
+-- the ticket may be there, and has this number
+abbrev pub is_ticket : ℕ → Option ℕ → Bool
+is_ticket t None = false
+is_ticket t (Some u) = u == t
+
 module _ {T : Type 0} where
   -- an entry that waits for nothing
   abbrev pub bare : T → Entry T
@@ -58,6 +71,14 @@ module _ {T : Type 0} where
   -- the tickets that wait in the line, in order
   abbrev pub tickets : List (Entry T) → List ℕ
   tickets line = filter_map (λ e. e.ticket) line
+
+  -- the entry waits with ticket t
+  abbrev pub holds_ticket : ℕ → Entry T → Bool
+  holds_ticket t e = is_ticket t e.ticket
+
+  -- the messages of the entries that wait with ticket t
+  abbrev pub found : ℕ → List (Entry T) → List T
+  found t line = messages (filter (holds_ticket t) line)
 
   -- a message may enter: a demand waits, or the line is shorter than the capacity
   abbrev pub has_place : Line T → Bool

@@ -1,12 +1,12 @@
 -- How the line moves: what enters, what is served, what leaves and what ends.
-use Rattle.std.specs.Prelude.{◌≡◌, ℕ, List, [], ◌∷◌, ◌++◌, map, Option, Some, None}
+use Rattle.std.specs.Prelude.{ℕ, ◌+◌, ◌-◌, ◌==◌, cond, not, filter, List, [], ◌∷◌, ◌++◌, map, Option, Some, None}
 use Rattle.std.specs.List.{filter_map}
 use Rattle.std.specs.Option.{option_map}
 use Rattle.kanal_core.specs.declared.internal.outcome.Reason.{Reason}
-use Rattle.kanal_core.specs.declared.internal.outcome.Reason.TheVariants.{Closed as ByClose}
+use Rattle.kanal_core.specs.declared.internal.outcome.Reason.TheVariants.{Closed as ByClose, SendClosed, ReceiveClosed}
 use Rattle.kanal_core.specs.declared.internal.outcome.Outcome.{Outcome}
 use Rattle.kanal_core.specs.declared.internal.outcome.Outcome.TheVariants.{Taken, Given, Ended}
-use Rattle.kanal_core.specs.Line.{Entry, Line, under, over, bare, messages, tickets}
+use Rattle.kanal_core.specs.Line.{Entry, Line, under, over, bare, waiting, messages, tickets, holds_ticket}
 
 -- a move: the line after it, and the tickets that it settled, oldest first
 pub record Moved (T : Type 0) : Type 0 where
@@ -41,6 +41,22 @@ module _ {T : Type 0} where
   abbrev pub leave : Line T → List (Entry T) → List (Entry T) → Moved T
   leave old gone rest = record { line = record old { line = seated old.capacity rest }; settled = taken (gone ++ under old.capacity rest) }
 
+  -- Waiting: a send joins the line's end with the next ticket,
+  abbrev pub wait_send : Line T → T → Line T
+  wait_send old m = record old { line = old.line ++ waiting m old.next ∷ []; next = old.next + 1 }
+
+  -- and a receive joins the demands' end.
+  abbrev pub wait_recv : Line T → Line T
+  wait_recv old = record old { demands = old.demands ++ old.next ∷ []; next = old.next + 1 }
+
+  -- Withdrawing: the entry that waits with the ticket leaves,
+  abbrev pub without_entry : Line T → ℕ → Line T
+  without_entry old t = record old { line = filter (λ e. not (holds_ticket t e)) old.line }
+
+  -- or the demand with the ticket.
+  abbrev pub without_demand : Line T → ℕ → Line T
+  without_demand old t = record old { demands = filter (λ u. not (u == t)) old.demands }
+
   -- the end of a send that waits, with its message
   abbrev pub ended_entry : Reason → Entry T → Option (ℕ × Outcome T)
   ended_entry reason e = option_map (λ t. (t, Ended reason (Some e.message))) e.ticket
@@ -48,6 +64,19 @@ module _ {T : Type 0} where
   -- Ending: each ticket that waits ends, with its message if it has one.
   abbrev pub ended : Reason → Line T → List (ℕ × Outcome T)
   ended reason old = filter_map (ended_entry reason) old.line ++ map (λ t. (t, Ended reason None)) old.demands
+
+  -- all that waits ends, and the places below the capacity stay
+  abbrev pub end_all : Line T → Reason → Moved T
+  end_all old reason = record { line = record old { line = under old.capacity old.line; demands = [] }; settled = ended reason old }
+
+  -- Dropping: a count that is not 0 falls by one, and the last of a side ends all that waits.
+  abbrev pub drop_sender : Line T → Moved T
+  drop_sender old =
+      cond (old.senders == 1) (end_all (record old { senders = 0 }) SendClosed) (quiet (record old { senders = old.senders - 1 }))
+
+  abbrev pub drop_receiver : Line T → Moved T
+  drop_receiver old =
+      cond (old.receivers == 1) (end_all (record old { receivers = 0 }) ReceiveClosed) (quiet (record old { receivers = old.receivers - 1 }))
 
   -- Closing: all that waits ends, and nothing is left.
   abbrev pub close : Line T → Moved T

@@ -7,13 +7,18 @@
 //!
 //! Stands on its two rooms, `buffer` and `wait_list`, which nothing else may use. Whoever shares a
 //! core puts it behind a lock, and settles or drops what a call hands out only after the release.
-ghost use Rattle.std.specs.Prelude.{◌≡◌, ◌<◌, ◌↔◌, [], length, map, MatchResult, IfOk, IfErr, IsErr, IsErrOf, Some, None};
-ghost use Rattle.kanal_core.specs.Line.{buffered, messages};
-ghost use Rattle.kanal_core.specs.Moves.{close, cleared};
-ghost use Rattle.kanal_core.specs.Channel.{line_of, opening, closed, ended_by, settlement};
-ghost use Rattle.kanal_core.specs.Calls.{Offers, Takes, MovesTo, OldestLeft, handed, let_in};
+ghost use Rattle.std.specs.Prelude.{◌≡◌, ◌≢◌, ◌⊎◌, ◌+◌, ◌<◌, ◌≤◌, ℕ, false, ◌↔◌, [], ◌∷◌, ◌++◌, true, length, map, MatchResult, IfOk, IfErr, IsErr, IsErrOf, Some, None};
+ghost use Rattle.std.specs.Borrow.{sem};
+ghost use Rattle.std.specs.Fn.{FnReturnsAt};
+ghost use Rattle.std.specs.Option.{option_copied_mut, option_map};
+ghost use Rattle.kanal_core.specs.Line.{IsWithin, bare, buffered, found, has, messages};
+ghost use Rattle.kanal_core.specs.Moves.{close, cleared, wait_send, wait_recv};
+ghost use Rattle.kanal_core.specs.Channel.{line_of, opening, starting, closed, ended_by, settlement};
+ghost use Rattle.kanal_core.specs.Waiters.{waiter_of, without, IsFirstWhere, receiver_first, sender_first};
+ghost use Rattle.kanal_core.specs.Calls.{Offers, Takes, Withdraws, MovesTo, OldestLeft, IsFull, IsEmpty, handed, let_in};
+ghost use Rattle.kanal_core.specs.Handing.{HandsOver, TakesSender, LetsIn, HasOnePlace};
 
-use crate::error::{CloseError, NewError};
+use crate::error::{CloseError, NewError, WaitError};
 use std::alloc::Global;
 use std::marker::Model;
 use std::mem;
@@ -23,11 +28,47 @@ mod leaving;
 mod outcome;
 mod wait_list;
 
-pub use leaving::{Cleared, Closing, Ended};
-pub use outcome::{Offer, Outcome, Reason, Settled, Take, Ticket, Waiter};
-
 use buffer::Buffer;
+pub use leaving::{Cleared, Closing, Ended, Left};
+pub use outcome::{Offer, Outcome, Reason, Settled, Take, Ticket, Waiter};
 use wait_list::WaitList;
+
+/// Gives the message to the oldest waiting receiver.
+fn hand_over<T, W>(waiters: &mut WaitList<T, W>, message: T) -> Settled<T, W>
+    requires one { receiver_first waiters.old ≡ true }
+    ensures { HandsOver waiters.old message result waiters.new }
+{
+    match waiters.pop_front() {
+        None => unreachable!(),
+        Some(waiter) => waiter.given(message),
+    }
+}
+
+/// Takes the oldest waiting sender's message.
+fn pop_sender<T, W>(waiters: &mut WaitList<T, W>) -> (T, Settled<T, W>)
+    requires one { sender_first waiters.old ≡ true }
+    ensures { TakesSender waiters.old result.0 result.1 waiters.new }
+{
+    match waiters.pop_front() {
+        None => unreachable!(),
+        Some(waiter) => waiter.taken(),
+    }
+}
+
+/// Moves the oldest waiting sender's message to the buffer's back, where it has a place.
+fn let_in<T, W>(buffer: &mut Buffer<T>, waiters: &mut WaitList<T, W>) -> Option<Settled<T, W>>
+    requires { sender_first waiters.old ≡ true → HasOnePlace buffer.old }
+    ensures { LetsIn buffer.old waiters.old result buffer.new waiters.new }
+{
+    if !waiters.sender_first() {
+        return None;
+    }
+    let (message, settled) = pop_sender(waiters);
+    match buffer.push_back(message) {
+        Ok(()) => Some(settled),
+        Err(_back) => unreachable!(),
+    }
+}
 
 /// The core of a channel whose messages are `T`; whoever waits brings a `W`.
 #[derive(Drop)]
@@ -54,12 +95,21 @@ impl<T, W> Model for ChannelInternal<T, W> {
 }
 
 impl<T, W> ChannelInternal<T, W> {
+    ghost use Rattle.kanal_core.specs.CoreLends.{lends_w};
+    ghost use Rattle.kanal_core.specs.declared.internal.outcome.Waiter.{Waiter};
+
     /// An empty channel with this capacity, one sender and one receiver.
     ///
     /// The buffer's memory is asked for here, so that no later entering is refused for memory.
     ///
     /// # Errors
     /// `TooLarge` exactly for `usize::MAX`, and `NoMemory` where there is no memory for the buffer.
+    ///
+    /// # Examples
+    /// ```text
+    /// let core: ChannelInternal<u64, ()> = ChannelInternal::new(alloc, 2)?;
+    /// core.offer(7)   answers  Entered
+    /// ```
     pub fn new(alloc: Global, capacity: usize) -> Result<Self, NewError>
         ensures new { IfOk result (λ c. c ≡ opening (Some capacity)) }
         ensures large { IsErrOf result NewError.TooLarge ↔ (capacity ≡ 18446744073709551615) }
@@ -76,10 +126,49 @@ impl<T, W> ChannelInternal<T, W> {
     /// An empty channel without limit, with one sender and one receiver.
     ///
     /// It asks for no memory; its buffer grows as messages enter.
+    ///
+    /// # Examples
+    /// ```text
+    /// let core: ChannelInternal<u64, ()> = ChannelInternal::unbounded(alloc);
+    /// core.offer(7)   answers  Entered, or NoMemory(7)
+    /// ```
     pub fn unbounded(alloc: Global) -> Self
         ensures { result ≡ opening None }
     {
         ChannelInternal::empty(alloc, Buffer::unbounded(alloc), None)
+    }
+
+    /// An empty channel with these numbers: a capacity or none, the first ticket's number, and the
+    /// counts of both sides.
+    ///
+    /// It is there to try a channel at the edges of its numbers.
+    ///
+    /// # Errors
+    /// As `new`.
+    ///
+    /// # Examples
+    /// ```text
+    /// ChannelInternal::starting_at(alloc, Some(0), u64::MAX, 1, 1)?
+    ///     a channel whose tickets are used up: the next wait is refused with TooMany
+    /// ```
+    pub fn starting_at(
+        alloc: Global,
+        capacity: Option<usize>,
+        first_ticket: u64,
+        senders: u32,
+        receivers: u32,
+    ) -> Result<Self, NewError>
+        ensures new { IfOk result (λ c. c ≡ starting capacity first_ticket senders receivers) }
+        ensures large { IsErrOf result NewError.TooLarge ↔ (capacity ≡ Some 18446744073709551615) }
+    {
+        let mut core = match capacity {
+            None => ChannelInternal::unbounded(alloc),
+            Some(limit) => ChannelInternal::new(alloc, limit)?,
+        };
+        core.next = first_ticket;
+        core.senders = senders;
+        core.receivers = receivers;
+        Ok(core)
     }
 
     /// A channel over this empty buffer.
@@ -103,9 +192,17 @@ impl<T, W> ChannelInternal<T, W> {
     /// `Full` is a bounded channel at its capacity; `ReceiveClosed` comes where no receiver is left,
     /// and `Closed` where no sender is left either. `NoMemory` comes only without a limit. Each of
     /// these gives the message back and changes nothing.
+    ///
+    /// # Examples
+    /// ```text
+    /// let mut core = ChannelInternal::new(alloc, 1)?;
+    /// core.offer(1)   answers  Entered
+    /// core.offer(2)   answers  Full(2)
+    /// ```
     pub fn offer(&mut self, message: T) -> Offer<T, W>
         ensures step { Offers (line_of self.old) message result (line_of self.new) }
         ensures waiter { OldestLeft self.old.waiters (handed result) self.new.waiters }
+        ensures ticket { self.new.next ≡ self.old.next }
     {
         if self.receivers == 0 {
             return if self.senders == 0 {
@@ -113,6 +210,9 @@ impl<T, W> ChannelInternal<T, W> {
             } else {
                 Offer::ReceiveClosed(message)
             };
+        }
+        if self.waiters.receiver_first() {
+            return Offer::Handed(hand_over(&mut self.waiters, message));
         }
         if !self.buffer.has_place() {
             return Offer::Full(message);
@@ -127,22 +227,42 @@ impl<T, W> ChannelInternal<T, W> {
     ///
     /// `Closed` comes where no receiver is left, `SendClosed` where there is no message and no
     /// sender is left, and `Empty` where there is only no message. None of them changes anything.
+    ///
+    /// # Examples
+    /// ```text
+    /// core.take()   answers  Got(1, None)   where 1 was in the buffer and nobody waits
+    /// core.take()   answers  Empty          after that
+    /// ```
     pub fn take(&mut self) -> Take<T, W>
         ensures step { Takes (line_of self.old) result (line_of self.new) }
         ensures waiter { OldestLeft self.old.waiters (let_in result) self.new.waiters }
+        ensures ticket { self.new.next ≡ self.old.next }
     {
         if self.receivers == 0 {
             return Take::Closed;
         }
         match self.buffer.pop_front() {
-            Some(message) => Take::Got(message, None),
-            None => {
-                if self.senders == 0 {
-                    Take::SendClosed
-                } else {
-                    Take::Empty
-                }
-            },
+            Some(message) => Take::Got(message, let_in(&mut self.buffer, &mut self.waiters)),
+            None => self.take_waiting(),
+        }
+    }
+
+    /// Takes the oldest waiting sender's message, where the buffer is empty.
+    fn take_waiting(&mut self) -> Take<T, W>
+        requires open { self.old.receivers ≢ 0 }
+        requires empty { self.old.buffer ≡ [] }
+        ensures step { Takes (line_of self.old) result (line_of self.new) }
+        ensures waiter { OldestLeft self.old.waiters (let_in result) self.new.waiters }
+        ensures ticket { self.new.next ≡ self.old.next }
+    {
+        if self.waiters.sender_first() {
+            let (message, settled) = pop_sender(&mut self.waiters);
+            return Take::Got(message, Some(settled));
+        }
+        if self.senders == 0 {
+            Take::SendClosed
+        } else {
+            Take::Empty
         }
     }
 
@@ -150,6 +270,13 @@ impl<T, W> ChannelInternal<T, W> {
     ///
     /// # Errors
     /// `CloseError` where both sides were gone already, and nothing changes.
+    ///
+    /// # Examples
+    /// ```text
+    /// let mut closing = core.close()?;
+    /// closing.cleared.next()   answers  the buffer's front, and so on
+    /// closing.ended.next()     answers  the oldest wait, as Ended(Closed, its message), and so on
+    /// ```
     pub fn close(&mut self) -> Result<Closing<T, W>, CloseError>
         ensures step { IfOk result (λ c. MovesTo (close (line_of self.old)) (map settlement c.ended) (line_of self.new)) }
         ensures cleared { IfOk result (λ c. c.cleared ≡ cleared (line_of self.old)) }
@@ -171,20 +298,167 @@ impl<T, W> ChannelInternal<T, W> {
         })
     }
 
+    /// Starts a wait of a sender, whose message joins the line's end under the next ticket.
+    ///
+    /// The caller knows that an offer would be answered `Full`.
+    ///
+    /// # Errors
+    /// `TooMany` exactly where the tickets are used up, and otherwise `NoMemory` where there is no
+    /// memory for the entry. Message and W come back, and nothing changes.
+    ///
+    /// # Examples
+    /// ```text
+    /// if let Offer::Full(back) = core.offer(message) {
+    ///     let ticket = core.wait_send(back, w)?;   the message now waits behind the buffer
+    /// }
+    /// ```
+    pub fn wait_send(&mut self, message: T, w: W) -> Result<Ticket, (WaitError, T, W)>
+        requires full { IsFull (line_of self.old) }
+        ensures step { IfOk result (λ _. line_of self.new ≡ wait_send (line_of self.old) message) }
+        ensures waits { IfOk result (λ ticket. (ticket.number ≡ self.old.next) × (self.new.waiters ≡ self.old.waiters ++ record { ticket = ticket; message = Some message; w = w } ∷ [])) }
+        ensures refused { IfErr result (λ back. (back.1 ≡ message) × (back.2 ≡ w) × (self.new ≡ self.old)) }
+        ensures reason { IfErr result (λ back. back.0 ≡ WaitError.TooMany ↔ (self.old.next ≡ 18446744073709551615)) }
+        ensures last { self.old.next ≡ 18446744073709551615 → IsErr result }
+    {
+        if self.next == u64::MAX {
+            return Err((WaitError::TooMany, message, w));
+        }
+        match self.waiters.push_back(self.next, Some(message), w) {
+            Ok(ticket) => {
+                self.next += 1;
+                Ok(ticket)
+            },
+            Err((message, w)) => match message {
+                Some(message) => Err((WaitError::NoMemory, message, w)),
+                None => unreachable!(),
+            },
+        }
+    }
+
+    /// Starts a wait of a receiver under the next ticket.
+    ///
+    /// The caller knows that a take would be answered `Empty`.
+    ///
+    /// # Errors
+    /// `TooMany` exactly where the tickets are used up, and otherwise `NoMemory` where there is no
+    /// memory for the entry. W comes back, and nothing changes.
+    ///
+    /// # Examples
+    /// ```text
+    /// if let Take::Empty = core.take() {
+    ///     let ticket = core.wait_recv(w)?;   the next message offered is handed to it
+    /// }
+    /// ```
+    pub fn wait_recv(&mut self, w: W) -> Result<Ticket, (WaitError, W)>
+        requires empty { IsEmpty (line_of self.old) }
+        ensures step { IfOk result (λ _. line_of self.new ≡ wait_recv (line_of self.old)) }
+        ensures waits { IfOk result (λ ticket. (ticket.number ≡ self.old.next) × (self.new.waiters ≡ self.old.waiters ++ record { ticket = ticket; message = None; w = w } ∷ [])) }
+        ensures refused { IfErr result (λ back. (back.1 ≡ w) × (self.new ≡ self.old)) }
+        ensures reason { IfErr result (λ back. back.0 ≡ WaitError.TooMany ↔ (self.old.next ≡ 18446744073709551615)) }
+        ensures last { self.old.next ≡ 18446744073709551615 → IsErr result }
+    {
+        if self.next == u64::MAX {
+            return Err((WaitError::TooMany, w));
+        }
+        match self.waiters.push_back(self.next, None, w) {
+            Ok(ticket) => {
+                self.next += 1;
+                Ok(ticket)
+            },
+            Err((message, w)) => match message {
+                None => Err((WaitError::NoMemory, w)),
+                Some(_message) => unreachable!(),
+            },
+        }
+    }
+
+    /// Takes the waiter with the ticket out of the list; `None` if it does not wait here.
+    ///
+    /// # Examples
+    /// ```text
+    /// core.withdraw(ticket)   answers  Some(waiter)   with the message, if it is a sender's
+    /// core.withdraw(ticket)   answers  None           after that
+    /// ```
+    pub fn withdraw(&mut self, ticket: Ticket) -> Option<Waiter<T, W>>
+        ensures step { Withdraws (line_of self.old) ticket (option_map (λ (w : Waiter T W). w.message) result) (line_of self.new) }
+        ensures waiter { result ≡ waiter_of ticket self.old.waiters }
+        ensures others { self.new.waiters ≡ without ticket self.old.waiters }
+        ensures ticket { self.new.next ≡ self.old.next }
+    {
+        self.waiters.remove(ticket)
+    }
+
+    /// Lends what the waiter with the ticket brought; `None` if it does not wait here.
+    ///
+    /// What is written through the loan is all that changes.
+    ///
+    /// # Examples
+    /// ```text
+    /// if let Some(w) = core.waiting(ticket) {
+    ///     *w = another;
+    /// }
+    /// ```
+    pub fn waiting(&mut self, ticket: Ticket) -> Option<&mut W>
+        ensures* writes_back { sem 𝓛 (lends_w T.row W.row self.entry ticket result) }
+        ensures value { option_copied_mut result ≡ option_map (λ (w : Waiter T W). w.w) (waiter_of ticket self.old.waiters) }
+    {
+        let waiters = &mut self.waiters;
+        waiters.waiting(ticket)
+    }
+
+    /// The ticket of the oldest waiter whose W passes the test.
+    ///
+    /// # Examples
+    /// ```text
+    /// core.first_waiter(|w| w.has_left())   answers  the ticket of the oldest that has left, or None
+    /// ```
+    pub fn first_waiter<F: Fn(&W) -> bool + Drop>(&self, test: F) -> Option<Ticket>
+        requires { F.IsAlwaysCallable test }
+        ensures { IsFirstWhere (FnReturnsAt F.Fn test) self.now.waiters result }
+    {
+        self.waiters.first_waiter(test)
+    }
+
+    /// What holds of every channel, for a caller's proof; it does nothing when it runs.
+    ///
+    /// Messages and demands are never there together, the buffer never holds more than the
+    /// capacity, a sender waits only while the buffer is full, and no ticket waits that was not
+    /// given.
+    pub fn holds(&self)
+        ensures one_side { ((line_of self.now).line ≡ []) ⊎ ((line_of self.now).demands ≡ []) }
+        ensures bound { IsWithin (length self.now.buffer) self.now.capacity }
+        ensures full { ((line_of self.now).line ≡ map bare self.now.buffer) ⊎ (self.now.capacity ≡ Some (length self.now.buffer)) }
+        ensures given { (t : ℕ) → self.now.next ≤ t → (found t (line_of self.now).line ≡ []) × (has t (line_of self.now).demands ≡ false) }
+    {
+        let _ = &self.next;
+    }
+
     /// How many messages are in the buffer.
+    ///
+    /// # Examples
+    /// ```text
+    /// core.len()   answers  1   after one message entered a bounded channel for two
+    /// ```
     pub fn len(&self) -> usize
         ensures { result ≡ buffered (line_of self.now) }
     {
         self.buffer.len()
     }
 
-    /// Ends the channel's life and hands out what is still in its line: the buffer, front first.
-    pub fn into_messages(self) -> Cleared<T>
+    /// Ends the channel's life and hands out what is still in its line: the buffer, front first, and
+    /// then the waiting senders' messages.
+    ///
+    /// # Examples
+    /// ```text
+    /// let mut left = core.into_messages();
+    /// left.next()   answers  the front of the line, and so on
+    /// ```
+    pub fn into_messages(self) -> Left<T, W>
     where
         T: Drop,
         W: Drop,
         ensures { result ≡ messages (line_of self).line }
     {
-        Cleared::new(self.buffer)
+        Left::new(self.buffer, self.waiters)
     }
 }

@@ -1,45 +1,77 @@
--- What holds along a list of events holds at each cut of it.
-use Rattle.std.proofs.Common.{◌≡◌, ℕ, ◌+◌, ◌≤◌, zero, suc, List, [], ◌∷◌, ◌++◌, length, take, drop, map, Option, Some, None, refl, sym, ap, ◌∙◌, subst, arith, length-append, append_assoc, add-zero}
-use Rattle.std.proofs.lemmas.List.{take_all, take-take}
-use Rattle.std.proofs.Math.ListN.{length-map}
-use Rattle.std.proofs.Math.Seq.{take-append_seam, drop-append_seam}
+-- A cut of a run is a run, and what the report says of the first steps is what that run tells.
+use Rattle.std.proofs.Common.{◌≡◌, ℕ, ◌≤◌, ◌<◌, suc, ltb, List, [], ◌∷◌, ◌++◌, length, filter, refl, sym, ap, ◌∙◌, arith, length-append, append-nil, append_assoc}
+use Rattle.std.proofs.lemmas.Bool.{lt-ltb, le-ltb}
+use Rattle.std.proofs.lemmas.List.Elements.{filter-append}
 use Rattle.kanal_journal.specs.declared.journal.event.Event.{Event}
-use Rattle.kanal_journal.specs.declared.journal.event.Reply.{Reply}
-use Rattle.kanal_journal.specs.declared.journal.event.Report.{Report}
-use Rattle.kanal_journal.specs.Runs.{Account, Leads, opening, account}
-use Rattle.kanal_journal.specs.Paired.{History, Demand, AtOnce, Paired, kept, receipts, demands, rest, until, history}
-use Rattle.kanal_journal.proofs.Plain.{kept-plain, demands-plain, receipts-plain}
-use Rattle.kanal_journal.proofs.Keeping.{paired_line}
-use Rattle.kanal_journal.proofs.Holding.{Holds, holds-opening, holds-along}
+use Rattle.kanal_core.specs.declared.internal.outcome.Outcome.{Outcome}
+use Rattle.kanal_journal.specs.declared.journal.event.Settlement.{Settlement}
+use Rattle.kanal_journal.specs.Runs.{Account, Leads, numbered}
 
 module _ {T : Type 0} where
-  -- the replies so far are the first of all
-  replies-grow : (a b : Account T) (events : List (Event T)) → Leads a events b → take (length a.replies) b.replies ≡ a.replies
-  replies-grow a b [] l = rw l (take_all (length a.replies) a.replies (omega arith))
-  replies-grow a b (e ∷ es) l =
-      let is : l.0.replies ≡ a.replies ++ l.1.0.reply ∷ [] = ap (λ x. x.replies) l.1.2 in
-      let long : length a.replies ≤ length l.0.replies = omega (arith, ap length is, length-append a.replies (l.1.0.reply ∷ [])) in
-      sym (take-take (length a.replies) (length l.0.replies) b.replies long) ∙ rw (replies-grow l.0 b es l.2, is) (take-append_seam a.replies (l.1.0.reply ∷ []))
+  abbrev pub AllBefore : ℕ → List (Settlement T) → Type 0
+  AllBefore n [] = Unit {0}
+  AllBefore n (s ∷ ss) = (s.step < n) × AllBefore n ss
 
-  -- the first n events lead to an account of their own
-  pub cut : (a b : Account T) (events : List (Event T)) → Leads a events b → (n : ℕ) → (mid : Account T) × Leads a (take n events) mid × (mid.replies ≡ take (length a.replies + n) b.replies)
-  cut a b events l zero = (a, refl, rw add-zero (sym (replies-grow a b events l)))
-  cut a b [] l (suc n) = (a, refl, rw l (sym (take_all (length a.replies + suc n) a.replies (omega arith))))
-  cut a b (e ∷ es) l (suc n) =
-      let m = cut l.0 b es l.2 n in
-      let is : l.0.replies ≡ a.replies ++ l.1.0.reply ∷ [] = ap (λ x. x.replies) l.1.2 in
-      let long : length l.0.replies + n ≡ length a.replies + suc n = omega (arith, ap length is, length-append a.replies (l.1.0.reply ∷ [])) in
-      (m.0, (l.0, l.1, m.1), m.2 ∙ ap (λ k. take k b.replies) long)
+  abbrev pub AllFrom : ℕ → List (Settlement T) → Type 0
+  AllFrom n [] = Unit {0}
+  AllFrom n (s ∷ ss) = (n ≤ s.step) × AllFrom n ss
 
-  -- a history of these events and replies is paired, whatever it says of settlements
-  pub paired : (c : Option ℕ) (h : History T) (a : Account T) → Holds c h.events a → h.replies ≡ a.replies → Paired h
-  paired c h a holds same = rw (receipts-plain h, kept-plain h, same, holds.got_is, holds.kept_is) (paired_line holds.served holds.ms)
+  before_more : (n k : ℕ) (ss : List (Settlement T)) → n ≤ k → AllBefore n ss → AllBefore k ss
+  before_more n k [] h a = tt
+  before_more n k (s ∷ ss) h a = (let x = a.0 in omega arith, before_more n k ss h a.1)
 
-  pub paired-at : (c : Option ℕ) (h : History T) (b : Account T) → Leads (opening c) h.events b → h.replies ≡ b.replies → (n : ℕ) → Paired (until n h)
-  paired-at c h b l same n =
-      let m = cut (opening c) b h.events l n in
-      let zero-plus : 0 + n ≡ n = omega arith in
-      paired c (until n h) m.0 (holds-along c [] (opening c) m.0 (take n h.events) (holds-opening c) m.1) (ap (take n) same ∙ (ap (λ k. take k b.replies) (sym zero-plus) ∙ sym m.2))
+  from_less : (n k : ℕ) (ss : List (Settlement T)) → k ≤ n → AllFrom n ss → AllFrom k ss
+  from_less n k [] h a = tt
+  from_less n k (s ∷ ss) h a = (let x = a.0 in omega arith, from_less n k ss h a.1)
 
-  pub rest-left : (c : Option ℕ) (h : History T) (b : Account T) (holds : Holds c h.events b) → h.replies ≡ b.replies → holds.ms ≡ rest h
-  rest-left c h b holds same = rw (demands-plain h, kept-plain h, same, holds.got_is, holds.kept_is, length-map) (sym (drop-append_seam holds.served holds.ms))
+  before-append : (n : ℕ) (xs ys : List (Settlement T)) → AllBefore n xs → AllBefore n ys → AllBefore n (xs ++ ys)
+  before-append n [] ys a b = b
+  before-append n (x ∷ xs) ys a b = (a.0, before-append n xs ys a.1 b)
+
+  from-append : (n : ℕ) (xs ys : List (Settlement T)) → AllFrom n xs → AllFrom n ys → AllFrom n (xs ++ ys)
+  from-append n [] ys a b = b
+  from-append n (x ∷ xs) ys a b = (a.0, from-append n xs ys a.1 b)
+
+  numbered_before : (n : ℕ) (ss : List (ℕ × Outcome T)) → AllBefore (suc n) (numbered n ss)
+  numbered_before n [] = tt
+  numbered_before n (s ∷ ss) = (omega arith, numbered_before n ss)
+
+  numbered_from : (n : ℕ) (ss : List (ℕ × Outcome T)) → AllFrom n (numbered n ss)
+  numbered_from n [] = tt
+  numbered_from n (s ∷ ss) = (omega arith, numbered_from n ss)
+
+  filter_before : (n : ℕ) (xs : List (Settlement T)) → AllBefore n xs → filter (λ s. ltb s.step n) xs ≡ xs
+  filter_before n [] a = refl
+  filter_before n (x ∷ xs) a = rw (lt-ltb x.step n a.0) (ap (λ ys. x ∷ ys) (filter_before n xs a.1))
+
+  filter_from : (n : ℕ) (xs : List (Settlement T)) → AllFrom n xs → filter (λ s. ltb s.step n) xs ≡ []
+  filter_from n [] a = refl
+  filter_from n (x ∷ xs) a = rw (le-ltb x.step n a.0) (filter_from n xs a.1)
+
+  -- what comes later is added at the ends
+  pub record Grows (a b : Account T) : Type 0 where
+    pub settled : List (Settlement T)
+    pub settled_is : b.settled ≡ a.settled ++ settled
+    pub from : AllFrom (length a.replies) settled
+    pub drained : List T
+    pub drained_is : b.drained ≡ a.drained ++ drained
+
+  pub grows : (a b : Account T) (events : List (Event T)) → Leads a events b → Grows a b
+  grows a b [] l = record { settled = []; settled_is = ap (λ x. x.settled) l ∙ sym (append-nil a.settled); from = tt; drained = []; drained_is = ap (λ x. x.drained) l ∙ sym (append-nil a.drained) }
+  grows a b (e ∷ es) l =
+      let rec = grows l.0 b es l.2 in
+      let told = l.1.0 in
+      let long : length a.replies ≤ length l.0.replies = omega (arith, ap (λ x. length x.replies) l.1.2, length-append a.replies (told.reply ∷ [])) in
+      record {
+        settled = numbered (length a.replies) told.settled ++ rec.settled;
+        settled_is = rec.settled_is ∙ (ap (λ x. x.settled ++ rec.settled) l.1.2 ∙ append_assoc a.settled (numbered (length a.replies) told.settled) rec.settled);
+        from = from-append (length a.replies) (numbered (length a.replies) told.settled) rec.settled (numbered_from (length a.replies) told.settled) (from_less (length l.0.replies) (length a.replies) rec.settled long rec.from);
+        drained = told.drained ++ rec.drained;
+        drained_is = rec.drained_is ∙ (ap (λ x. x.drained ++ rec.drained) l.1.2 ∙ append_assoc a.drained told.drained rec.drained);
+      }
+
+  -- the settlements of the steps so far are those with a smaller number
+  pub settled_before : (a b : Account T) (events : List (Event T)) → Leads a events b → AllBefore (length a.replies) a.settled → filter (λ s. ltb s.step (length a.replies)) b.settled ≡ a.settled
+  settled_before a b events l h =
+      let g = grows a b events l in
+      rw (g.settled_is, filter-append, filter_before (length a.replies) a.settled h, filter_from (length a.replies) g.settled g.from) (append-nil a.settled)

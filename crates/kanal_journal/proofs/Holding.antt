@@ -1,183 +1,154 @@
--- What was kept against what the line holds, along every list of events.
-use Rattle.std.proofs.Common.{◌≡◌, ℕ, ◌+◌, ◌≤◌, ◌⊎◌, List, [], ◌∷◌, ◌++◌, length, map, Option, Some, None, refl, sym, ap, ◌∙◌, subst, inl, inr, arith, length-append, append-nil, append_assoc}
-use Rattle.std.specs.Prelude.{sum_by}
-use Rattle.std.proofs.lemmas.List.Sums.{sum_by-append}
-use Rattle.kanal_core.specs.Line.{Line, messages, IsWithin}
-use Rattle.kanal_core.proofs.Bare.{messages-bare}
+-- What holds of a history and the line at every cut, and what follows.
+use Rattle.std.proofs.Common.{◌≡◌, ℕ, ◌+◌, ◌-◌, ◌<◌, ◌⊎◌, suc, Bool, true, false, ◌||◌, List, [], ◌∷◌, ◌++◌, length, map, filter, Option, Some, refl, sym, ap, ◌∙◌, inl, inr, arith, append_assoc, length-append}
+use Rattle.std.specs.List.{sum_by}
+use Rattle.std.specs.Option.{is_some}
+use Rattle.std.proofs.lemmas.List.{take-map}
+use Rattle.std.proofs.Math.ListN.{length-map}
+use mathlib.Core.List.{map-append}
 use Rattle.kanal_journal.specs.declared.journal.event.Event.{Event}
-use Rattle.kanal_journal.specs.declared.journal.event.Event.TheVariants.{TrySend, TryRecv, Close}
 use Rattle.kanal_journal.specs.declared.journal.event.Reply.{Reply}
-use Rattle.kanal_journal.specs.declared.journal.event.Reply.TheVariants.{Yes, Got, Cleared}
-use Rattle.kanal_journal.specs.Steps.{Told, Tells, only}
-use Rattle.kanal_journal.specs.Runs.{Account, added, opening, Leads, IsTold}
-use Rattle.kanal_journal.specs.Paired.{along, cleared_by, without_last}
-use Rattle.kanal_journal.specs.Weights.{weigh, event_weight, reply_weight, settlement_weight}
-use Rattle.kanal_journal.proofs.Plain.{put, got}
-use Rattle.kanal_journal.proofs.Keeping.{along-last, without_none, without_end, weigh-append}
-use Rattle.kanal_journal.proofs.StepKinds.{row, by_kind}
+use Rattle.kanal_journal.specs.declared.journal.event.Settlement.{Settlement}
+use Rattle.kanal_core.specs.Line.{Entry, Line, bare, messages, tickets, has}
+use Rattle.kanal_journal.specs.Paired.{History, Demand, AtOnce, Later, Next, along, sent, is_gone, given, send_stays, demands, cleared_by, without_last, kept, receipts, ArePaired, Paired}
+use Rattle.std.proofs.lemmas.List.Sums.{sum_by-append}
+use Rattle.std.proofs.lemmas.List.{take_all}
+use Rattle.std.proofs.lemmas.Bool.{cases_Bool, false≢true}
+use Rattle.kanal_journal.specs.Paired.{asked, demand_stays}
+use Rattle.kanal_journal.proofs.Sends.{entries, entry_at, was_taken, longer, goes, later, ticket_stays, fresh}
+use Rattle.kanal_journal.proofs.Slots.{slots, resolve, receipt_of, receipts_resolved, nexts, slot_stays, answered, slots_last, entries_last}
+use Rattle.kanal_journal.proofs.Settling.{AreApart, IsSeated}
 
--- all that was told, weighed, with what the line holds
-abbrev pub account_weight : {T : Type 0} → (T → ℕ) → Account T → List T → ℕ
-account_weight h a ms = weigh (reply_weight h) a.replies + weigh (settlement_weight h) a.settled + weigh h a.drained + weigh h a.cleared + weigh h ms
+or_middle : (a b : Bool) → (a || (true || b)) ≡ true
+or_middle true b = refl
+or_middle false b = refl
 
--- the kept messages are those that were received and then those of the line
-pub record Holds {T : Type 0} (c : Option ℕ) (es : List (Event T)) (a : Account T) : Type 0 where
-  pub ms : List T
-  pub s : ℕ
-  pub r : ℕ
-  pub line_is : a.line ≡ row c s r ms
-  pub within : IsWithin (length ms) c
-  pub same : length es ≡ length a.replies
-  pub served : List T
-  pub got_is : along got es a.replies ≡ served
-  pub kept_is : without_last (sum_by cleared_by a.replies) (along put es a.replies) ≡ served ++ ms
-  pub shut : (sum_by cleared_by a.replies ≡ 0) ⊎ ((s ≡ 0) × (r ≡ 0))
-  pub weighs : (h : T → ℕ) → account_weight h a ms ≡ weigh (event_weight h) es
+or_last : (a b : Bool) → (a || (b || true)) ≡ true
+or_last true b = refl
+or_last false true = refl
+or_last false false = refl
 
-shorter : {T : Type 0} (c : Option ℕ) (m : T) (rest : List T) → IsWithin (length (m ∷ rest)) c → IsWithin (length rest) c
-shorter None m rest h = tt
-shorter (Some c) m rest h = omega (arith, h)
+pub without_none : {X : Type 0} (xs : List X) → without_last 0 xs ≡ xs
+without_none xs = take_all (length xs - 0) xs (omega arith)
 
-none-within : (c : Option ℕ) → IsWithin 0 c
-none-within None = tt
-none-within (Some c) = omega arith
+module _ {T : Type 0} where
+  -- the tickets that wait
+  abbrev pub waits : Line T → List ℕ
+  waits l = tickets l.line ++ l.demands
 
-module _ {T : Type 0} (c : Option ℕ) (es : List (Event T)) (a : Account T) (h : Holds c es a) (e : Event T) (x : Reply T) where
-  abbrev rs : List (Reply T)
-  rs = a.replies
+  -- the history has told of the ticket's end
+  abbrev pub is_known : History T → ℕ → Bool
+  is_known h t = is_gone h t || (was_taken h.settled t || is_some (given h.settled t))
 
-  longer : length (es ++ e ∷ []) ≡ length (rs ++ x ∷ [])
-  longer = let same = h.same in omega (arith, length-append es (e ∷ []), length-append rs (x ∷ []))
+  pub record Holds (h : History T) (l : Line T) : Type 0 where
+    pub same : length h.events ≡ length h.replies
+    pub served : List T
+    pub entries_is : without_last (sum_by cleared_by h.replies) (entries h) ≡ map bare served ++ l.line
+    pub slots_is : slots h ≡ map AtOnce served ++ map Later l.demands
+    pub one : (l.line ≡ []) ⊎ (l.demands ≡ [])
+    pub shut : (sum_by cleared_by h.replies ≡ 0) ⊎ ((l.senders ≡ 0) × (l.receivers ≡ 0) × (l.line ≡ []) × (l.demands ≡ []))
+    pub all_drained : nexts (demands h) ≡ length h.drained
+    pub known : (t : ℕ) → is_known h t ≡ true → (t < l.next) × (has t (waits l) ≡ false)
+    pub below : (t : ℕ) → has t (waits l) ≡ true → t < l.next
+    pub apart : AreApart (waits l)
+    pub seats : IsSeated l.capacity l.line
 
-  cleared-last : sum_by cleared_by (rs ++ x ∷ []) ≡ sum_by cleared_by rs + cleared_by x
-  cleared-last = omega (arith, sum_by-append cleared_by rs (x ∷ []))
+  sent_messages : (ss : List (Settlement T)) (xs : List (T × Option ℕ)) → map (λ s. s.0) xs ≡ messages (map (entry_at ss) xs)
+  sent_messages ss [] = refl
+  sent_messages ss (x ∷ xs) = ap (λ ys. x.0 ∷ ys) (sent_messages ss xs)
 
-  got-last : along got (es ++ e ∷ []) (rs ++ x ∷ []) ≡ h.served ++ got e x
-  got-last = along-last got es rs e x h.same ∙ ap (λ xs. xs ++ got e x) h.got_is
+  bare_messages : (ms : List T) → messages (map bare ms) ≡ ms
+  bare_messages [] = refl
+  bare_messages (m ∷ ms) = ap (λ ys. m ∷ ys) (bare_messages ms)
 
-  put-last : along put (es ++ e ∷ []) (rs ++ x ∷ []) ≡ along put es rs ++ put e x
-  put-last = along-last put es rs e x h.same
+  resolved_length : (ss : List (Settlement T)) (ds : List (Demand T)) (ms : List T) → length (resolve ss ds ms) ≡ length ds
+  resolved_length ss [] ms = refl
+  resolved_length ss (AtOnce m ∷ ds) ms = ap suc (resolved_length ss ds ms)
+  resolved_length ss (Later t ∷ ds) ms = ap suc (resolved_length ss ds ms)
+  resolved_length ss (Next ∷ ds) [] = ap suc (resolved_length ss ds [])
+  resolved_length ss (Next ∷ ds) (m ∷ ms) = ap suc (resolved_length ss ds ms)
 
-  kept-quiet : put e x ≡ [] → cleared_by x ≡ 0 → without_last (sum_by cleared_by (rs ++ x ∷ [])) (along put (es ++ e ∷ []) (rs ++ x ∷ [])) ≡ h.served ++ h.ms
-  kept-quiet p z =
-      let n : sum_by cleared_by (rs ++ x ∷ []) ≡ sum_by cleared_by rs = omega (arith, cleared-last) in
-      rw (n, put-last, p, append-nil) h.kept_is
+  served_receipts : (ms : List T) → map receipt_of (map AtOnce ms) ≡ map Some ms
+  served_receipts [] = refl
+  served_receipts (m ∷ ms) = ap (λ ys. Some m ∷ ys) (served_receipts ms)
 
-  weighs-last : (w : T → ℕ) (told : Told T) (ms : List T) → told.reply ≡ x → told.settled ≡ [] → told.drained ≡ [] → reply_weight w x + weigh w told.cleared + weigh w ms ≡ event_weight w e + weigh w h.ms
-      → account_weight w (added a told) ms ≡ weigh (event_weight w) (es ++ e ∷ [])
-  weighs-last w told ms r st dr k =
-      rw (r, st, dr, append-nil, append-nil)
-      (omega (arith, h.weighs w, k, weigh-append (reply_weight w) rs (x ∷ []), weigh-append w a.cleared told.cleared, weigh-append (event_weight w) es (e ∷ [])))
+  waiting_paired : (ds : List ℕ) (ms : List T) → (ms ≡ []) ⊎ (ds ≡ []) → ArePaired (map receipt_of (map Later ds)) ms
+  waiting_paired [] ms h = tt
+  waiting_paired (d ∷ ds) [] h = (refl, waiting_paired ds [] (inl refl))
+  waiting_paired (d ∷ ds) (m ∷ ms) h = elim h [ inl e ↦ absurd (cc) | inr e ↦ absurd (cc) ]
 
-  pub holds-quiet : put e x ≡ [] → got e x ≡ [] → cleared_by x ≡ 0 → ((w : T → ℕ) → event_weight w e ≡ reply_weight w x) → Holds c (es ++ e ∷ []) (added a (only (row c h.s h.r h.ms) x))
-  holds-quiet p g z k =
-      record {
-        ms = h.ms;
-        s = h.s;
-        r = h.r;
-        line_is = refl;
-        within = h.within;
-        same = longer;
-        served = h.served;
-        got_is = got-last ∙ (ap (λ xs. h.served ++ xs) g ∙ append-nil _);
-        kept_is = kept-quiet p z;
-        shut = elim h.shut [ inl y ↦ inl (omega (arith, cleared-last)) | inr y ↦ inr y ];
-        weighs = λ w. weighs-last w (only (row c h.s h.r h.ms) x) h.ms refl refl refl (omega (arith, k w));
-      }
+  line_paired : (served : List T) (ds : List ℕ) (ms : List T) → (ms ≡ []) ⊎ (ds ≡ []) → ArePaired (map Some served ++ map receipt_of (map Later ds)) (served ++ ms)
+  line_paired [] ds ms h = waiting_paired ds ms h
+  line_paired (m ∷ served) ds ms h = (refl, line_paired served ds ms h)
 
-module _ {T : Type 0} (c : Option ℕ) (es : List (Event T)) (a : Account T) (h : Holds c es a) where
-  none-cleared : ((h.s ≡ 0) × (h.r ≡ 0) → ⊥) → sum_by cleared_by a.replies ≡ 0
-  none-cleared open_ = elim h.shut [ inl y ↦ y | inr y ↦ absurd (open_ y) ]
+  module _ (h : History T) (l : Line T) (now : Holds h l) where
+    pub kept_is : kept h ≡ now.served ++ messages l.line
+    kept_is =
+        let n = sum_by cleared_by h.replies in
+        let xs = filter (send_stays h) (along sent h.events h.replies) in
+        let cut : without_last n (messages (entries h)) ≡ messages (without_last n (entries h)) = rw length-map (take-map _ (length (entries h) - n) (entries h)) in
+        ap (λ ms. without_last n ms) (sent_messages h.settled xs) ∙ (cut ∙ (ap messages now.entries_is ∙ rw (map-append, bare_messages)))
 
-  all-put : sum_by cleared_by a.replies ≡ 0 → along put es a.replies ≡ h.served ++ h.ms
-  all-put z = sym (without_none _) ∙ (ap (λ n. without_last n (along put es a.replies)) (sym z) ∙ h.kept_is)
+    pub receipts_is : receipts h ≡ map Some now.served ++ map receipt_of (map Later l.demands)
+    receipts_is = receipts_resolved h.settled (demands h) h.drained ∙ (ap (λ ds. map receipt_of ds) now.slots_is ∙ rw (map-append, served_receipts))
 
-  holds-entering : (m : T) → (h.r ≡ 0 → ⊥) → IsWithin (length h.ms + 1) c → Holds c (es ++ TrySend m ∷ []) (added a (only (row c h.s h.r (h.ms ++ m ∷ [])) Yes))
-  holds-entering m open_ room =
-      let z = none-cleared (λ k. open_ k.1) in
-      let n : sum_by cleared_by (a.replies ++ Yes ∷ []) ≡ 0 = omega (arith, cleared-last c es a h (TrySend m) Yes) in
-      let long : length (h.ms ++ m ∷ []) ≡ length h.ms + 1 = length-append h.ms (m ∷ []) in
-      record {
-        ms = h.ms ++ m ∷ [];
-        s = h.s;
-        r = h.r;
-        line_is = refl;
-        within = rw long room;
-        same = longer c es a h (TrySend m) Yes;
-        served = h.served;
-        got_is = got-last c es a h (TrySend m) Yes ∙ append-nil _;
-        kept_is = rw (n, without_none, put-last c es a h (TrySend m) Yes, all-put z) (append_assoc h.served h.ms (m ∷ []));
-        shut = inl n;
-        weighs = λ w. weighs-last c es a h (TrySend m) Yes w (only (row c h.s h.r (h.ms ++ m ∷ [])) Yes) (h.ms ++ m ∷ []) refl refl refl (omega (arith, weigh-append w h.ms (m ∷ [])));
-      }
+    pub holds_paired : Paired h
+    holds_paired = rw (kept_is, receipts_is) (line_paired now.served l.demands (messages l.line) (elim now.one [ inl e ↦ inl (ap messages e) | inr e ↦ inr e ]))
 
-  holds-taking : (m : T) (rest : List T) → h.ms ≡ m ∷ rest → Holds c (es ++ TryRecv ∷ []) (added a (only (row c h.s h.r rest) (Got m)))
-  holds-taking m rest is =
-      record {
-        ms = rest;
-        s = h.s;
-        r = h.r;
-        line_is = refl;
-        within = shorter c m rest (subst (λ (xs : List T). IsWithin (length xs) c) is h.within);
-        same = longer c es a h TryRecv (Got m);
-        served = h.served ++ m ∷ [];
-        got_is = got-last c es a h TryRecv (Got m);
-        kept_is = kept-quiet c es a h TryRecv (Got m) refl refl ∙ rw is (sym (append_assoc h.served (m ∷ []) rest));
-        shut = elim h.shut [ inl y ↦ inl (omega (arith, cleared-last c es a h TryRecv (Got m))) | inr y ↦ inr y ];
-        weighs = λ w. weighs-last c es a h TryRecv (Got m) w (only (row c h.s h.r rest) (Got m)) rest refl refl refl (let k : weigh w h.ms ≡ w m + weigh w rest = ap (weigh w) is in omega (arith, k));
-      }
+    -- the line's length less that of the demands is the count of the kept messages less that of the kept demands
+    pub demands_count : length (demands h) ≡ length now.served + length l.demands
+    demands_count =
+        sym (resolved_length h.settled (demands h) h.drained)
+        ∙ (ap length now.slots_is ∙ omega (arith, length-append (map {B = Demand T} AtOnce now.served) (map Later l.demands), simp length-map at (length-append (map {B = Demand T} AtOnce now.served) (map Later l.demands))))
 
-  holds-closing : ((h.s ≡ 0) × (h.r ≡ 0) → ⊥) → Holds c (es ++ Close ∷ []) (added a (record (only (row c 0 0 []) (Cleared (length h.ms))) { cleared = h.ms }))
-  holds-closing open_ =
-      let x : Reply T = Cleared (length h.ms) in
-      let z = none-cleared open_ in
-      let n : sum_by cleared_by (a.replies ++ x ∷ []) ≡ length h.ms = omega (arith, cleared-last c es a h Close x) in
-      record {
-        ms = [];
-        s = 0;
-        r = 0;
-        line_is = refl;
-        within = none-within c;
-        same = longer c es a h Close x;
-        served = h.served;
-        got_is = got-last c es a h Close x ∙ append-nil _;
-        kept_is = rw (n, put-last c es a h Close x, all-put z, append-nil, append-nil) (without_end h.served h.ms (length h.ms) refl);
-        shut = inr (refl, refl);
-        weighs = λ w. weighs-last c es a h Close x w (record (only (row c 0 0 []) x) { cleared = h.ms }) [] refl refl refl (omega arith);
-      }
+    pub counts : length l.line + length (demands h) ≡ length (kept h) + length l.demands
+    counts = rw kept_is (omega (arith, demands_count, length-append now.served (messages l.line), length-map l.line (λ e. e.message)))
 
-  -- one more step keeps it
-  pub holds-step : (e : Event T) (told : Told T) → Tells a.line e told → Holds c (es ++ e ∷ []) (added a told)
-  holds-step e told tells =
-      by_kind c h.s h.r h.ms h.within (λ d x. Holds c (es ++ d ∷ []) (added a x))
-      (λ d x p g z k. holds-quiet c es a h d x p g z k)
-      (λ m open_ room. holds-entering m open_ room)
-      (λ m rest is. holds-taking m rest is)
-      (λ open_. holds-closing open_)
-      e told (rw (← h.line_is) tells)
+  served_still : (e : Event T) (r : Reply T) (ss : List (Settlement T)) (ms : List T) (xs : List (Entry T)) → map (later ss) (filter (λ x. ticket_stays e r ss x.ticket) (map bare ms ++ xs)) ≡ map bare ms ++ map (later ss) (filter (λ x. ticket_stays e r ss x.ticket) xs)
+  served_still e r ss [] xs = refl
+  served_still e r ss (m ∷ ms) xs = ap (λ ys. bare m ∷ ys) (served_still e r ss ms xs)
 
-module _ {T : Type 0} (c : Option ℕ) where
-  pub holds-opening : Holds {T = T} c [] (opening c)
-  holds-opening =
-      record {
-        ms = [];
-        s = 1;
-        r = 1;
-        line_is = refl;
-        within = none-within c;
-        same = refl;
-        served = [];
-        got_is = refl;
-        kept_is = refl;
-        shut = inl refl;
-        weighs = λ w. refl;
-      }
+  paid_still : (e : Event T) (r : Reply T) (ss : List (Settlement T)) (ms : List T) (xs : List (Demand T)) → map (answered ss) (filter (slot_stays e r ss) (map AtOnce ms ++ xs)) ≡ map AtOnce ms ++ map (answered ss) (filter (slot_stays e r ss) xs)
+  paid_still e r ss [] xs = refl
+  paid_still e r ss (m ∷ ms) xs = ap (λ ys. AtOnce m ∷ ys) (paid_still e r ss ms xs)
 
-  -- it holds after every list of events
-  pub holds-along : (past : List (Event T)) (a b : Account T) (events : List (Event T)) → Holds c past a → Leads a events b → Holds c (past ++ events) b
-  holds-along past a b [] h l = rw (append-nil, l) h
-  holds-along past a b (e ∷ es) h l =
-      let P : Account T → Type 0 = λ x. Holds c (past ++ e ∷ []) x in
-      let next : Holds c (past ++ e ∷ []) l.0 = subst P (sym l.1.2) (holds-step c past a h e l.1.0 l.1.1) in
-      let Q : List (Event T) → Type 0 = λ x. Holds c x b in
-      subst Q (append_assoc past (e ∷ []) es) (holds-along (past ++ e ∷ []) l.0 b es next l.2)
+  pub nexts_filter : (h : History T) (ds : List (Demand T)) → nexts (filter (demand_stays h) ds) ≡ nexts ds
+  nexts_filter h [] = refl
+  nexts_filter h (AtOnce m ∷ ds) = nexts_filter h ds
+  nexts_filter h (Next ∷ ds) = ap suc (nexts_filter h ds)
+  nexts_filter h (Later t ∷ ds) = elim (cases_Bool (is_gone h t)) [ inl g ↦ rw g (nexts_filter h ds) | inr g ↦ rw g (nexts_filter h ds) ]
+
+  -- what one step moves from the line to the demands
+  pub record Moves (h : History T) (l : Line T) (e : Event T) (r : Reply T) (ss : List (Settlement T)) (ms : List T) (new : Line T) : Type 0 where
+    pub moved : List T
+    pub line : map (later ss) (filter (λ x. ticket_stays e r ss x.ticket) l.line) ++ map fresh (sent e r) ≡ map bare moved ++ new.line
+    pub demands : map (answered ss) (filter (slot_stays e r ss) (map Later l.demands)) ++ resolve (h.settled ++ ss) (asked e r) ms ≡ map AtOnce moved ++ map Later new.demands
+    pub goes_waiting : (t : ℕ) → goes e r ss t ≡ true → has t (waits l) ≡ true
+    pub send_new : filter (send_stays (longer h e r ss ms)) (sent e r) ≡ sent e r
+    pub entry_new : map (entry_at (h.settled ++ ss)) (sent e r) ≡ map fresh (sent e r)
+    pub demand_new : filter (demand_stays (longer h e r ss ms)) (asked e r) ≡ asked e r
+
+  module _ (h : History T) (l : Line T) (now : Holds h l) (e : Event T) (r : Reply T) (ss : List (Settlement T)) (ms : List T) (new : Line T) (move : Moves h l e r ss ms new) where
+    -- what was told of a ticket is told once
+    pub once : (t : ℕ) → is_known h t ≡ true → goes e r ss t ≡ false
+    once t k =
+        elim (cases_Bool (goes e r ss t)) [
+          | inl g ↦ absurd (false≢true (sym (now.known t k).1 ∙ move.goes_waiting t g))
+          | inr g ↦ g
+        ]
+
+    pub all_entries : sum_by cleared_by h.replies ≡ 0 → entries (longer h e r ss ms) ≡ map bare (now.served ++ move.moved) ++ new.line
+    all_entries z =
+        let old : entries h ≡ map bare now.served ++ l.line = sym (without_none (entries h)) ∙ (ap (λ k. without_last k (entries h)) (sym z) ∙ now.entries_is) in
+        let told : (t : ℕ) → was_taken h.settled t ≡ true → goes e r ss t ≡ false = λ t w. once t (rw w (or_middle (is_gone h t) (is_some (given h.settled t)))) in
+        rw (entries_last h e r ss ms now.same told move.send_new move.entry_new, old, served_still e r ss now.served l.line, append_assoc, move.line, map-append) (sym (append_assoc (map bare now.served) (map bare move.moved) new.line))
+
+    pub next_entries : cleared_by r ≡ 0 → sum_by cleared_by h.replies ≡ 0 → without_last (sum_by cleared_by (longer h e r ss ms).replies) (entries (longer h e r ss ms)) ≡ map bare (now.served ++ move.moved) ++ new.line
+    next_entries quiet z =
+        let n : sum_by cleared_by (h.replies ++ r ∷ []) ≡ 0 = omega (arith, sum_by-append cleared_by h.replies (r ∷ [])) in
+        rw (n, without_none) (all_entries z)
+
+    pub next_slots : slots (longer h e r ss ms) ≡ map AtOnce (now.served ++ move.moved) ++ map Later new.demands
+    next_slots =
+        let told : (t : ℕ) (m : T) → given h.settled t ≡ Some m → goes e r ss t ≡ false = λ t m g. once t (rw g (or_last (is_gone h t) (was_taken h.settled t))) in
+        let count : nexts (filter (demand_stays (longer h e r ss ms)) (along asked h.events h.replies)) ≡ length h.drained = nexts_filter (longer h e r ss ms) (along asked h.events h.replies) ∙ (sym (nexts_filter h (along asked h.events h.replies)) ∙ now.all_drained) in
+        rw (slots_last h e r ss ms now.same told now.all_drained move.demand_new count, now.slots_is, paid_still e r ss now.served (map Later l.demands), append_assoc, move.demands, map-append) (sym (append_assoc (map AtOnce now.served) (map AtOnce move.moved) (map Later new.demands)))

@@ -1,5 +1,5 @@
 -- A list of events goes on by one.
-use Rattle.std.proofs.Common.{◌≡◌, List, [], ◌∷◌, ◌++◌, refl, subst}
+use Rattle.std.proofs.Common.{List, [], ◌∷◌, ◌++◌, refl, subst}
 use Rattle.kanal_journal.specs.declared.journal.event.Event.{Event}
 use Rattle.kanal_journal.specs.Runs.{Account, IsTold, Leads}
 

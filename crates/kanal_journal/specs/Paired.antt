@@ -1,13 +1,13 @@
 -- Which messages and which demands were kept, read from the history alone, and that they are paired in order.
-use Rattle.std.specs.Prelude.{◌≡◌, ℕ, ◌-◌, ◌==◌, nat_lt, Bool, true, false, not, ◌&&◌, cond, List, [], ◌∷◌, ◌++◌, length, map, filter, take, drop, sum_by, Option, Some, None}
+use Rattle.std.specs.Prelude.{◌≡◌, ℕ, ◌-◌, ◌==◌, nat_lt, Bool, true, false, not, ◌&&◌, ◌||◌, cond, List, [], ◌∷◌, ◌++◌, length, map, filter, take, drop, sum_by, Option, Some, None}
 use Rattle.std.specs.List.{list_any}
 use Rattle.std.specs.Option.{option_or}
 use Rattle.kanal_core.specs.declared.internal.outcome.Outcome.{Outcome}
 use Rattle.kanal_core.specs.declared.internal.outcome.Outcome.TheVariants.{Given, Ended}
 use Rattle.kanal_journal.specs.declared.journal.event.Event.{Event}
-use Rattle.kanal_journal.specs.declared.journal.event.Event.TheVariants.{TrySend, TryRecv}
+use Rattle.kanal_journal.specs.declared.journal.event.Event.TheVariants.{Send, TrySend, Recv, RecvLate, TryRecv, Withdraw}
 use Rattle.kanal_journal.specs.declared.journal.event.Reply.{Reply}
-use Rattle.kanal_journal.specs.declared.journal.event.Reply.TheVariants.{Yes, Got, Cleared}
+use Rattle.kanal_journal.specs.declared.journal.event.Reply.TheVariants.{Sent, Waits, Yes, Got, Withdrawn, Cleared}
 use Rattle.kanal_journal.specs.declared.journal.event.Settlement.{Settlement}
 use Rattle.kanal_journal.specs.declared.journal.event.Report.{Report}
 
@@ -45,22 +45,32 @@ module _ {T : Type 0} where
 
   -- the message that entered at this step, with its ticket if its send waits
   abbrev pub sent : Event T → Reply T → List (T × Option ℕ)
+  sent (Send m) Sent = (m, None) ∷ []
+  sent (Send m) (Waits t) = (m, Some t) ∷ []
   sent (TrySend m) Yes = (m, None) ∷ []
   sent event reply = []
 
   -- the demands of this step
   abbrev pub asked : Event T → Reply T → List (Demand T)
+  asked Recv (Got m) = AtOnce m ∷ []
+  asked Recv (Waits t) = Later t ∷ []
+  asked RecvLate (Got m) = AtOnce m ∷ []
   asked TryRecv (Got m) = AtOnce m ∷ []
   asked event reply = []
+
+  -- the ticket that was withdrawn at this step
+  abbrev pub withdrawn : Event T → Reply T → List ℕ
+  withdrawn (Withdraw t) (Withdrawn m) = t ∷ []
+  withdrawn event reply = []
 
   -- a wait ended
   abbrev pub is_end : Outcome T → Bool
   is_end (Ended reason m) = true
   is_end outcome = false
 
-  -- the ticket's wait was ended
+  -- the ticket was withdrawn or ended
   abbrev pub is_gone : History T → ℕ → Bool
-  is_gone h t = list_any (λ s. (s.ticket == t) && is_end s.outcome) h.settled
+  is_gone h t = list_any (λ u. u == t) (along withdrawn h.events h.replies) || list_any (λ s. (s.ticket == t) && is_end s.outcome) h.settled
 
   -- the message that an outcome gives
   abbrev pub gift_of : Outcome T → Option T
@@ -81,17 +91,17 @@ module _ {T : Type 0} where
   cleared_by (Cleared n) = n
   cleared_by reply = 0
 
-  -- a send that does not wait is kept, and one that waits unless its wait was ended
+  -- a send that does not wait is kept, and one that waits unless its ticket was withdrawn or ended
   abbrev pub send_stays : History T → T × Option ℕ → Bool
   send_stays h (m, None) = true
   send_stays h (m, Some t) = not (is_gone h t)
 
-  -- a demand is kept unless its wait was ended
+  -- a demand is kept unless its ticket was withdrawn or ended
   abbrev pub demand_stays : History T → Demand T → Bool
   demand_stays h (Later t) = not (is_gone h t)
   demand_stays h demand = true
 
-  -- the kept messages: those that entered, without those whose wait was ended, and without the last ones if these were cleared
+  -- the kept messages: those that entered, without those whose ticket was withdrawn or ended, and without the last ones if these were cleared
   abbrev pub kept : History T → List T
   kept h = without_last (sum_by cleared_by h.replies) (map (λ s. s.0) (filter (send_stays h) (along sent h.events h.replies)))
 

@@ -1,17 +1,17 @@
 -- What one event does to the line, and what it tells.
-use Rattle.std.specs.Prelude.{◌≡◌, ◌≢◌, ℕ, ◌==◌, Bool, ◌&&◌, cond, List, [], ◌∷◌, ◌++◌, length, Option, Some, None, ◌⊎◌}
+use Rattle.std.specs.Prelude.{◌≡◌, ◌≢◌, ℕ, ◌==◌, ◌&&◌, cond, List, [], ◌∷◌, length, Option, Some, None, ◌⊎◌}
 use Rattle.kanal_core.specs.declared.internal.outcome.Outcome.{Outcome}
-use Rattle.kanal_core.specs.Line.{Entry, Line, has_place, buffered}
-use Rattle.kanal_core.specs.Moves.{Moved, enter, leave, close, cleared}
+use Rattle.kanal_core.specs.Line.{Entry, Line, last_word, has_place, buffered, has, found}
+use Rattle.kanal_core.specs.Moves.{Moved, enter, leave, close, cleared, wait_send, wait_recv, without_entry, without_demand}
 use Rattle.kanal_journal.specs.declared.journal.event.Side.{Side}
 use Rattle.kanal_journal.specs.declared.journal.event.Ask.{Ask}
 use Rattle.kanal_journal.specs.declared.journal.event.Ask.TheVariants.{Len}
 use Rattle.kanal_journal.specs.declared.journal.event.Event.{Event}
-use Rattle.kanal_journal.specs.declared.journal.event.Event.TheVariants.{TrySend, TryRecv, Close, Ask as Asks}
+use Rattle.kanal_journal.specs.declared.journal.event.Event.TheVariants.{Send, TrySend, Recv, RecvLate, TryRecv, Withdraw, Close, Ask as Asks}
 use Rattle.kanal_journal.specs.declared.journal.event.Refusal.{Refusal}
-use Rattle.kanal_journal.specs.declared.journal.event.Refusal.TheVariants.{Closed, ReceiveClosed, SendClosed, NoMemory, CloseError}
+use Rattle.kanal_journal.specs.declared.journal.event.Refusal.TheVariants.{Closed, ReceiveClosed, SendClosed, Timeout, NoMemory, TooMany, CloseError, NotWaiting}
 use Rattle.kanal_journal.specs.declared.journal.event.Reply.{Reply}
-use Rattle.kanal_journal.specs.declared.journal.event.Reply.TheVariants.{Yes, No, Got, Nothing, Cleared, Number, Refused}
+use Rattle.kanal_journal.specs.declared.journal.event.Reply.TheVariants.{Sent, Waits, Yes, No, Got, Nothing, Withdrawn, Cleared, Number, Refused}
 
 -- what one event tells: the line after it, the reply, the tickets that it settles, the messages that it drains and those that it clears
 pub record Told (T : Type 0) : Type 0 where
@@ -50,6 +50,15 @@ module _ {T : Type 0} where
   abbrev pub nothing_there : Line T → Told T → Told T
   nothing_there old otherwise = cond (old.senders == 0) (only old (Refused SendClosed None)) otherwise
 
+  -- a wait is started under the next ticket, if there is one
+  abbrev pub wait : Line T → Line T → Option T → Told T
+  wait old new back = cond (old.next == last_word) (only old (Refused TooMany back)) (only new (Waits old.next))
+
+  -- a ticket is withdrawn: a demand leaves, or an entry with its message
+  abbrev pub withdraw : Line T → ℕ → List T → Told T
+  withdraw old t [] = cond (has t old.demands) (only (without_demand old t) (Withdrawn None)) (only old (Refused NotWaiting None))
+  withdraw old t (m ∷ ms) = only (without_entry old t) (Withdrawn (Some m))
+
   -- the channel is closed: all waits end, and the buffer is cleared
   abbrev pub shut : Line T → Told T
   shut old =
@@ -63,13 +72,18 @@ module _ {T : Type 0} where
 
   -- what the event does, where it is not refused for memory
   abbrev pub step : Line T → Event T → Told T
+  step old (Send m) = offer old m Sent (wait old (wait_send old m) (Some m))
   step old (TrySend m) = offer old m Yes (only old (No m))
+  step old Recv = take old (nothing_there old (wait old (wait_recv old) None))
+  step old RecvLate = take old (only old (Refused Timeout None))
   step old TryRecv = take old (nothing_there old (only old Nothing))
+  step old (Withdraw t) = withdraw old t (found t old.line)
   step old Close = shut old
   step old (Asks side ask) = only old (answer old side ask)
 
   -- the message of an event, which a refusal gives back
   abbrev pub message_of : Event T → Option T
+  message_of (Send m) = Some m
   message_of (TrySend m) = Some m
   message_of event = None
 
@@ -77,15 +91,22 @@ module _ {T : Type 0} where
   abbrev pub refused : Line T → Refusal → Event T → Told T
   refused old reason event = only old (Refused reason (message_of event))
 
-  -- the event may be refused for memory: it would lengthen an unlimited line while no demand waits
+  -- the call waits
+  abbrev pub IsWait : Reply T → Type 0
+  IsWait (Waits t) = Unit {0}
+  IsWait reply = ⊥
+
+  -- a message would lengthen an unlimited line while no demand waits
+  abbrev pub Lengthens : Line T → Type 0
+  Lengthens old = (old.receivers ≢ 0) × (old.demands ≡ []) × (old.capacity ≡ None)
+
+  -- the event may be refused for memory: it would start a wait, or lengthen an unlimited line while no demand waits
   abbrev pub MayRefuse : Line T → Event T → Type 0
-  MayRefuse old (TrySend m) = (old.receivers ≢ 0) × (old.demands ≡ []) × (old.capacity ≡ None)
+  MayRefuse old (Send m) = IsWait (step old (Send m)).reply ⊎ Lengthens old
+  MayRefuse old (TrySend m) = Lengthens old
+  MayRefuse old Recv = IsWait (step old Recv).reply
   MayRefuse old event = ⊥
 
   -- the event was made, or was refused for memory where it may be
   abbrev pub Tells : Line T → Event T → Told T → Type 0
   Tells old event told = (told ≡ step old event) ⊎ (MayRefuse old event × (told ≡ refused old NoMemory event))
-
-  -- the event leaves this line, gives this reply, settles and drains nothing, and what it clears goes to the end of a list
-  abbrev pub TellsOf : Line T → Event T → Line T → Reply T → List T → List T → Type 0
-  TellsOf old event new reply cleared now = (gone : List T) × Tells old event (record (only new reply) { cleared = gone }) × (now ≡ cleared ++ gone)

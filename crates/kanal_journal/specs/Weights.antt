@@ -3,9 +3,9 @@ use Rattle.std.specs.Prelude.{ℕ, ◌+◌, List, [], ◌∷◌, Option, Some, N
 use Rattle.kanal_core.specs.declared.internal.outcome.Outcome.{Outcome}
 use Rattle.kanal_core.specs.declared.internal.outcome.Outcome.TheVariants.{Taken, Given, Ended}
 use Rattle.kanal_journal.specs.declared.journal.event.Event.{Event}
-use Rattle.kanal_journal.specs.declared.journal.event.Event.TheVariants.{TrySend, TryRecv, Close, Ask}
+use Rattle.kanal_journal.specs.declared.journal.event.Event.TheVariants.{Send, TrySend}
 use Rattle.kanal_journal.specs.declared.journal.event.Reply.{Reply}
-use Rattle.kanal_journal.specs.declared.journal.event.Reply.TheVariants.{Yes, No, Got, Nothing, Cleared, Number, Refused}
+use Rattle.kanal_journal.specs.declared.journal.event.Reply.TheVariants.{No, Got, Withdrawn, Refused}
 use Rattle.kanal_journal.specs.declared.journal.event.Settlement.{Settlement}
 use Rattle.kanal_journal.specs.declared.journal.event.Report.{Report}
 
@@ -22,20 +22,17 @@ module _ {T : Type 0} where
 
   -- the message of an event
   abbrev pub event_weight : (T → ℕ) → Event T → ℕ
+  event_weight h (Send m) = h m
   event_weight h (TrySend m) = h m
-  event_weight h TryRecv = 0
-  event_weight h Close = 0
-  event_weight h (Ask side ask) = 0
+  event_weight h event = 0
 
   -- the message in a reply
   abbrev pub reply_weight : (T → ℕ) → Reply T → ℕ
   reply_weight h (No m) = h m
   reply_weight h (Got m) = h m
+  reply_weight h (Withdrawn back) = option_weight h back
   reply_weight h (Refused reason back) = option_weight h back
-  reply_weight h Yes = 0
-  reply_weight h Nothing = 0
-  reply_weight h (Cleared n) = 0
-  reply_weight h (Number n) = 0
+  reply_weight h reply = 0
 
   -- the message in an outcome
   abbrev pub outcome_weight : (T → ℕ) → Outcome T → ℕ

@@ -1,8 +1,10 @@
-//! What a close moves out of the core: the waits that it ended and the messages that it cleared.
+//! What moves out of the core: the waits that a step ended, the messages that a close cleared, and
+//! the messages that are left when a channel's life ends.
 //!
 //! Stands on the two rooms. Each value was moved out of the core as it stood, with no memory asked
 //! for, so that its waiters can be settled and its messages dropped after a lock was released.
-ghost use Rattle.std.specs.Prelude.{◌≡◌, [], ◌∷◌, length, MatchOption, map};
+ghost use Rattle.std.specs.Prelude.{◌≡◌, [], ◌∷◌, ◌++◌, length, MatchOption, map};
+ghost use Rattle.kanal_core.specs.Waiters.{brought};
 ghost use Rattle.kanal_core.specs.Channel.{ended_by};
 
 use super::buffer::Buffer;
@@ -85,6 +87,42 @@ impl<T> Cleared<T> {
         ensures { MatchOption result ((self.old ≡ []) × (self.new ≡ [])) (λ m. self.old ≡ m ∷ self.new) }
     {
         self.buffer.pop_front()
+    }
+}
+
+/// The messages that were in a channel's line when its life ended: the buffer's, front first, and
+/// then those of the senders that waited.
+#[derive(Drop)]
+pub struct Left<T, W> {
+    buffer: Buffer<T>,
+    waiters: WaitList<T, W>,
+}
+
+impl<T, W> Model for Left<T, W> {
+    ghost use Rattle.std.specs.Prelude.{List, ◌++◌};
+    ghost use Rattle.kanal_core.specs.Waiters.{brought};
+
+    ghost Value = { List T };
+
+    ghost view = { λ l. l.buffer.messages ++ brought l.waiters };
+}
+
+impl<T: Drop, W: Drop> Left<T, W> {
+    /// What this buffer holds and these waiters brought.
+    pub(crate) fn new(buffer: Buffer<T>, waiters: WaitList<T, W>) -> Self
+        ensures { result ≡ buffer.messages ++ brought waiters }
+    {
+        Left { buffer, waiters }
+    }
+
+    /// Hands out the front message of those that are left.
+    pub fn next(&mut self) -> Option<T>
+        ensures { MatchOption result ((self.old ≡ []) × (self.new ≡ [])) (λ m. self.old ≡ m ∷ self.new) }
+    {
+        match self.buffer.pop_front() {
+            Some(message) => Some(message),
+            None => self.waiters.next_message(),
+        }
     }
 }
 

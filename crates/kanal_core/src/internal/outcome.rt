@@ -2,7 +2,7 @@
 //! answers of an offer and of a take.
 //!
 //! Stands on nothing. A `Ticket` is made by the list of waiters alone.
-ghost use Rattle.std.specs.Prelude.{◌≡◌};
+ghost use Rattle.std.specs.Prelude.{◌≡◌, IsSome, Some, None};
 
 /// What a started wait is known by.
 ///
@@ -27,6 +27,44 @@ pub struct Waiter<T, W> {
     pub ticket: Ticket,
     pub message: Option<T>,
     pub w: W,
+}
+
+impl<T, W> Waiter<T, W> {
+    /// A waiting receiver is given the message.
+    pub(crate) fn given(self, message: T) -> Settled<T, W>
+        requires { self.message ≡ None }
+        ensures { result ≡ record { ticket = self.ticket; w = self.w; outcome = Outcome.Given message } }
+    {
+        let Waiter {
+            ticket,
+            message: own,
+            w,
+        } = self;
+        match own {
+            None => Settled {
+                ticket,
+                w,
+                outcome: Outcome::Given(message),
+            },
+            Some(_own) => unreachable!(),
+        }
+    }
+
+    /// A waiting sender's message is taken.
+    pub(crate) fn taken(self) -> (T, Settled<T, W>)
+        requires { IsSome self.message }
+        ensures message { self.message ≡ Some result.0 }
+        ensures settled { result.1 ≡ record { ticket = self.ticket; w = self.w; outcome = Outcome.Taken } }
+    {
+        let Waiter { ticket, message, w } = self;
+        match message {
+            None => unreachable!(),
+            Some(message) => {
+                let outcome = Outcome::Taken;
+                (message, Settled { ticket, w, outcome })
+            },
+        }
+    }
 }
 
 /// Why a wait ended without a message having moved.

@@ -1,9 +1,15 @@
 //! The list of those that wait, oldest first.
 //!
-//! Stands on a deque alone. Only the core, and what it hands out at an end, hold one.
-ghost use Rattle.std.specs.Prelude.{◌≡◌, [], ◌∷◌, MatchOption};
+//! Stands on a deque alone. Only the core, and what it hands out at an end, hold one. A waiter is
+//! named by its ticket; no other module knows where in the list it stands.
+ghost use Rattle.std.specs.Prelude.{◌≡◌, [], ◌∷◌, ◌++◌, MatchOption, IfOk, IfErr};
+ghost use Rattle.std.specs.Borrow.{sem};
+ghost use Rattle.std.specs.Fn.{FnReturnsAt};
+ghost use Rattle.std.specs.Option.{option_copied_mut, option_map};
+ghost use Rattle.kanal_core.specs.Places.{place_of};
+ghost use Rattle.kanal_core.specs.Waiters.{brought, waiter_of, without, IsFirstWhere, receiver_first, sender_first};
 
-use super::outcome::Waiter;
+use super::outcome::{Ticket, Waiter};
 use std::alloc::Global;
 use std::collections::VecDeque;
 use std::marker::Model;
@@ -23,7 +29,30 @@ impl<T, W> Model for WaitList<T, W> {
     ghost view = { λ l. l.waiters.items };
 }
 
+/// The index of the waiter with the ticket, or the length.
+fn place<T, W>(waiters: &VecDeque<Waiter<T, W>>, ticket: Ticket) -> usize
+    ensures { result ≡ place_of ticket waiters.now.items }
+{
+    for i in 0..waiters.len() {
+        if waiters[i].ticket == ticket {
+            return i;
+        }
+    }
+    waiters.len()
+}
+
+/// What the test answers of a W.
+fn passes<W, F: Fn(&W) -> bool>(test: &F, w: &W) -> bool
+    requires { F.IsAlwaysCallable test.now }
+    ensures { FnReturnsAt F.Fn test.now w.now result }
+{
+    test(w)
+}
+
 impl<T, W> WaitList<T, W> {
+    ghost use Rattle.kanal_core.specs.ListLends.{lends_w};
+    ghost use Rattle.kanal_core.specs.declared.internal.outcome.Waiter.{Waiter};
+
     /// A list that nobody waits in, which has no memory yet.
     pub fn new(alloc: Global) -> Self
         ensures { result ≡ [] }
@@ -33,10 +62,110 @@ impl<T, W> WaitList<T, W> {
         }
     }
 
+    /// Whether receivers wait, where all that wait are of one side.
+    pub fn receiver_first(&self) -> bool
+        ensures { result ≡ receiver_first self.now }
+    {
+        match self.waiters.front() {
+            None => false,
+            Some(waiter) => waiter.message.is_none(),
+        }
+    }
+
+    /// Whether senders wait, where all that wait are of one side.
+    pub fn sender_first(&self) -> bool
+        ensures { result ≡ sender_first self.now }
+    {
+        match self.waiters.front() {
+            None => false,
+            Some(waiter) => waiter.message.is_some(),
+        }
+    }
+
+    /// Puts a waiter at the end under a ticket with this number, or gives message and W back where
+    /// there is no memory.
+    pub fn push_back(
+        &mut self,
+        number: u64,
+        message: Option<T>,
+        w: W,
+    ) -> Result<Ticket, (Option<T>, W)>
+        ensures ok { IfOk result (λ ticket. (ticket.number ≡ number) × (self.new ≡ self.old ++ record { ticket = ticket; message = message; w = w } ∷ [])) }
+        ensures refused { IfErr result (λ back. (back.0 ≡ message) × (back.1 ≡ w) × (self.new ≡ self.old)) }
+    {
+        let ticket = Ticket { number };
+        match self.waiters.push_back(Waiter { ticket, message, w }) {
+            Ok(()) => Ok(ticket),
+            Err(refused) => {
+                let Waiter {
+                    ticket: _,
+                    message,
+                    w,
+                } = refused.value;
+                Err((message, w))
+            },
+        }
+    }
+
     /// Takes the oldest waiter out.
     pub fn pop_front(&mut self) -> Option<Waiter<T, W>>
         ensures { MatchOption result ((self.old ≡ []) × (self.new ≡ [])) (λ w. self.old ≡ w ∷ self.new) }
     {
         self.waiters.pop_front()
+    }
+
+    /// Takes waiters out until one of them brings a message.
+    pub fn next_message(&mut self) -> Option<T>
+    where
+        T: Drop,
+        W: Drop,
+        ensures { MatchOption result ((brought self.old ≡ []) × (brought self.new ≡ [])) (λ m. brought self.old ≡ m ∷ brought self.new) }
+    {
+        while let Some(waiter) = self.waiters.pop_front() {
+            let Waiter {
+                ticket: _,
+                message,
+                w: _,
+            } = waiter;
+            if let Some(message) = message {
+                return Some(message);
+            }
+        }
+        None
+    }
+
+    /// Takes the waiter with the ticket out, if it is there.
+    pub fn remove(&mut self, ticket: Ticket) -> Option<Waiter<T, W>>
+        ensures value { result ≡ waiter_of ticket self.old }
+        ensures others { self.new ≡ without ticket self.old }
+    {
+        let at = place(&self.waiters, ticket);
+        self.waiters.remove(at)
+    }
+
+    /// Lends the W of the waiter with the ticket, if it is there.
+    pub fn waiting(&mut self, ticket: Ticket) -> Option<&mut W>
+        ensures* writes_back { sem 𝓛 (lends_w T.row W.row self.entry ticket result) }
+        ensures value { option_copied_mut result ≡ option_map (λ (x : Waiter T W). x.w) (waiter_of ticket self.old) }
+    {
+        let at = place(&self.waiters, ticket);
+        match self.waiters.get_mut(at) {
+            Some(waiter) => Some(&mut waiter.w),
+            None => None,
+        }
+    }
+
+    /// The ticket of the oldest waiter whose W passes the test.
+    pub fn first_waiter<F: Fn(&W) -> bool + Drop>(&self, test: F) -> Option<Ticket>
+        requires { F.IsAlwaysCallable test }
+        ensures { IsFirstWhere (FnReturnsAt F.Fn test) self.now result }
+    {
+        for i in 0..self.waiters.len() {
+            let waiter = &self.waiters[i];
+            if passes(&test, &waiter.w) {
+                return Some(waiter.ticket);
+            }
+        }
+        None
     }
 }

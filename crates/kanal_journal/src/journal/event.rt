@@ -22,10 +22,18 @@ pub enum Ask {
 /// One call on a channel.
 #[derive(Drop)]
 pub enum Event<T> {
+    /// Send this message, and wait if it can't enter at once.
+    Send(T),
     /// Send this message if it can enter at once.
     TrySend(T),
+    /// Receive a message, and wait if none is there.
+    Recv,
+    /// Receive a message through a timed call whose deadline has passed.
+    RecvLate,
     /// Receive a message if one is there.
     TryRecv,
+    /// Take back the wait with this ticket.
+    Withdraw(u64),
     /// Close both sides.
     Close,
     /// Ask a question through this side.
@@ -41,15 +49,25 @@ pub enum Refusal {
     ReceiveClosed,
     /// A receive, nothing is there, and no sender is left.
     SendClosed,
+    /// The deadline has passed, and nothing is there.
+    Timeout,
     /// A growth was refused for memory.
     NoMemory,
+    /// The tickets are used up.
+    TooMany,
     /// A close of a channel whose sides are both gone.
     CloseError,
+    /// A withdrawal of a ticket that does not wait.
+    NotWaiting,
 }
 
 /// What an event is answered.
 #[derive(Drop)]
 pub enum Reply<T> {
+    /// The message of a `Send` entered.
+    Sent,
+    /// The call waits, under the ticket with this number.
+    Waits(u64),
     /// The message of a `TrySend` entered.
     Yes,
     /// The message of a `TrySend` comes back: there is no place for it.
@@ -58,6 +76,8 @@ pub enum Reply<T> {
     Got(T),
     /// There is no message.
     Nothing,
+    /// The wait was taken back, with the message of a send.
+    Withdrawn(Option<T>),
     /// The channel was closed, and so many messages were cleared.
     Cleared(usize),
     /// A number that was asked for.

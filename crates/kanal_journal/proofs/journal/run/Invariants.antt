@@ -1,17 +1,20 @@
-use Rattle.std.proofs.Common.{◌≡◌, ◌≤◌, ◌+◌, length, vec_len, vec_capacity, []}
+use Rattle.std.proofs.Common.{◌≡◌, ◌≤◌, ◌+◌, length, vec_len, vec_capacity}
 use Rattle.kanal_core.specs.Channel.{line_of}
+use Rattle.kanal_journal.specs.Given.{AreNumbered, waiting_count, SameRoom}
 use Rattle.kanal_journal.specs.Runs.{Leads, account, opening}
 use Rattle.kanal_journal.proofs.journal.run.Given as goal
 
--- the events so far lead to the report so far, nobody waits, and there is room for what may still come
+-- the events so far lead to the report so far, and there is room for what may still come
 abbrev pub invariant-loop-event : goal.invariant-loop-event
 invariant-loop-event g l =
     record {
       leads : Leads (opening l.fn.capacity) l.yielded (account (line_of l.core) l.report);
-      nobody : l.core.waiters ≡ [];
+      numbered : AreNumbered 0 l.tickets.items l.core.next;
       left : l.report.left ≡ l.initial.report.left;
-      replies : vec_capacity l.report.replies ≡ vec_capacity l.initial.report.replies;
-      cleared : vec_capacity l.report.cleared ≡ vec_capacity l.initial.report.cleared;
+      given : vec_len l.tickets ≤ length l.yielded;
       count : vec_len l.report.replies ≡ length l.yielded;
-      fits : vec_len l.report.cleared + length l.core.buffer ≤ length l.yielded;
+      waiting : vec_len l.report.settled + waiting_count (line_of l.core) ≤ length l.yielded;
+      long : vec_len l.report.cleared + length (line_of l.core).line ≤ length l.yielded;
+      room : SameRoom l.initial.report l.report;
+      tickets : vec_capacity l.tickets ≡ vec_capacity l.initial.tickets;
     }

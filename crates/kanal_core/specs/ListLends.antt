@@ -1,0 +1,12 @@
+-- What a list of waiters ends as, where a `&mut` into it was handed out.
+use Rattle.std.specs.Prelude.{List, Option}
+use Rattle.std.specs.Borrow.{LendsIf, Fml, RattleType, MutBor}
+use Rattle.kanal_core.specs.declared.internal.outcome.Ticket.{Ticket}
+use Rattle.kanal_core.specs.declared.internal.outcome.Waiter.{Waiter}
+use Rattle.kanal_core.specs.contracts.internal.wait_list.WaitList.{the_row}
+use Rattle.kanal_core.specs.Waiters.{with_w}
+
+module _ (T W : RattleType) (s : MutBor (List (Waiter T.Denot W.Denot))) (t : Ticket) where
+  -- once the borrow r ends, the waiter with the ticket has the last W written through r
+  abbrev pub lends_w : Option (MutBor W.Denot) → Fml
+  lends_w r = LendsIf (the_row T W) W s r (λ w. with_w t w s.now) s.now

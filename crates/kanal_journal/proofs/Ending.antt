@@ -1,0 +1,148 @@
+-- A close, and steps that change nothing.
+use Rattle.std.proofs.Common.{◌≡◌, ℕ, ◌-◌, zero, suc, Bool, true, false, ◌==◌, ◌||◌, List, [], ◌∷◌, ◌++◌, length, map, filter, Option, Some, None, refl, sym, ap, ◌∙◌, inl, inr, arith, append-nil, length-append}
+use Rattle.std.specs.List.{filter_map, cons_option, sum_by}
+use Rattle.std.specs.Option.{option_map, is_some}
+use Rattle.std.proofs.lemmas.Bool.{cases_Bool, false≢true}
+use Rattle.std.proofs.lemmas.List.{take_at}
+use Rattle.std.proofs.lemmas.List.Sums.{sum_by-append}
+use Rattle.std.proofs.lemmas.List.Folds.{list_any-append}
+use Rattle.std.proofs.Math.ListN.{length-map}
+use Rattle.kanal_core.specs.declared.internal.outcome.Reason.TheVariants.{Closed as ByClose}
+use Rattle.kanal_core.specs.declared.internal.outcome.Outcome.{Outcome}
+use Rattle.kanal_core.specs.declared.internal.outcome.Outcome.TheVariants.{Ended}
+use Rattle.kanal_core.specs.Line.{Entry, Line, bare, tickets, has, under}
+use Rattle.kanal_core.specs.Moves.{ended, ended_entry, close, cleared}
+use Rattle.kanal_journal.specs.declared.journal.event.Event.{Event}
+use Rattle.kanal_journal.specs.declared.journal.event.Event.TheVariants.{Close}
+use Rattle.kanal_journal.specs.declared.journal.event.Reply.{Reply}
+use Rattle.kanal_journal.specs.declared.journal.event.Reply.TheVariants.{Cleared}
+use Rattle.kanal_journal.specs.declared.journal.event.Settlement.{Settlement}
+use Rattle.kanal_journal.specs.Runs.{numbered}
+use Rattle.kanal_journal.specs.Paired.{History, AtOnce, Later, sent, asked, withdrawn, cleared_by, without_last, given}
+use Rattle.kanal_journal.proofs.Sends.{goes, longer, entries, was_taken}
+use Rattle.kanal_journal.proofs.Slots.{slot_stays, entries_last}
+use Rattle.kanal_journal.proofs.Settling.{IsSeated, entries_still, ended_move, ends_has, has_tail, has_self, or_true}
+use Rattle.kanal_journal.proofs.Holding.{Holds, Moves, waits, all_entries, next_slots}
+use Rattle.kanal_journal.proofs.EachEvent.{moves_quiet}
+use Rattle.kanal_journal.proofs.Upkeep.{Clean, is_now, known_next, below_last, same-next, drained-next}
+use Rattle.kanal_journal.proofs.Cleaning.{clean_quiet}
+
+pub seats-none : (T : Type 0) (c : Option ℕ) → IsSeated {T = T} c []
+seats-none T None = (tt, tt)
+seats-none T (Some zero) = (tt, tt)
+seats-none T (Some (suc c)) = (tt, tt)
+
+without-end : {X : Type 0} (xs ys : List X) (n : ℕ) → length ys ≡ n → without_last n (xs ++ ys) ≡ xs
+without-end xs ys n h = take_at xs ys (length (xs ++ ys) - n) (omega (arith, length-append xs ys))
+
+or-none : (b : Bool) → (b || false) ≡ b
+or-none true = refl
+or-none false = refl
+
+-- the settlements take the ticket, or give to it
+abbrev pub is_told : {T : Type 0} → List (Settlement T) → ℕ → Bool
+is_told ss t = was_taken ss t || is_some (given ss t)
+
+ends-demands : (T : Type 0) (n t : ℕ) (ts : List ℕ) → is_told {T = T} (numbered n (map {B = ℕ × Outcome T} (λ u. (u, Ended ByClose None)) ts)) t ≡ false
+ends-demands T n t [] = refl
+ends-demands T n t (u ∷ ts) = elim (cases_Bool (u == t)) [ inl e ↦ rw e (ends-demands T n t ts) | inr e ↦ rw e (ends-demands T n t ts) ]
+
+module _ {T : Type 0} where
+  none-left : (e : Event T) (r : Reply T) (ss : List (Settlement T)) (ts : List ℕ) → ((t : ℕ) → has t ts ≡ true → goes e r ss t ≡ true) → filter (slot_stays e r ss) (map Later ts) ≡ []
+  none-left e r ss [] g = refl
+  none-left e r ss (u ∷ ts) g = rw (g u (has_self u ts)) (none-left e r ss ts (λ t k. g t (has_tail t u ts k)))
+
+  -- what ends is neither taken nor given
+  ends-told : (n t : ℕ) (xs : List (Entry T)) (ts : List ℕ) → is_told (numbered n (filter_map (ended_entry ByClose) xs ++ map (λ u. (u, Ended ByClose None)) ts)) t ≡ false
+  ends-told n t [] ts = ends-demands T n t ts
+  ends-told n t (x ∷ xs) ts = end-more n t x.ticket x.message (filter_map (ended_entry ByClose) xs) (map (λ u. (u, Ended ByClose None)) ts) (ends-told n t xs ts)
+    where
+      end-more : (n t : ℕ) (o : Option ℕ) (m : T) (rest more : List (ℕ × Outcome T)) → is_told (numbered n (rest ++ more)) t ≡ false → is_told (numbered n (cons_option (option_map (λ u. (u, Ended ByClose (Some m))) o) rest ++ more)) t ≡ false
+      end-more n t None m rest more h = h
+      end-more n t (Some u) m rest more h = elim (cases_Bool (u == t)) [ inl e ↦ rw e h | inr e ↦ rw e h ]
+
+  module _ (h : History T) (l : Line T) (now : Holds h l) (n : ℕ) where
+    abbrev reply : Reply T
+    reply = Cleared (length (cleared l))
+
+    abbrev ss : List (Settlement T)
+    ss = numbered n (ended ByClose l)
+
+    abbrev kept_line : Line T
+    kept_line = record l { line = under l.capacity l.line; demands = [] }
+
+    goes-all : (t : ℕ) → goes Close reply ss t ≡ has t (waits l)
+    goes-all t = ends_has T n ByClose l.line l.demands t
+
+    abbrev moves_close : Moves h l Close reply ss [] kept_line
+    moves_close =
+        let in_line : (t : ℕ) → has t (tickets l.line) ≡ true → has t (waits l) ≡ true = λ t k. rw (list_any-append (λ u. u == t) (tickets l.line) l.demands, k) refl in
+        let in_demands : (t : ℕ) → has t l.demands ≡ true → has t (waits l) ≡ true = λ t k. rw (list_any-append (λ u. u == t) (tickets l.line) l.demands, k) (or_true (has t (tickets l.line))) in
+        record {
+          moved = [];
+          line = append-nil _ ∙ ended_move Close reply ss l.capacity l.line now.seats (λ t k. goes-all t ∙ in_line t k);
+          demands = rw (none-left Close reply ss l.demands (λ t k. goes-all t ∙ in_demands t k)) refl;
+          goes_waiting = λ t g. sym (goes-all t) ∙ g;
+          send_new = refl;
+          entry_new = refl;
+          demand_new = refl;
+        }
+
+    told-end : (t : ℕ) → is_now Close reply ss t ≡ true → has t (waits l) ≡ true
+    told-end t k = sym (goes-all t) ∙ (sym (or-none (goes Close reply ss t)) ∙ (ap (λ b. goes Close reply ss t || b) (sym (ends-told n t l.line l.demands)) ∙ k))
+
+    clean_close : Clean l Close reply ss [] (close l).line
+    clean_close =
+        record {
+          told_of = λ t k. (told-end t k, refl);
+          waits_of = λ t k. absurd (false≢true k);
+          rises = omega arith;
+          one = inl refl;
+          apart = tt;
+          seats = seats-none T l.capacity;
+          drains = refl;
+        }
+
+    -- after a close nothing is left
+    pub holds_close : sum_by cleared_by h.replies ≡ 0 → Holds (longer h Close reply ss []) (close l).line
+    holds_close z =
+        let count : sum_by cleared_by (h.replies ++ reply ∷ []) ≡ length (cleared l) = omega (arith, sum_by-append cleared_by h.replies (reply ∷ [])) in
+        let all = all_entries h l now Close reply ss [] kept_line moves_close z in
+        let long : length (under l.capacity l.line) ≡ length (cleared l) = sym (simp length-map refl) in
+        record {
+          same = same-next h l now Close reply ss [] (close l).line clean_close;
+          served = now.served;
+          entries_is =
+              ap (λ k. without_last k (entries (longer h Close reply ss []))) count
+              ∙ (ap (without_last (length (cleared l))) (all ∙ ap (λ ms. map bare ms ++ under l.capacity l.line) (append-nil now.served)) ∙ (without-end (map bare now.served) (under l.capacity l.line) (length (cleared l)) long ∙ sym (append-nil (map bare now.served))));
+          slots_is = next_slots h l now Close reply ss [] kept_line moves_close ∙ ap (λ ms. map AtOnce ms ++ []) (append-nil now.served);
+          one = inl refl;
+          shut = inr (refl, refl, refl, refl);
+          all_drained = drained-next h l now Close reply ss [] (close l).line clean_close;
+          known = known_next h l now Close reply ss [] (close l).line clean_close;
+          below = below_last h l now Close reply ss [] (close l).line clean_close;
+          apart = tt;
+          seats = seats-none T l.capacity;
+        }
+
+    -- a step that changes nothing keeps what holds
+    pub holds_quiet : (e : Event T) (r : Reply T) → sent e r ≡ [] → asked e r ≡ [] → withdrawn e r ≡ [] → cleared_by r ≡ 0 → Holds (longer h e r [] []) l
+    holds_quiet e r s a w q =
+        let move = moves_quiet h l now.same e r s a w in
+        let clean = clean_quiet l e r now.one now.apart now.seats now.below w a in
+        let none : (t : ℕ) → was_taken h.settled t ≡ true → goes e r [] t ≡ false = λ t k. rw w refl in
+        let count : sum_by cleared_by (h.replies ++ r ∷ []) ≡ sum_by cleared_by h.replies = omega (arith, sum_by-append cleared_by h.replies (r ∷ [])) in
+        let still : entries (longer h e r [] []) ≡ entries h = entries_last h e r [] [] now.same none (rw s refl) (rw s refl) ∙ rw (s, append-nil) (entries_still e r w (entries h)) in
+        record {
+          same = same-next h l now e r [] [] l clean;
+          served = now.served;
+          entries_is = ap (λ k. without_last k (entries (longer h e r [] []))) count ∙ (ap (without_last (sum_by cleared_by h.replies)) still ∙ now.entries_is);
+          slots_is = next_slots h l now e r [] [] l move ∙ ap (λ ms. map AtOnce ms ++ map Later l.demands) (append-nil now.served);
+          one = now.one;
+          shut = elim now.shut [ inl z ↦ inl (count ∙ z) | inr z ↦ inr z ];
+          all_drained = drained-next h l now e r [] [] l clean;
+          known = known_next h l now e r [] [] l clean;
+          below = below_last h l now e r [] [] l clean;
+          apart = now.apart;
+          seats = now.seats;
+        }

@@ -1,0 +1,23 @@
+-- A withdrawal on the core, as the event that it is.
+use Rattle.std.proofs.Common.{◌≡◌, ℕ, ◌+◌, ◌<◌, zero, suc, false, List, [], ◌∷◌, length, get_or, Option, Some, None, refl, arith}
+use Rattle.kanal_core.specs.declared.internal.outcome.Ticket.{Ticket}
+use Rattle.kanal_core.specs.Line.{Line, found, has}
+use Rattle.kanal_core.specs.Calls.{Withdraws}
+use Rattle.kanal_journal.specs.declared.journal.event.Event.TheVariants.{Withdraw}
+use Rattle.kanal_journal.specs.declared.journal.event.Refusal.TheVariants.{NotWaiting}
+use Rattle.kanal_journal.specs.declared.journal.event.Reply.TheVariants.{Withdrawn, Refused}
+use Rattle.kanal_journal.specs.Steps.{only, step}
+use Rattle.kanal_journal.specs.Given.{AreNumbered}
+
+pub numbered-get : (first : ℕ) (ts : List Ticket) (next k : ℕ) (d : Ticket) → AreNumbered first ts next → k < length ts → (get_or ts k d).number ≡ first + k
+numbered-get first [] next k d a h = absurd (omega arith)
+numbered-get first (u ∷ ts) next zero d a h = omega (arith, a.0)
+numbered-get first (u ∷ ts) next (suc k) d a h = omega (arith, numbered-get (first + 1) ts next k d a.1 (omega arith))
+
+module _ {T : Type 0} where
+  pub withdrawn-told : (old new : Line T) (t : Ticket) (m : Option T) → Withdraws old t (Some m) new → only new (Withdrawn m) ≡ step old (Withdraw t.number)
+  withdrawn-told old new t (Some m) w = rw (w.0, w.1) refl
+  withdrawn-told old new t None w = rw (w.0, w.1, w.2) refl
+
+  pub not-waiting-told : (old new : Line T) (n : ℕ) → found n old.line ≡ [] → has n old.demands ≡ false → new ≡ old → only new (Refused NotWaiting None) ≡ step old (Withdraw n)
+  not-waiting-told old new n f h is = rw (f, h, is) refl

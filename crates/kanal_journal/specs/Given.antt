@@ -1,0 +1,19 @@
+-- What a run keeps beside the core: the tickets that were given, and the report's room.
+use Rattle.std.specs.Prelude.{◌≡◌, ℕ, ◌+◌, List, [], ◌∷◌, length, vec_capacity}
+use Rattle.kanal_core.specs.declared.internal.outcome.Ticket.{Ticket}
+use Rattle.kanal_core.specs.Line.{Line, tickets}
+use Rattle.kanal_journal.specs.declared.journal.event.Report.{Report}
+
+-- the tickets are numbered from `first` on, and `next` is the number after the last
+abbrev pub AreNumbered : ℕ → List Ticket → ℕ → Type 0
+AreNumbered first [] next = first ≡ next
+AreNumbered first (t ∷ ts) next = (t.number ≡ first) × AreNumbered (first + 1) ts next
+
+module _ {T : Type 0} where
+  -- how many wait
+  abbrev pub waiting_count : Line T → ℕ
+  waiting_count l = length (tickets l.line) + length l.demands
+
+  -- the report's lists have the same room
+  abbrev pub SameRoom : Report T → Report T → Type 0
+  SameRoom old new = (vec_capacity new.replies ≡ vec_capacity old.replies) × (vec_capacity new.settled ≡ vec_capacity old.settled) × (vec_capacity new.cleared ≡ vec_capacity old.cleared)

@@ -1,0 +1,74 @@
+-- One piece of an answer after another.
+use Rattle.std.proofs.Common.{◌≡◌, ℕ, ◌<◌, ◌+◌, List, [], ◌∷◌, ◌++◌, take, drop, decimal, sym, refl, ap, ◌∙◌, append_assoc, append-nil, Option, Some, None, length, get_or, min, add-one, drop-cons, arith, subst, inl, inr}
+use Rattle.std.proofs.lemmas.List.{take_more, take_all, drop_all}
+use Rattle.std.proofs.lemmas.Bool.{cases_lt}
+use Rattle.std.specs.Io.KnownBytes.{Appends}
+use Rattle.kanal_journal.specs.declared.journal.event.Reply.{Reply}
+use Rattle.kanal_journal.specs.declared.journal.event.Settlement.{Settlement}
+use Rattle.kanal_script.specs.Script.{line}
+use Rattle.kanal_script.specs.Answer.{messages_text, settlements_text, settlement_words, reply_words, counted, settled_at, replies_text}
+
+-- nothing is written
+pub appends_none : (a : Option (List ℕ)) → Appends a a []
+appends_none None = tt
+appends_none (Some xs) = sym (append-nil xs)
+
+-- one text is written, and then another
+pub appends_more : (a b c : Option (List ℕ)) (bs cs : List ℕ) → Appends a b bs → Appends b c cs → Appends a c (bs ++ cs)
+appends_more None b c bs cs h k = tt
+appends_more (Some xs) None c bs cs h k = absurd h
+appends_more (Some xs) (Some ys) None bs cs h k = absurd k
+appends_more (Some xs) (Some ys) (Some zs) bs cs h k = rw (k, h) (append_assoc xs bs cs)
+
+-- a text in two parts
+pub messages_text-append : (xs ys : List ℕ) → messages_text (xs ++ ys) ≡ messages_text xs ++ messages_text ys
+messages_text-append [] ys = refl
+messages_text-append (x ∷ xs) ys = rw (messages_text-append xs ys) (sym (append_assoc (32 ∷ decimal x) (messages_text xs) (messages_text ys)))
+
+-- the same of settlements
+pub settlements_text-append : (xs ys : List (Settlement ℕ)) → settlements_text (xs ++ ys) ≡ settlements_text xs ++ settlements_text ys
+settlements_text-append [] ys = refl
+settlements_text-append (x ∷ xs) ys = rw (settlements_text-append xs ys) (sym (append_assoc (line (settlement_words x)) (settlements_text xs) (settlements_text ys)))
+
+-- one more message
+pub message_more : (a b c : Option (List ℕ)) (messages : List ℕ) (i : ℕ) → i < length messages → Appends a b (messages_text (take i messages)) → Appends b c (32 ∷ decimal (get_or messages i 0)) → Appends a c (messages_text (take (i + 1) messages))
+message_more a b c messages i inside before next =
+    rw (take_more messages i 0 inside, messages_text-append (take i messages) (get_or messages i 0 ∷ []), append-nil (32 ∷ decimal (get_or messages i 0))) (appends_more a b c _ _ before next)
+
+-- one more settlement
+pub settlement_more : (a b c : Option (List ℕ)) (settled : List (Settlement ℕ)) (i : ℕ) (d : Settlement ℕ) → i < length settled → Appends a b (settlements_text (take i settled)) → Appends b c (line (settlement_words (get_or settled i d))) → Appends a c (settlements_text (take (i + 1) settled))
+settlement_more a b c settled i d inside before next =
+    rw (take_more settled i d inside, settlements_text-append (take i settled) (get_or settled i d ∷ []), append-nil (line (settlement_words (get_or settled i d)))) (appends_more a b c _ _ before next)
+
+-- as many as there are
+pub take-min : {X : Type 0} (n : ℕ) (xs : List X) → take (min n (length xs)) xs ≡ take n xs
+take-min n xs = elim (cases_lt n (length xs)) [ inl h ↦ ap (λ k. take k xs) (omega arith) | inr h ↦ (ap (λ k. take k xs) (omega arith) ∙ take_all (length xs) xs (omega arith)) ∙ sym (take_all n xs h) ]
+
+-- the rest of as many as there are
+pub drop-min : {X : Type 0} (n : ℕ) (xs : List X) → drop (min n (length xs)) xs ≡ drop n xs
+drop-min n xs = elim (cases_lt n (length xs)) [ inl h ↦ ap (λ k. drop k xs) (omega arith) | inr h ↦ (ap (λ k. drop k xs) (omega arith) ∙ drop_all (length xs) xs (omega arith)) ∙ sym (drop_all n xs h) ]
+
+-- what is written, and what is still to write, are the report
+abbrev pub IsPrintedTo : Option (List ℕ) → Option (List ℕ) → List ℕ → List ℕ → Type 0
+IsPrintedTo a b later whole = (front : List ℕ) × Appends a b front × (front ++ later ≡ whole)
+
+-- one more step
+pub step_more : (a b c d : Option (List ℕ)) (step : ℕ) (replies : List (Reply ℕ)) (reply : Reply ℕ) (messages : List ℕ) (settled : List (Settlement ℕ)) (whole : List ℕ) → drop step replies ≡ reply ∷ drop (step + 1) replies → IsPrintedTo a b (replies_text step (drop step replies) messages settled) whole → Appends b c (line (reply_words reply (take (counted reply) messages))) → Appends c d (settlements_text (take (settled_at step settled) settled)) → IsPrintedTo a d (replies_text (step + 1) (drop (step + 1) replies) (drop (counted reply) messages) (drop (settled_at step settled) settled)) whole
+step_more a b c d step replies reply messages settled whole first before next last =
+    let own = line (reply_words reply (take (counted reply) messages)) in
+    let ends = settlements_text (take (settled_at step settled) settled) in
+    let later = replies_text (step + 1) (drop (step + 1) replies) (drop (counted reply) messages) (drop (settled_at step settled) settled) in
+    let text : before.0 ++ (own ++ (ends ++ later)) ≡ whole = subst (λ (rs : List (Reply ℕ)). before.0 ++ replies_text step rs messages settled ≡ whole) first before.2 in
+    ((before.0 ++ own) ++ ends, appends_more a c d _ _ (appends_more a b c _ _ before.1 next) last, (append_assoc (before.0 ++ own) ends later ∙ append_assoc before.0 own (ends ++ later)) ∙ text)
+
+-- one more step, as the code cuts the messages and the settlements
+pub step_cut : (a b c d : Option (List ℕ)) (step : ℕ) (replies : List (Reply ℕ)) (e : Reply ℕ) (messages own messages' : List ℕ) (settled ends settled' : List (Settlement ℕ)) (whole : List ℕ) (k n : ℕ) → step < length replies → k ≡ min (counted (get_or replies step e)) (length messages) → own ≡ take k messages → messages' ≡ drop k messages → n ≡ settled_at step settled → ends ≡ take n settled → settled' ≡ drop n settled → IsPrintedTo a b (replies_text step (drop step replies) messages settled) whole → Appends b c (line (reply_words (get_or replies step e) own)) → Appends c d (settlements_text ends) → IsPrintedTo a d (replies_text (step + 1) (drop (step + 1) replies) messages' settled') whole
+step_cut a b c d step replies e messages own messages' settled ends settled' whole k n inside k-is own-is messages'-is n-is ends-is settled'-is before next last =
+    let reply = get_or replies step e in
+    let front : own ≡ take (counted reply) messages = own-is ∙ (ap (λ i. take i messages) k-is ∙ take-min (counted reply) messages) in
+    let back : messages' ≡ drop (counted reply) messages = messages'-is ∙ (ap (λ i. drop i messages) k-is ∙ drop-min (counted reply) messages) in
+    let front' : ends ≡ take (settled_at step settled) settled = ends-is ∙ ap (λ i. take i settled) n-is in
+    let back' : settled' ≡ drop (settled_at step settled) settled = settled'-is ∙ ap (λ i. drop i settled) n-is in
+    let next' = subst (λ (xs : List ℕ). Appends b c (line (reply_words reply xs))) front next in
+    let last' = subst (λ (xs : List (Settlement ℕ)). Appends c d (settlements_text xs)) front' last in
+    rw (back, back') (step_more a b c d step replies reply messages settled whole (subst (λ (i : ℕ). drop step replies ≡ reply ∷ drop i replies) (sym (add-one step)) (drop-cons replies step e inside)) before next' last')

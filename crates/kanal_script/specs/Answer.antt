@@ -1,0 +1,102 @@
+-- How a script's answer is written.
+use Rattle.std.specs.Prelude.{◌==◌, ℕ, ◌+◌, List, [], ◌∷◌, ◌++◌, take, drop, Option, Some, None, codes, decimal}
+use Rattle.std.specs.List.{prefix_len}
+use Rattle.kanal_core.specs.declared.internal.outcome.Reason.{Reason}
+use Rattle.kanal_core.specs.declared.internal.outcome.Reason.TheVariants.{Closed as ByClose, SendClosed as BySenders, ReceiveClosed as ByReceivers}
+use Rattle.kanal_core.specs.declared.internal.outcome.Outcome.{Outcome}
+use Rattle.kanal_core.specs.declared.internal.outcome.Outcome.TheVariants.{Taken, Given, Ended}
+use Rattle.kanal_journal.specs.declared.journal.event.Refusal.{Refusal}
+use Rattle.kanal_journal.specs.declared.journal.event.Refusal.TheVariants.{Closed, ReceiveClosed, SendClosed, Timeout, NoMemory, TooMany, CloseError, NotWaiting}
+use Rattle.kanal_journal.specs.declared.journal.event.Reply.{Reply}
+use Rattle.kanal_journal.specs.declared.journal.event.Reply.TheVariants.{Sent, Waits, Yes, No, Got, Nothing, Withdrawn, Cleared, Number, Refused}
+use Rattle.kanal_journal.specs.declared.journal.event.Settlement.{Settlement}
+use Rattle.kanal_journal.specs.declared.journal.event.Report.{Report}
+use Rattle.kanal_script.specs.Script.{line}
+
+-- the name of a refusal
+abbrev pub refusal_name : Refusal → List ℕ
+refusal_name Closed = codes "Closed"
+refusal_name ReceiveClosed = codes "ReceiveClosed"
+refusal_name SendClosed = codes "SendClosed"
+refusal_name Timeout = codes "Timeout"
+refusal_name NoMemory = codes "NoMemory"
+refusal_name TooMany = codes "TooMany"
+refusal_name CloseError = codes "CloseError"
+refusal_name NotWaiting = codes "NotWaiting"
+
+-- the name of the reason for which a wait ended
+abbrev pub reason_name : Reason → List ℕ
+reason_name ByClose = codes "Closed"
+reason_name BySenders = codes "SendClosed"
+reason_name ByReceivers = codes "ReceiveClosed"
+
+-- a message behind a space, if there is one
+abbrev pub back_text : Option ℕ → List ℕ
+back_text None = []
+back_text (Some message) = 32 ∷ decimal message
+
+-- the messages, each behind a space
+abbrev pub messages_text : List ℕ → List ℕ
+messages_text [] = []
+messages_text (message ∷ messages) = (32 ∷ decimal message) ++ messages_text messages
+
+-- a reply's words; a count is followed by the messages that it counts
+abbrev pub reply_words : Reply ℕ → List ℕ → List ℕ
+reply_words Sent counted = codes "sent"
+reply_words (Waits ticket) counted = codes "waits " ++ decimal ticket
+reply_words Yes counted = codes "yes"
+reply_words (No message) counted = codes "no " ++ decimal message
+reply_words (Got message) counted = codes "got " ++ decimal message
+reply_words Nothing counted = codes "nothing"
+reply_words (Withdrawn back) counted = codes "withdrawn" ++ back_text back
+reply_words (Cleared count) counted = codes "cleared " ++ (decimal count ++ messages_text counted)
+reply_words (Number number) counted = decimal number
+reply_words (Refused refusal back) counted = codes "refused " ++ (refusal_name refusal ++ back_text back)
+
+-- how many messages a reply counts
+abbrev pub counted : Reply ℕ → ℕ
+counted (Cleared count) = count
+counted Sent = 0
+counted (Waits ticket) = 0
+counted Yes = 0
+counted (No message) = 0
+counted (Got message) = 0
+counted Nothing = 0
+counted (Withdrawn back) = 0
+counted (Number number) = 0
+counted (Refused refusal back) = 0
+
+-- what became of a wait
+abbrev pub outcome_words : Outcome ℕ → List ℕ
+outcome_words Taken = codes "taken"
+outcome_words (Given message) = codes "given " ++ decimal message
+outcome_words (Ended reason back) = codes "ended " ++ (reason_name reason ++ back_text back)
+
+-- a settlement's words
+abbrev pub settlement_words : Settlement ℕ → List ℕ
+settlement_words settlement = codes "ticket " ++ (decimal settlement.ticket ++ (32 ∷ outcome_words settlement.outcome))
+
+-- the settlements' lines
+abbrev pub settlements_text : List (Settlement ℕ) → List ℕ
+settlements_text [] = []
+settlements_text (settlement ∷ settled) = line (settlement_words settlement) ++ settlements_text settled
+
+-- how many settlements in front are the step's
+abbrev pub settled_at : ℕ → List (Settlement ℕ) → ℕ
+settled_at step settled = prefix_len (λ s. s.step == step) settled
+
+-- from the step on: each reply's line with the messages that it counts, and then its settlements' lines
+abbrev pub replies_text : ℕ → List (Reply ℕ) → List ℕ → List (Settlement ℕ) → List ℕ
+replies_text step [] messages settled = []
+replies_text step (reply ∷ replies) messages settled =
+    line (reply_words reply (take (counted reply) messages))
+    ++ (settlements_text (take (settled_at step settled) settled)
+    ++ replies_text (step + 1) replies (drop (counted reply) messages) (drop (settled_at step settled) settled))
+
+-- a report, printed
+abbrev pub report_text : Report ℕ → List ℕ
+report_text report = replies_text 0 report.replies.items report.cleared.items report.settled.items
+
+-- what is printed of a channel that can't be so large
+abbrev pub too_large_text : List ℕ
+too_large_text = line (codes "refused TooLarge")

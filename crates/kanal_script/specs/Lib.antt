@@ -1,0 +1,4 @@
+pub mod Script
+pub mod Answer
+pub mod Program
+pub mod Faults

@@ -1,0 +1,43 @@
+-- What the program answers, and what it tells of a fault.
+use Rattle.std.specs.Prelude.{◌≡◌, ℕ, List, ◌++◌, Option, Some, None, MatchOption, codes, decimal}
+use Rattle.std.specs.Io.KnownBytes.{Appends}
+use Rattle.kanal_journal.specs.declared.journal.event.Event.{Event}
+use Rattle.kanal_journal.specs.declared.journal.event.Report.{Report}
+use Rattle.kanal_journal.specs.Runs.{Runs}
+use Rattle.kanal_script.specs.declared.parser.ParseError.{ParseError}
+use Rattle.kanal_script.specs.declared.parser.ParseError.TheVariants.{Unreadable as Unread, NoMemory as NoRoom}
+use Rattle.kanal_script.specs.declared.program.Fault.{Fault}
+use Rattle.kanal_script.specs.declared.program.Fault.TheVariants.{Unreadable, NoMemory, Device}
+use Rattle.kanal_script.specs.Script.{script_text, IsWritten}
+use Rattle.kanal_script.specs.Answer.{report_text, too_large_text}
+
+-- what a parse error is to the program
+abbrev pub fault_of : ParseError → Fault
+fault_of (Unread line) = Unreadable line
+fault_of NoRoom = NoMemory
+
+-- the status that a fault ends with
+abbrev pub fault_status : Fault → ℕ
+fault_status (Unreadable line) = 2
+fault_status NoMemory = 1
+fault_status Device = 1
+
+-- what is told of a fault
+abbrev pub fault_text : Fault → List ℕ
+fault_text (Unreadable line) = codes "kanal-run: line " ++ (decimal line ++ codes ": unreadable")
+fault_text NoMemory = codes "kanal-run: no memory"
+fault_text Device = codes "kanal-run: device fault"
+
+-- the bytes are a script, and this is what the channel tells along it: nothing if it can't be so large
+abbrev pub IsAnswer : List ℕ → Option (Report ℕ) → Type 0
+IsAnswer bytes answer = (capacity : Option ℕ) × (events : List (Event ℕ)) × IsWritten bytes (script_text capacity events)
+    × MatchOption answer (capacity ≡ Some 18446744073709551615) (λ report. Runs capacity events report)
+
+-- an answer, printed
+abbrev pub answer_text : Option (Report ℕ) → List ℕ
+answer_text None = too_large_text
+answer_text (Some report) = report_text report
+
+-- the output grows by just the printed answer to the bytes
+abbrev pub Answers : List ℕ → Option (List ℕ) → Option (List ℕ) → Type 0
+Answers bytes old new = (answer : Option (Report ℕ)) × IsAnswer bytes answer × Appends old new (answer_text answer)

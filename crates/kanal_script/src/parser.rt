@@ -1,0 +1,254 @@
+//! Reads a script from bytes, in one pass.
+//!
+//! It stands on `script` and on the names of `kanal_journal`'s events. The input is cut into lines
+//! at each line feed, and a line into words at each single space. No other module cuts input.
+ghost use Rattle.std.specs.Prelude.{◌≡◌, ◌↔◌, ℕ, ◌+◌, ◌<◌, ◌≤◌, ◌^◌, [], ◌∷◌, ◌++◌, length, IsTrue, IsNone, IfSome, IfOk, IfErr, OnOk, ◌≢◌, decimal};
+ghost use Rattle.kanal_script.specs.declared.parser.ParseError.TheVariants.{NoMemory};
+ghost use Rattle.kanal_script.specs.Faults.{IsFirstFault};
+ghost use Rattle.kanal_script.specs.Script.{line, capacity_words, side_word, ask_word, event_words, script_text, IsReadTo, IsWritten, IsPlain};
+
+use crate::script::Script;
+use kanal_journal::journal::{Ask, Event, Side};
+use std::alloc::{AllocFailed, Global};
+use std::str;
+
+/// Why bytes are no script.
+#[derive(Clone, Copy, Debug, PartialEq, Eq)]
+pub enum ParseError {
+    /// The first line that can't be read, counted from 1.
+    Unreadable(usize),
+    /// There was no memory for the events before that line.
+    NoMemory,
+}
+
+impl<T: Drop> From<AllocFailed<T>> for ParseError {
+    ghost from_gives = { λ _ error. error ≡ NoMemory };
+
+    fn from(_failed: AllocFailed<T>) -> ParseError {
+        ParseError::NoMemory
+    }
+}
+
+/// What is left to read, and the number of the line in which it begins.
+#[derive(Drop)]
+struct Parser<'a> {
+    rest: &'a [u8],
+    line: usize,
+    ghost fits: { line + length rest.now < 2 ^ 64 },
+}
+
+impl<'a> Parser<'a> {
+    fn new(bytes: &'a [u8]) -> Parser<'a>
+        ensures rest { result.rest.now ≡ bytes.now }
+        ensures line { result.line ≡ 1 }
+    {
+        Parser {
+            rest: bytes,
+            line: 1,
+        }
+    }
+
+    /// Takes what stands before the next space, line feed or end, if it is text.
+    fn word(&mut self) -> Option<&'a str>
+        ensures taken { IfSome result (λ word. self.old.rest.now ≡ word.now ++ self.new.rest.now) }
+        ensures line { self.new.line ≡ self.old.line }
+    {
+        let rest = self.rest;
+        let (word, after) = rest.split_at(word_len(rest));
+        self.rest = after;
+        str::from_utf8(word).ok()
+    }
+
+    /// Takes the byte if it is the next one.
+    fn skip(&mut self, byte: u8) -> bool
+        ensures taken { IsTrue result → self.old.rest.now ≡ byte ∷ self.new.rest.now }
+        ensures line { self.new.line ≡ self.old.line }
+    {
+        match self.rest.split_first() {
+            Some((first, after)) if *first == byte => {
+                self.rest = after;
+                true
+            },
+            _ => false,
+        }
+    }
+
+    /// Takes a space and the word behind it.
+    fn next_word(&mut self) -> Option<&'a str>
+        ensures taken { IfSome result (λ word. self.old.rest.now ≡ 32 ∷ (word.now ++ self.new.rest.now)) }
+        ensures line { self.new.line ≡ self.old.line }
+    {
+        if self.skip(b' ') { self.word() } else { None }
+    }
+
+    /// Takes a space and a number.
+    fn argument(&mut self) -> Option<u64>
+        ensures taken { IfSome result (λ n. self.old.rest.now ≡ 32 ∷ (decimal n ++ self.new.rest.now)) }
+        ensures line { self.new.line ≡ self.old.line }
+    {
+        number(self.next_word()?)
+    }
+
+    /// Takes the words of a `cap` line.
+    fn capacity(&mut self) -> Option<Option<usize>>
+        ensures taken { IfSome result (λ capacity. self.old.rest.now ≡ capacity_words capacity ++ self.new.rest.now) }
+        ensures line { self.new.line ≡ self.old.line }
+    {
+        if self.word()? != "cap" {
+            return None;
+        }
+        match self.next_word()? {
+            "unbounded" => Some(None),
+            word => Some(Some(number(word)? as usize)),
+        }
+    }
+
+    /// Takes the words of an event.
+    fn event(&mut self) -> Option<Event<u64>>
+        ensures taken { IfSome result (λ event. self.old.rest.now ≡ event_words event ++ self.new.rest.now) }
+        ensures line { self.new.line ≡ self.old.line }
+    {
+        match self.word()? {
+            "send" => Some(Event::Send(self.argument()?)),
+            "try_send" => Some(Event::TrySend(self.argument()?)),
+            "recv" => Some(Event::Recv),
+            "recv_late" => Some(Event::RecvLate),
+            "try_recv" => Some(Event::TryRecv),
+            "withdraw" => Some(Event::Withdraw(self.argument()?)),
+            "close" => Some(Event::Close),
+            "ask" => {
+                let side = self.side()?;
+                Some(Event::Ask(side, self.question()?))
+            },
+            _ => None,
+        }
+    }
+
+    /// Takes a space and the name of a side.
+    fn side(&mut self) -> Option<Side>
+        ensures taken { IfSome result (λ side. self.old.rest.now ≡ 32 ∷ (side_word side ++ self.new.rest.now)) }
+        ensures line { self.new.line ≡ self.old.line }
+    {
+        match self.next_word()? {
+            "tx" => Some(Side::Tx),
+            "rx" => Some(Side::Rx),
+            _ => None,
+        }
+    }
+
+    /// Takes a space and the name of a question.
+    fn question(&mut self) -> Option<Ask>
+        ensures taken { IfSome result (λ ask. self.old.rest.now ≡ 32 ∷ (ask_word ask ++ self.new.rest.now)) }
+        ensures line { self.new.line ≡ self.old.line }
+    {
+        match self.next_word()? {
+            "len" => Some(Ask::Len),
+            _ => None,
+        }
+    }
+
+    /// Takes the end of a line, after which the next line begins.
+    fn end_line(&mut self) -> bool
+        ensures taken { IsTrue result → IsReadTo self.old.rest.now (line []) self.new.rest.now }
+        ensures next { IsTrue result → 0 < length self.new.rest.now → self.new.line ≡ self.old.line + 1 }
+    {
+        if self.rest.is_empty() {
+            return true;
+        }
+        if self.skip(b'\n') {
+            self.line += 1;
+            true
+        } else {
+            false
+        }
+    }
+
+    /// Takes the first line.
+    fn capacity_line(&mut self) -> Result<Option<usize>, ParseError>
+        ensures taken { IfOk result (λ capacity. IsReadTo self.old.rest.now (line (capacity_words capacity)) self.new.rest.now) }
+        ensures next { OnOk result (0 < length self.new.rest.now → self.new.line ≡ self.old.line + 1) }
+        ensures fault { IfErr result (λ error. error ≡ ParseError.Unreadable self.old.line) }
+    {
+        let line = self.line;
+        match self.capacity() {
+            Some(capacity) if self.end_line() => Ok(capacity),
+            _ => Err(ParseError::Unreadable(line)),
+        }
+    }
+
+    /// Takes a line after the first.
+    fn event_line(&mut self) -> Result<Event<u64>, ParseError>
+        ensures taken { IfOk result (λ event. IsReadTo self.old.rest.now (line (event_words event)) self.new.rest.now) }
+        ensures next { OnOk result (0 < length self.new.rest.now → self.new.line ≡ self.old.line + 1) }
+        ensures fault { IfErr result (λ error. error ≡ ParseError.Unreadable self.old.line) }
+    {
+        let line = self.line;
+        match self.event() {
+            Some(event) if self.end_line() => Ok(event),
+            _ => Err(ParseError::Unreadable(line)),
+        }
+    }
+}
+
+/// How many bytes stand before the first space or line feed.
+fn word_len(bytes: &[u8]) -> usize
+    ensures { result ≤ length bytes.now }
+{
+    bytes
+        .iter()
+        .position(|byte| *byte == b' ' || *byte == b'\n')
+        .unwrap_or(bytes.len())
+}
+
+/// Whether the word begins as a number does: with no plus, and with no zero before a digit.
+fn is_plain(word: &str) -> bool
+    ensures { IsTrue result ↔ IsPlain word.now }
+{
+    match word.as_bytes() {
+        [b'+', ..] | [b'0', _, ..] => false,
+        _ => true,
+    }
+}
+
+/// The number that the word writes in decimal digits, with no leading zero.
+///
+/// `None` says that the word is no such number, or one above 18446744073709551615.
+///
+/// ```
+/// assert_eq!(rt; number("10"), Some(10));
+/// assert_eq!(rt; number("010"), None);
+/// ```
+pub fn number(word: &str) -> Option<u64>
+    ensures value { IfSome result (λ n. word.now ≡ decimal n) }
+    ensures none { IsNone result → (n : ℕ) → n < 2 ^ 64 → word.now ≢ decimal n }
+{
+    if is_plain(word) {
+        word.parse::<u64>().ok()
+    } else {
+        None
+    }
+}
+
+/// Reads a script.
+///
+/// Its first line must be a `cap` line, and each line after it an event. A last line feed may be
+/// left out. The error tells the first line that can't be read, or that memory was refused before
+/// one was found; all lines before it were read.
+///
+/// ```
+/// let script = parse(rt.alloc(), b"cap 1\ntry_send 7")?;
+/// assert_eq!(rt; script.capacity, Some(1));
+/// assert_eq!(rt; script.events.len(), 1);
+/// ```
+pub fn parse(alloc: Global, bytes: &[u8]) -> Result<Script, ParseError>
+    ensures fault { IfErr result (IsFirstFault bytes.now) }
+    ensures written { IfOk result (λ script. IsWritten bytes.now (script_text script.capacity script.events.items)) }
+{
+    let mut parser = Parser::new(bytes);
+    let capacity = parser.capacity_line()?;
+    let mut events = Vec::new(alloc);
+    while !parser.rest.is_empty() {
+        events.push(parser.event_line()?)?;
+    }
+    Ok(Script { capacity, events })
+}

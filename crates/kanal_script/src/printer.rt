@@ -1,0 +1,190 @@
+//! Prints what a script answered, a line a step and then that step's settlements.
+//!
+//! It stands on the names of `kanal_journal`'s replies and of `kanal_core`'s outcomes. No other
+//! module writes these texts.
+ghost use Rattle.std.specs.Prelude.{◌≡◌, ◌++◌, ◌≤◌, length, OnOk};
+ghost use Rattle.std.specs.Io.KnownBytes.{Appends};
+ghost use Rattle.kanal_script.specs.Script.{line};
+ghost use Rattle.kanal_script.specs.Answer.{refusal_name, reason_name, messages_text, reply_words, counted, settlement_words, settlements_text, settled_at, report_text, too_large_text};
+
+use kanal_core::internal::{Outcome, Reason};
+use kanal_journal::journal::{Refusal, Reply, Report, Settlement};
+use std::io;
+use std::io::Write;
+
+/// The name of a refusal, as it is printed.
+fn refusal_name(refusal: Refusal) -> &'static str
+    ensures { result.now ≡ refusal_name refusal }
+{
+    match refusal {
+        Refusal::Closed => "Closed",
+        Refusal::ReceiveClosed => "ReceiveClosed",
+        Refusal::SendClosed => "SendClosed",
+        Refusal::Timeout => "Timeout",
+        Refusal::NoMemory => "NoMemory",
+        Refusal::TooMany => "TooMany",
+        Refusal::CloseError => "CloseError",
+        Refusal::NotWaiting => "NotWaiting",
+    }
+}
+
+/// The name of the reason for which a wait ended, as it is printed.
+fn reason_name(reason: Reason) -> &'static str
+    ensures { result.now ≡ reason_name reason }
+{
+    match reason {
+        Reason::Closed => "Closed",
+        Reason::SendClosed => "SendClosed",
+        Reason::ReceiveClosed => "ReceiveClosed",
+    }
+}
+
+/// How many messages a reply counts.
+fn counted(reply: &Reply<u64>) -> usize
+    ensures { result ≡ counted reply.now }
+{
+    match reply {
+        Reply::Cleared(count) => *count,
+        _ => 0,
+    }
+}
+
+/// Prints each message behind a space, and ends the line.
+fn print_messages<W: Write>(output: &mut W, messages: &[u64]) -> io::Result<()>
+    ensures { OnOk result (Appends (W.contents output.old) (W.contents output.new) (line (messages_text messages.now))) }
+{
+    for message in messages {
+        write!(output, " {message}")?;
+    }
+    writeln!(output, "")
+}
+
+/// Prints a reply's line.
+///
+/// The count of a close is followed by the messages, and a refusal or a withdrawal by the message
+/// that comes back with it. The error is the writer's own; a beginning of the line may then have
+/// been written.
+///
+/// ```
+/// let mut text = Vec::new(rt.alloc());
+/// print_reply(&mut text, &Reply::Refused(Refusal::Closed, Some(7)), &[])?;
+/// assert_eq!(rt; text.as_slice(), b"refused Closed 7\n".as_slice());
+/// ```
+pub fn print_reply<W: Write>(output: &mut W, reply: &Reply<u64>, messages: &[u64]) -> io::Result<()>
+    ensures { OnOk result (Appends (W.contents output.old) (W.contents output.new) (line (reply_words reply.now messages.now))) }
+{
+    match reply {
+        Reply::Sent => writeln!(output, "sent"),
+        Reply::Waits(ticket) => writeln!(output, "waits {ticket}"),
+        Reply::Yes => writeln!(output, "yes"),
+        Reply::No(message) => writeln!(output, "no {message}"),
+        Reply::Got(message) => writeln!(output, "got {message}"),
+        Reply::Nothing => writeln!(output, "nothing"),
+        Reply::Withdrawn(None) => writeln!(output, "withdrawn"),
+        Reply::Withdrawn(Some(message)) => writeln!(output, "withdrawn {message}"),
+        Reply::Cleared(count) => {
+            write!(output, "cleared {count}")?;
+            print_messages(output, messages)
+        },
+        Reply::Number(number) => writeln!(output, "{number}"),
+        Reply::Refused(refusal, None) => writeln!(output, "refused {}", refusal_name(*refusal)),
+        Reply::Refused(refusal, Some(message)) => {
+            writeln!(output, "refused {} {message}", refusal_name(*refusal))
+        },
+    }
+}
+
+/// Prints a settlement's line: the ticket, what became of its wait, and the message that a receive
+/// is given or a send has back.
+///
+/// The error is the writer's own; a beginning of the line may then have been written.
+///
+/// ```
+/// let settlement = Settlement { step: 2, ticket: 0, outcome: Outcome::Given(7) };
+/// let mut text = Vec::new(rt.alloc());
+/// print_settlement(&mut text, &settlement)?;
+/// assert_eq!(rt; text.as_slice(), b"ticket 0 given 7\n".as_slice());
+/// ```
+pub fn print_settlement<W: Write>(output: &mut W, settlement: &Settlement<u64>) -> io::Result<()>
+    ensures { OnOk result (Appends (W.contents output.old) (W.contents output.new) (line (settlement_words settlement.now))) }
+{
+    let ticket = settlement.ticket;
+    match &settlement.outcome {
+        Outcome::Taken => writeln!(output, "ticket {ticket} taken"),
+        Outcome::Given(message) => writeln!(output, "ticket {ticket} given {message}"),
+        Outcome::Ended(reason, None) => {
+            writeln!(output, "ticket {ticket} ended {}", reason_name(*reason))
+        },
+        Outcome::Ended(reason, Some(message)) => {
+            writeln!(
+                output,
+                "ticket {ticket} ended {} {message}",
+                reason_name(*reason)
+            )
+        },
+    }
+}
+
+/// How many of the settlements, from the first on, are the step's.
+fn settled_at(step: usize, settled: &[Settlement<u64>]) -> usize
+    ensures count { result ≡ settled_at step settled.now }
+    ensures within { result ≤ length settled.now }
+{
+    settled
+        .iter()
+        .take_while(|settlement| settlement.step == step)
+        .count()
+}
+
+/// Prints the settlements' lines.
+fn print_settlements<W: Write>(output: &mut W, settled: &[Settlement<u64>]) -> io::Result<()>
+    ensures { OnOk result (Appends (W.contents output.old) (W.contents output.new) (settlements_text settled.now)) }
+{
+    for settlement in settled {
+        print_settlement(output, settlement)?;
+    }
+    Ok(())
+}
+
+/// Prints a report: the line of each step's reply, each followed by that step's settlements.
+///
+/// What is left in the line at the end isn't printed. The error is the writer's own; a beginning of
+/// the text may then have been written.
+///
+/// ```
+/// let script = parse(rt.alloc(), b"cap 0\nsend 7\ntry_recv")?;
+/// let report = run(rt.alloc(), script.capacity, script.events)?;
+/// let mut text = Vec::new(rt.alloc());
+/// print(&mut text, &report)?;
+/// assert_eq!(rt; text.as_slice(), b"waits 0\ngot 7\nticket 0 taken\n".as_slice());
+/// ```
+pub fn print<W: Write>(output: &mut W, report: &Report<u64>) -> io::Result<()>
+    ensures { OnOk result (Appends (W.contents output.old) (W.contents output.new) (report_text report.now)) }
+{
+    let mut messages = report.cleared.as_slice();
+    let mut settled = report.settled.as_slice();
+    for (step, reply) in report.replies.iter().enumerate() {
+        let (own, later) = messages.split_at(counted(reply).min(messages.len()));
+        print_reply(output, reply, own)?;
+        messages = later;
+        let (own, later) = settled.split_at(settled_at(step, settled));
+        print_settlements(output, own)?;
+        settled = later;
+    }
+    Ok(())
+}
+
+/// Prints the one line of a script whose capacity is too large.
+///
+/// The error is the writer's own; a beginning of the line may then have been written.
+///
+/// ```
+/// let mut text = Vec::new(rt.alloc());
+/// print_too_large(&mut text)?;
+/// assert_eq!(rt; text.as_slice(), b"refused TooLarge\n".as_slice());
+/// ```
+pub fn print_too_large<W: Write>(output: &mut W) -> io::Result<()>
+    ensures { OnOk result (Appends (W.contents output.old) (W.contents output.new) too_large_text) }
+{
+    writeln!(output, "refused TooLarge")
+}

@@ -1,0 +1,168 @@
+//! The work of the program `kanal_run`, over any reader and any two writers.
+//!
+//! It stands on `parser`, `kanal_journal`'s `run` and `printer`, which it calls one after another:
+//! nothing is judged before the input is read to its end, and nothing is written before all steps
+//! are made.
+ghost use Rattle.std.specs.Prelude.{◌≡◌, ◌≤◌, Some, IfSome, IfOk, IfErr, OnOk, OnErr};
+ghost use Rattle.std.specs.Io.KnownBytes.{Appends};
+ghost use Rattle.kanal_script.specs.Program.{fault_of, fault_status, fault_text, IsAnswer, answer_text, Answers};
+
+use crate::parser::{ParseError, parse};
+use crate::printer::{print, print_too_large};
+use kanal_core::error::NewError;
+use kanal_journal::journal::{Report, run};
+use std::alloc::Global;
+use std::io::{Read, Write};
+use std::{fmt, io};
+
+/// Why a script has no answer.
+#[derive(Clone, Copy, Debug, PartialEq, Eq)]
+enum Fault {
+    /// The line of this number, counted from 1, is the first that can't be read.
+    Unreadable(usize),
+    /// Memory was refused.
+    NoMemory,
+    /// Reading or writing failed.
+    Device,
+}
+
+impl Fault {
+    /// The status that the program ends with.
+    fn status(self) -> u8
+        ensures { result ≡ fault_status self }
+    {
+        match self {
+            Fault::Unreadable(_) => 2,
+            Fault::NoMemory | Fault::Device => 1,
+        }
+    }
+}
+
+impl fmt::Display for Fault {
+    ghost output = { λ fault. Some (fault_text fault) };
+
+    fn fmt<W: fmt::Write>(&self, f: &mut fmt::Formatter<W>) -> fmt::Result {
+        match self {
+            Fault::Unreadable(line) => write!(f, "kanal-run: line {line}: unreadable"),
+            Fault::NoMemory => write!(f, "kanal-run: no memory"),
+            Fault::Device => write!(f, "kanal-run: device fault"),
+        }
+    }
+}
+
+impl From<ParseError> for Fault {
+    ghost from_gives = { λ error fault. fault ≡ fault_of error };
+
+    fn from(error: ParseError) -> Fault {
+        match error {
+            ParseError::Unreadable(line) => Fault::Unreadable(line),
+            ParseError::NoMemory => Fault::NoMemory,
+        }
+    }
+}
+
+/// Reads the input to its end.
+fn read_all<R: Read>(alloc: Global, input: &mut R) -> Result<Vec<u8>, Fault>
+    ensures { IfOk result (λ read. IfSome (R.remaining input.old) (λ bytes. read.items ≡ bytes)) }
+{
+    let mut bytes = Vec::new(alloc);
+    match input.read_to_end(&mut bytes) {
+        Ok(_) => Ok(bytes),
+        Err(error) if error.kind() == io::ErrorKind::OutOfMemory => Err(Fault::NoMemory),
+        Err(_) => Err(Fault::Device),
+    }
+}
+
+/// Makes all steps of the script that the bytes write. `None` says that its capacity is too large.
+fn run_script(alloc: Global, bytes: &[u8]) -> Result<Option<Report<u64>>, Fault>
+    ensures { IfOk result (λ answer. IsAnswer bytes.now answer) }
+{
+    let script = parse(alloc, bytes)?;
+    match run(alloc, script.capacity, script.events) {
+        Ok(report) => Ok(Some(report)),
+        Err(NewError::TooLarge) => Ok(None),
+        Err(NewError::NoMemory) => Err(Fault::NoMemory),
+    }
+}
+
+/// The answer's text.
+fn printed(alloc: Global, answer: &Option<Report<u64>>) -> Result<Vec<u8>, Fault>
+    ensures ok { IfOk result (λ text. text.items ≡ answer_text answer.now) }
+    ensures err { IfErr result (λ fault. fault ≡ Fault.NoMemory) }
+{
+    let mut text = Vec::new(alloc);
+    let result = match answer {
+        Some(report) => print(&mut text, report),
+        None => print_too_large(&mut text),
+    };
+    match result {
+        Ok(()) => Ok(text),
+        Err(_) => Err(Fault::NoMemory),
+    }
+}
+
+/// Writes a text, and flushes.
+fn write_text<W: Write>(output: &mut W, text: &[u8]) -> Result<(), Fault>
+    ensures ok { OnOk result (Appends (W.contents output.old) (W.contents output.new) text.now) }
+    ensures err { IfErr result (λ fault. fault ≡ Fault.Device) }
+{
+    let Ok(()) = output.write_all(text) else {
+        return Err(Fault::Device);
+    };
+    let Ok(()) = output.flush() else {
+        return Err(Fault::Device);
+    };
+    Ok(())
+}
+
+/// Reads a script and writes its answer.
+fn answer<R: Read, W: Write>(alloc: Global, input: &mut R, output: &mut W) -> Result<(), Fault>
+    ensures ok { OnOk result (IfSome (R.remaining input.old) (λ bytes. Answers bytes (W.contents output.old) (W.contents output.new))) }
+    ensures unreadable { IfErr result (λ fault. fault_status fault ≡ 2 → output.new ≡ output.old) }
+{
+    let bytes = read_all(alloc, input)?;
+    let answer = run_script(alloc, &bytes)?;
+    drop(bytes);
+    let text = printed(alloc, &answer)?;
+    write_text(output, &text)
+}
+
+/// Reads a script from `input`, makes its steps and writes a line for each to `output`.
+///
+/// The answer is the program's status:
+///
+/// - 0: the whole answer is written and flushed. A capacity that is too large is answered, too, by
+///   the line `refused TooLarge`.
+/// - 2: a line can't be read. Nothing is written to `output`.
+/// - 1: memory is refused, or a device fails. Where it was `output` that failed, a beginning of the
+///   answer may be written.
+///
+/// A fault's text goes to `errors`; the status is the same if that fails. The input is read to its
+/// end before its first line is judged, so this waits for as long as the reader does.
+///
+/// ```
+/// let mut input: &[u8] = b"cap 1\ntry_send 7\ntry_recv\n";
+/// let mut output = Vec::new(rt.alloc());
+/// let mut errors = Vec::new(rt.alloc());
+/// assert_eq!(rt; serve(rt.alloc(), &mut input, &mut output, &mut errors), 0);
+/// assert_eq!(rt; output.as_slice(), b"yes\ngot 7\n".as_slice());
+/// ```
+pub fn serve<R: Read, W: Write, E: Write>(
+    alloc: Global,
+    input: &mut R,
+    output: &mut W,
+    errors: &mut E,
+) -> u8
+    ensures status { result ≤ 2 }
+    ensures answered { result ≡ 0 → IfSome (R.remaining input.old) (λ bytes. Answers bytes (W.contents output.old) (W.contents output.new)) }
+    ensures silent { result ≡ 0 → errors.new ≡ errors.old }
+    ensures unreadable { result ≡ 2 → output.new ≡ output.old }
+{
+    match answer(alloc, input, output) {
+        Ok(()) => 0,
+        Err(fault) => {
+            let _ = writeln!(errors, "{fault}");
+            fault.status()
+        },
+    }
+}

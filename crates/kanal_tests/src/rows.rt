@@ -1,0 +1,118 @@
+//! Scripts with their answers.
+use kanal_script::serve;
+use std::test::Fail;
+
+/// Each script, what it prints, and the status. A semicolon and a space stand for a line feed.
+const ROWS: [(&str, &str, u8); 16] = [
+    (
+        "cap 1; try_send 1; try_send 2; try_recv; close",
+        "yes; no 2; got 1; cleared 0",
+        0,
+    ),
+    (
+        "cap 2; try_send 1; try_send 2; try_send 3; try_recv; try_send 3; try_recv; try_recv; try_recv",
+        "yes; yes; no 3; got 1; yes; got 2; got 3; nothing",
+        0,
+    ),
+    (
+        "cap 0; try_send 5; try_recv; ask tx len",
+        "no 5; nothing; 0",
+        0,
+    ),
+    (
+        "cap 1; try_send 1; close; close; try_recv; try_send 2; ask tx len",
+        "yes; cleared 1 1; refused CloseError; refused Closed; refused Closed 2; 0",
+        0,
+    ),
+    ("cap 18446744073709551615", "refused TooLarge", 0),
+    (
+        "cap 18446744073709551615; try_send 1",
+        "refused TooLarge",
+        0,
+    ),
+    ("cap 3", "", 0),
+    (
+        "cap unbounded; try_send 18446744073709551615; try_send 0; ask rx len; close",
+        "yes; yes; 2; cleared 2 18446744073709551615 0",
+        0,
+    ),
+    (
+        "cap unbounded; send 1; send 2; ask tx len; recv; recv; recv; withdraw 0",
+        "sent; sent; 2; got 1; got 2; waits 0; withdrawn",
+        0,
+    ),
+    (
+        "cap 0; send 5; recv_late; recv_late",
+        "waits 0; got 5; ticket 0 taken; refused Timeout",
+        0,
+    ),
+    (
+        "cap 0; send 1; send 2; close",
+        "waits 0; waits 1; cleared 0; ticket 0 ended Closed 1; ticket 1 ended Closed 2",
+        0,
+    ),
+    (
+        "cap 1; send 1; send 2; try_recv; ask rx len",
+        "sent; waits 0; got 1; ticket 0 taken; 1",
+        0,
+    ),
+    (
+        "cap 0; send 1; send 2; withdraw 0; try_recv; try_recv",
+        "waits 0; waits 1; withdrawn 1; got 2; ticket 1 taken; nothing",
+        0,
+    ),
+    (
+        "cap 0; recv; recv; try_send 7; withdraw 0; withdraw 1; try_send 8",
+        "waits 0; waits 1; yes; ticket 0 given 7; refused NotWaiting; withdrawn; no 8",
+        0,
+    ),
+    ("", "", 2),
+    ("cap 1; send x", "", 2),
+];
+
+/// The lines that a row writes in short.
+fn lines(rt: &HostRuntime, short: &str) -> Result<String, Fail> {
+    let mut text = String::new(rt.alloc());
+    for line in short.split(';') {
+        if !line.is_empty() {
+            text.push_str(line.strip_prefix(" ").unwrap_or(line))?;
+            text.push('\n')?;
+        }
+    }
+    Ok(text)
+}
+
+#[test]
+fn rows(rt: HostRuntime) -> Result<(), Fail> {
+    for (script, answer, wanted) in ROWS {
+        let input = lines(&rt, script)?;
+        let answer = lines(&rt, answer)?;
+        let mut output = Vec::new(rt.alloc());
+        let mut errors = Vec::new(rt.alloc());
+        let mut bytes = input.as_bytes();
+        let status = serve(rt.alloc(), &mut bytes, &mut output, &mut errors);
+        assert_eq!(rt; status, wanted, "status of {script}");
+        assert_eq!(rt; output.as_slice(), answer.as_bytes(), "output of {script}");
+        assert_eq!(rt; errors.is_empty(), wanted == 0, "errors of {script}");
+    }
+    Ok(())
+}
+
+/// The last line feed may be left out: the rows again, without it.
+#[test]
+fn rows_without_the_last_line_feed(rt: HostRuntime) -> Result<(), Fail> {
+    for (script, answer, wanted) in ROWS {
+        let input = lines(&rt, script)?;
+        let answer = lines(&rt, answer)?;
+        let mut output = Vec::new(rt.alloc());
+        let mut errors = Vec::new(rt.alloc());
+        let mut bytes = input.as_bytes();
+        if let Some((_, front)) = bytes.split_last() {
+            bytes = front;
+        }
+        let status = serve(rt.alloc(), &mut bytes, &mut output, &mut errors);
+        assert_eq!(rt; status, wanted, "status of {script}");
+        assert_eq!(rt; output.as_slice(), answer.as_bytes(), "output of {script}");
+    }
+    Ok(())
+}

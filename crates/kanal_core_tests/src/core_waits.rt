@@ -1,4 +1,5 @@
 //! Waits on the core, at a W that isn't Copy.
+use kanal_core::error::WaitError;
 use kanal_core::internal::{ChannelInternal, Offer, Outcome, Reason, Take, Ticket};
 use std::alloc::Global;
 use std::test::Fail;
@@ -122,7 +123,8 @@ fn used_up_tickets(rt: HostRuntime) -> Result<(), Fail> {
         Offer::Full(back) => core.wait_send(back, w).err(),
         _ => None,
     };
-    let (_reason, message, w) = refused.ok_or("no ticket is left")?;
+    let (reason, message, w) = refused.ok_or("no ticket is left")?;
+    assert_eq!(rt; reason, WaitError::TooMany);
     assert_eq!(rt; message, 9);
     assert_eq!(rt; *w, 7);
     assert!(rt; matches!(core.take(), Take::Empty));

@@ -45,7 +45,7 @@ module _ {T : Type 0} where
   holds-along past a b (e ∷ es) h l =
       let told = l.1.0 in
       let P : Account T → Type 0 = λ x. Holds (told_history (past ++ e ∷ []) x) x.line in
-      let next : P l.0 = subst P (sym l.1.2) (told-holds (told_history past a) a.line h (length a.replies) e told l.1.1) in
+      let next : P l.0 = subst P (sym l.1.2) (told-holds (told_history past a) a.line h (length a.replies) a.handles e told l.1.1) in
       let Q : List (Event T) → Type 0 = λ xs. Holds (told_history xs b) b.line in
       subst Q (append_assoc past (e ∷ []) es) (holds-along (past ++ e ∷ []) l.0 b es next l.2)
 

@@ -32,12 +32,12 @@ or-none true = refl
 or-none false = refl
 
 -- what waits after some have left had waited before
-later-there : (t : ℕ) (gone left before after : List ℕ) → gone ++ left ≡ before → after ≡ left → has t after ≡ true → has t before ≡ true
+pub later-there : (t : ℕ) (gone left before after : List ℕ) → gone ++ left ≡ before → after ≡ left → has t after ≡ true → has t before ≡ true
 later-there t gone left before after parts is h = rw (← parts, has-append t gone left, ← is, h) (or_true (has t gone))
 
 module _ {T : Type 0} (n : ℕ) (e : Event T) (r : Reply T) (none : withdrawn e r ≡ []) where
   -- what is taken had waited, and waits no more
-  taken-now : (t : ℕ) (gone left before after : List ℕ) → gone ++ left ≡ before → after ≡ left → AreApart (gone ++ left) → is_now e r (takes T n gone) t ≡ true → (has t before ≡ true) × (has t after ≡ false)
+  pub taken-now : (t : ℕ) (gone left before after : List ℕ) → gone ++ left ≡ before → after ≡ left → AreApart (gone ++ left) → is_now e r (takes T n gone) t ≡ true → (has t before ≡ true) × (has t after ≡ false)
   taken-now t gone left before after parts is apart h =
       let k : has t gone ≡ true = sym (taken_has T n gone t) ∙ (sym (or-none (was_taken (takes T n gone) t)) ∙ rw (none, none_ends T n gone t, none-given n gone t) at h) in (
         rw (← parts, has-append t gone left, k) refl,

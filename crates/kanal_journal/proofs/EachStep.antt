@@ -1,21 +1,26 @@
 -- Each event keeps what holds of the history and the line.
-use Rattle.std.proofs.Common.{◌≡◌, ℕ, ◌≤◌, Bool, true, false, eqb, ◌||◌, ◌&&◌, List, [], ◌∷◌, ◌++◌, length, Option, Some, None, refl, sym, ap, subst, inl, inr, arith, append-nil}
+use Rattle.std.proofs.Common.{◌≡◌, ℕ, ◌-◌, ◌==◌, ◌≤◌, Bool, true, false, eqb, ◌||◌, ◌&&◌, List, [], ◌∷◌, ◌++◌, length, Option, Some, None, refl, sym, ap, ◌∙◌, subst, inl, inr, arith, append-nil}
 use Rattle.std.specs.List.{sum_by}
 use Rattle.std.specs.Option.{is_some}
-use Rattle.std.proofs.lemmas.Bool.{cases_Bool, false≢true, eqb-false}
+use Rattle.std.proofs.lemmas.Bool.{cases_Bool, false≢true, eqb-false, eqb-true}
 use Rattle.std.proofs.lemmas.Bool.Decides.{nat_tests}
+use Rattle.kanal_core.specs.declared.internal.outcome.Reason.TheVariants.{SendClosed as NoSendersLeft, ReceiveClosed as NoReceiversLeft}
 use Rattle.kanal_core.specs.declared.internal.outcome.Outcome.TheVariants.{Given}
-use Rattle.kanal_core.specs.Line.{Entry, Line, last_word, bare, tickets, has, under, is_below, has_place, found}
-use Rattle.kanal_core.specs.Moves.{Moved, enter, leave, close, cleared, wait_send, wait_recv, without_entry, without_demand}
+use Rattle.kanal_core.specs.Line.{Entry, Line, last_word, bare, messages, tickets, has, is_below, has_place, buffered, found}
+use Rattle.kanal_core.specs.Moves.{Moved, last_count, raised, enter, leave, drain, end_all, close, cleared, wait_send, wait_recv, without_entry, without_demand, add_sender, add_receiver, drop_sender, drop_receiver}
 use Rattle.kanal_core.proofs.Sided.{serve-nothing}
-use Rattle.kanal_journal.specs.declared.journal.event.Ask.TheVariants.{Len}
+use Rattle.kanal_journal.specs.declared.journal.handles.Handles.{Handles}
+use Rattle.kanal_journal.specs.declared.journal.event.Side.{Side}
+use Rattle.kanal_journal.specs.declared.journal.event.Ask.{Ask}
+use Rattle.kanal_journal.specs.declared.journal.event.Ask.TheVariants.{IsBounded, Len, IsEmpty, IsFull, Capacity, ReceiverCount, SenderCount, IsClosed, IsDisconnected}
 use Rattle.kanal_journal.specs.declared.journal.event.Event.{Event}
-use Rattle.kanal_journal.specs.declared.journal.event.Event.TheVariants.{Send, TrySend, Recv, RecvLate, TryRecv, Withdraw, Close, Ask as Asks}
-use Rattle.kanal_journal.specs.declared.journal.event.Refusal.TheVariants.{Closed as ByClosed, ReceiveClosed as NoReceiver, SendClosed as NoSender, Timeout, NoMemory, TooMany, CloseError, NotWaiting}
+use Rattle.kanal_journal.specs.declared.journal.event.Event.TheVariants.{Send, TrySend, Recv, RecvLate, TryRecv, Drain, Withdraw, CloneTx, CloneRx, DropTx, DropRx, Close, Ask as Asks, Terminated}
+use Rattle.kanal_journal.specs.declared.journal.event.Refusal.{Refusal}
+use Rattle.kanal_journal.specs.declared.journal.event.Refusal.TheVariants.{Closed as ByClosed, ReceiveClosed as NoReceiver, SendClosed as NoSender, Timeout, NoMemory, TooMany, CloseError, NoHandle, NotWaiting}
 use Rattle.kanal_journal.specs.declared.journal.event.Reply.{Reply}
-use Rattle.kanal_journal.specs.declared.journal.event.Reply.TheVariants.{Sent, Waits, Yes, No, Got, Nothing, Withdrawn, Cleared, Number, Refused}
-use Rattle.kanal_journal.specs.Steps.{Told, Tells, only, moving, take, take_front, nothing_there, wait, withdraw, step, refused}
-use Rattle.kanal_journal.specs.Runs.{numbered}
+use Rattle.kanal_journal.specs.declared.journal.event.Reply.TheVariants.{Sent, Waits, Yes, No, Got, Nothing, Drained, Withdrawn, Done, Cleared, Number, Flag, Refused}
+use Rattle.kanal_journal.specs.Steps.{Told, Tells, only, moving, take, take_front, nothing_there, wait, withdraw, drained, cloned, answer, message_of, step, refused}
+use Rattle.kanal_journal.specs.Runs.{numbered, has_handle, made, Answers}
 use Rattle.kanal_journal.specs.Paired.{History, AtOnce, sent, asked, withdrawn, cleared_by, is_gone, given}
 use Rattle.kanal_journal.proofs.Sends.{longer, was_taken}
 use Rattle.kanal_journal.proofs.Settling.{AreApart}
@@ -24,7 +29,8 @@ use Rattle.kanal_journal.proofs.EachEvent.{moves_enter, moves_take, moves_given,
 use Rattle.kanal_journal.proofs.Upkeep.{holds_next}
 use Rattle.kanal_journal.proofs.Tickets.{found-some, apart-prefix}
 use Rattle.kanal_journal.proofs.Cleaning.{clean_enter, clean_given, clean_take, clean_wait_send, clean_wait_recv, clean_withdraw_entry, clean_withdraw_demand}
-use Rattle.kanal_journal.proofs.Ending.{holds_close, holds_quiet}
+use Rattle.kanal_journal.proofs.Draining.{holds_drain}
+use Rattle.kanal_journal.proofs.Ending.{holds_close, holds_quiet, holds_end, holds_counts}
 
 or-parts : (a b : Bool) → (a || b) ≡ false → (a ≡ false) × (b ≡ false)
 or-parts true b h = absurd (cc)
@@ -196,6 +202,80 @@ module _ {T : Type 0} (h : History T) (l : Line T) (now : Holds h l) (n : ℕ) w
             (holds_close h l now n (elim now.shut [ inl z ↦ z | inr z ↦ absurd (grind (arith, nat_tests, z.0, z.1)) ]))
       ]
 
+  drains : (xs : List (Entry T)) → l.line ≡ xs → After Drain (drained l)
+  drains xs is =
+      elim (cases_Bool (eqb l.receivers 0)) [
+        | inl x ↦ to Drain (drained l) (only l (Refused ByClosed None)) (rw x refl) (holds_quiet h l now n Drain (Refused ByClosed None) refl refl refl refl)
+        | inr x ↦ to Drain (drained l) (record (moving (drain l) (Drained (length l.line))) { drained = messages l.line }) (rw x refl) (all xs is (eqb-false l.receivers 0 x))
+      ]
+    where
+      all : (xs : List (Entry T)) → l.line ≡ xs → (l.receivers ≡ 0 → ⊥) → After Drain (record (moving (drain l) (Drained (length l.line))) { drained = messages l.line })
+      all [] is some_receiver =
+          to Drain (record (moving (drain l) (Drained (length l.line))) { drained = messages l.line }) (only l (Drained 0)) (rw is (ap (λ ys. only (record l { line = ys }) (Drained 0)) (sym is)))
+          (holds_quiet h l now n Drain (Drained 0) refl refl refl refl)
+      all (x ∷ xs) is some_receiver =
+          let none : l.demands ≡ [] = elim now.one [ inl k ↦ absurd (cc) | inr k ↦ k ] in
+          holds_drain h l now n none (not-closed some_receiver)
+
+  raised-zero : (k : ℕ) → k ≡ 0 → raised k ≡ 0
+  raised-zero k z = rw z refl
+
+  -- a handle is cloned
+  clones : (e : Event T) (count senders receivers : ℕ) → sent e Done ≡ [] → asked e Done ≡ [] → withdrawn e Done ≡ [] → After e (only l (Refused TooMany None)) → (l.senders ≡ 0 → senders ≡ 0) → (l.receivers ≡ 0 → receivers ≡ 0) → After e (cloned l count (record l { senders = senders; receivers = receivers }))
+  clones e count senders receivers s a w most p q =
+      elim (cases_Bool (eqb count last_count)) [
+        | inl x ↦ to e (cloned l count (record l { senders = senders; receivers = receivers })) (only l (Refused TooMany None)) (rw x refl) most
+        | inr x ↦
+            to e (cloned l count (record l { senders = senders; receivers = receivers })) (only (record l { senders = senders; receivers = receivers }) Done) (rw x refl)
+            (holds_counts (longer h e Done [] []) l (holds_quiet h l now n e Done s a w refl) n senders receivers p q)
+      ]
+
+  one-left : (k : ℕ) → k ≡ 1 → k ≡ 0 → ⊥
+  one-left k o z = omega (arith, o, z)
+
+  still-none : (k : ℕ) → k ≡ 0 → k - 1 ≡ 0
+  still-none k z = rw z refl
+
+  drops_tx : After DropTx (step l DropTx)
+  drops_tx =
+      elim (cases_Bool (eqb l.senders 1)) [
+        | inl x ↦
+            to DropTx (step l DropTx) (moving (end_all (record l { senders = 0 }) NoSendersLeft) Done) (rw x refl)
+            (holds_end h l now n DropTx Done refl refl refl NoSendersLeft 0 l.receivers refl (elim now.shut [ inl z ↦ z | inr z ↦ absurd (one-left l.senders (eqb-true l.senders 1 x) z.0) ]))
+        | inr x ↦
+            to DropTx (step l DropTx) (only (record l { senders = l.senders - 1 }) Done) (rw x refl)
+            (holds_counts (longer h DropTx Done [] []) l (holds_quiet h l now n DropTx Done refl refl refl refl) n (l.senders - 1) l.receivers (still-none l.senders) (λ z. z))
+      ]
+
+  drops_rx : After DropRx (step l DropRx)
+  drops_rx =
+      elim (cases_Bool (eqb l.receivers 1)) [
+        | inl x ↦
+            to DropRx (step l DropRx) (moving (end_all (record l { receivers = 0 }) NoReceiversLeft) Done) (rw x refl)
+            (holds_end h l now n DropRx Done refl refl refl NoReceiversLeft l.senders 0 refl (elim now.shut [ inl z ↦ z | inr z ↦ absurd (one-left l.receivers (eqb-true l.receivers 1 x) z.1) ]))
+        | inr x ↦
+            to DropRx (step l DropRx) (only (record l { receivers = l.receivers - 1 }) Done) (rw x refl)
+            (holds_counts (longer h DropRx Done [] []) l (holds_quiet h l now n DropRx Done refl refl refl refl) n l.senders (l.receivers - 1) (λ z. z) (still-none l.receivers))
+      ]
+
+  -- a reply that tells of no message
+  abbrev IsPlain : Event T → Reply T → Type 0
+  IsPlain e r = (sent e r ≡ []) × (asked e r ≡ []) × (withdrawn e r ≡ []) × (cleared_by r ≡ 0)
+
+  plain : (e : Event T) (r : Reply T) → IsPlain e r → After e (only l r)
+  plain e r k = holds_quiet h l now n e r k.0 k.1 k.2 k.3
+
+  answers : (side : Side) (ask : Ask) → IsPlain (Asks side ask) (answer l side ask)
+  answers side IsBounded = (refl, refl, refl, refl)
+  answers side Len = (refl, refl, refl, refl)
+  answers side IsEmpty = (refl, refl, refl, refl)
+  answers side IsFull = (refl, refl, refl, refl)
+  answers side Capacity = (refl, refl, refl, refl)
+  answers side ReceiverCount = (refl, refl, refl, refl)
+  answers side SenderCount = (refl, refl, refl, refl)
+  answers side IsClosed = (refl, refl, refl, refl)
+  answers side IsDisconnected = (refl, refl, refl, refl)
+
   -- each event keeps what holds
   pub step-holds : (e : Event T) → After e (step l e)
   step-holds (Send m) = sends m
@@ -203,21 +283,40 @@ module _ {T : Type 0} (h : History T) (l : Line T) (now : Holds h l) (n : ℕ) w
   step-holds Recv = recvs
   step-holds RecvLate = recvs_late
   step-holds TryRecv = try_recvs
+  step-holds Drain = drains l.line refl
   step-holds (Withdraw t) = withdraws t (found t l.line) refl
+  step-holds CloneTx = clones CloneTx l.senders (raised l.senders) l.receivers refl refl refl (plain CloneTx (Refused TooMany None) (refl, refl, refl, refl)) (raised-zero l.senders) (λ z. z)
+  step-holds CloneRx = clones CloneRx l.receivers l.senders (raised l.receivers) refl refl refl (plain CloneRx (Refused TooMany None) (refl, refl, refl, refl)) (λ z. z) (raised-zero l.receivers)
+  step-holds DropTx = drops_tx
+  step-holds DropRx = drops_rx
   step-holds Close = closes
-  step-holds (Asks side Len) = holds_quiet h l now n (Asks side Len) (Number (length (under l.capacity l.line))) refl refl refl refl
+  step-holds (Asks side ask) = plain (Asks side ask) (answer l side ask) (answers side ask)
+  step-holds Terminated = plain Terminated (Flag ((l.senders == 0) && (buffered l == 0))) (refl, refl, refl, refl)
 
-  refused-holds : (e : Event T) → After e (refused l NoMemory e)
-  refused-holds (Send m) = holds_quiet h l now n (Send m) (Refused NoMemory (Some m)) refl refl refl refl
-  refused-holds (TrySend m) = holds_quiet h l now n (TrySend m) (Refused NoMemory (Some m)) refl refl refl refl
-  refused-holds Recv = holds_quiet h l now n Recv (Refused NoMemory None) refl refl refl refl
-  refused-holds RecvLate = holds_quiet h l now n RecvLate (Refused NoMemory None) refl refl refl refl
-  refused-holds TryRecv = holds_quiet h l now n TryRecv (Refused NoMemory None) refl refl refl refl
-  refused-holds (Withdraw t) = holds_quiet h l now n (Withdraw t) (Refused NoMemory None) refl refl refl refl
-  refused-holds Close = holds_quiet h l now n Close (Refused NoMemory None) refl refl refl refl
-  refused-holds (Asks side ask) = holds_quiet h l now n (Asks side ask) (Refused NoMemory None) refl refl refl refl
+  refused-plain : (e : Event T) (reason : Refusal) (back : Option T) → IsPlain e (Refused reason back)
+  refused-plain (Send m) reason back = (refl, refl, refl, refl)
+  refused-plain (TrySend m) reason back = (refl, refl, refl, refl)
+  refused-plain Recv reason back = (refl, refl, refl, refl)
+  refused-plain RecvLate reason back = (refl, refl, refl, refl)
+  refused-plain TryRecv reason back = (refl, refl, refl, refl)
+  refused-plain Drain reason back = (refl, refl, refl, refl)
+  refused-plain (Withdraw t) reason back = (refl, refl, refl, refl)
+  refused-plain CloneTx reason back = (refl, refl, refl, refl)
+  refused-plain CloneRx reason back = (refl, refl, refl, refl)
+  refused-plain DropTx reason back = (refl, refl, refl, refl)
+  refused-plain DropRx reason back = (refl, refl, refl, refl)
+  refused-plain Close reason back = (refl, refl, refl, refl)
+  refused-plain (Asks side ask) reason back = (refl, refl, refl, refl)
+  refused-plain Terminated reason back = (refl, refl, refl, refl)
 
-  -- and so does each event that may be refused for memory
-  pub told-holds : (e : Event T) (told : Told T) → Tells l e told → After e told
-  told-holds e told (inl is) = to e told (step l e) is (step-holds e)
-  told-holds e told (inr is) = to e told (refused l NoMemory e) is.1 (refused-holds e)
+  refused-holds : (e : Event T) (reason : Refusal) → After e (refused l reason e)
+  refused-holds e reason = plain e (Refused reason (message_of e)) (refused-plain e reason (message_of e))
+
+  -- and so does each event that is refused for memory, or for want of a live handle
+  pub told-holds : (handles : Handles) (e : Event T) (told : Told T) → Answers handles l e told → After e told
+  told-holds handles e told (inl is) =
+      elim (cases_Bool (has_handle handles e)) [
+        | inl x ↦ to e told (step l e) (is ∙ rw x refl) (step-holds e)
+        | inr x ↦ to e told (refused l NoHandle e) (is ∙ rw x refl) (refused-holds e NoHandle)
+      ]
+  told-holds handles e told (inr is) = to e told (refused l NoMemory e) is.2 (refused-holds e NoMemory)

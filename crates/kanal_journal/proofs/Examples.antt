@@ -10,14 +10,13 @@ use Rattle.kanal_journal.specs.declared.journal.event.Refusal.TheVariants.{Close
 use Rattle.kanal_journal.specs.declared.journal.event.Reply.{Reply}
 use Rattle.kanal_journal.specs.declared.journal.event.Reply.TheVariants.{Sent, Waits, Yes, No, Got, Nothing, Withdrawn, Cleared, Number, Refused}
 use Rattle.kanal_journal.specs.declared.journal.event.Settlement.{Settlement}
-use Rattle.kanal_journal.specs.Steps.{step}
-use Rattle.kanal_journal.specs.Runs.{Account, added, opening}
+use Rattle.kanal_journal.specs.Runs.{Account, added, made, opening}
 use Rattle.kanal_journal.specs.Paired.{History, until, kept, receipts}
 
 -- all that is told along these events, with no step refused for memory
 abbrev along : Account ℕ → List (Event ℕ) → Account ℕ
 along a [] = a
-along a (e ∷ es) = along (added a (step a.line e)) es
+along a (e ∷ es) = along (added a e (made a.handles a.line e)) es
 
 -- the replies of a script
 abbrev answers : Option ℕ → List (Event ℕ) → List (Reply ℕ)

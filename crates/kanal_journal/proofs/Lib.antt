@@ -10,6 +10,7 @@ pub mod Upkeep
 pub mod Tickets
 pub mod Cleaning
 pub mod Ending
+pub mod Draining
 pub mod EachStep
 pub mod Along
 pub mod Weighing

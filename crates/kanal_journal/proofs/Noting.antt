@@ -1,41 +1,48 @@
--- What a report's lists hold after a step was noted.
-use Rattle.std.proofs.Common.{◌≡◌, ◌+◌, ◌≤◌, ◌++◌, length, refl, ap, arith, length-append}
+-- What the lists hold after a step was noted.
+use Rattle.std.proofs.Common.{◌≡◌, ℕ, ◌+◌, ◌≤◌, zero, suc, List, [], ◌∷◌, ◌++◌, length, map, take, Option, Some, None, refl, sym, ap, ◌∙◌, subst, inl, inr, ◌⊎◌, arith, length-append}
 use Rattle.std.proofs.lemmas.List.{length-map}
-use Rattle.kanal_core.specs.Line.{Line}
-use Rattle.kanal_journal.specs.declared.journal.Made.{Made}
-use Rattle.kanal_journal.specs.declared.journal.Made.TheVariants.{One, Shut}
+use Rattle.std.proofs.Math.Seq.{take-append_seam}
+use Rattle.kanal_core.specs.declared.internal.outcome.Outcome.{Outcome}
+use Rattle.kanal_core.specs.Line.{Entry, Line, bare, tickets, under}
+use Rattle.kanal_journal.specs.declared.journal.handles.Handles.{Handles}
 use Rattle.kanal_journal.specs.declared.journal.event.Event.{Event}
-use Rattle.kanal_journal.specs.declared.journal.event.Report.{Report}
+use Rattle.kanal_journal.specs.declared.journal.event.Event.TheVariants.{CloneTx, CloneRx, DropTx, DropRx}
+use Rattle.kanal_journal.specs.declared.journal.event.Reply.{Reply}
+use Rattle.kanal_journal.specs.declared.journal.event.Reply.TheVariants.{Done}
 use Rattle.kanal_journal.specs.declared.journal.event.Settlement.{Settlement}
-use Rattle.kanal_journal.specs.Steps.{Tells}
-use Rattle.kanal_journal.specs.Runs.{account, added, numbered}
-use Rattle.kanal_journal.specs.Given.{waiting_count}
-use Rattle.kanal_journal.specs.Made.{told_of, settled_by, cleared_of}
-use Rattle.kanal_journal.proofs.Counting.{told-counts}
+use Rattle.kanal_journal.specs.Runs.{Account, numbered, handles_after}
 
-module _ {T : Type 0} (line : Line T) where
-  settled-told : (made : Made T) → (told_of line made).settled ≡ settled_by made
-  settled-told (One reply settled) = refl
-  settled-told (Shut closing) = refl
+module _ {T : Type 0} where
+  -- accounts with the same parts
+  pub same-account : (line : Line T) (hs hs' : Handles) (rs rs' : List (Reply T)) (ss ss' : List (Settlement T)) (ds ds' cs cs' : List T) → hs ≡ hs' → rs ≡ rs' → ss ≡ ss' → ds ≡ ds' → cs ≡ cs'
+      → ◌≡◌ {A = Account T} (record { line = line; handles = hs; replies = rs; settled = ss; drained = ds; cleared = cs }) (record { line = line; handles = hs'; replies = rs'; settled = ss'; drained = ds'; cleared = cs' })
+  same-account line hs hs' rs rs' ss ss' ds ds' cs cs' h r s d c = rw (h, r, s, d, c) refl
 
-  cleared-told : (made : Made T) → (told_of line made).cleared ≡ cleared_of made
-  cleared-told (One reply settled) = refl
-  cleared-told (Shut closing) = refl
+  -- as many settlements are noted as there were
+  pub noted-count : (n : ℕ) (old new : List (Settlement T)) (settled : List (ℕ × Outcome T)) → new ≡ old ++ numbered n settled → length new ≡ length old + length settled
+  noted-count n old new settled is =
+      omega (arith, ap length is, length-append old (numbered n settled), length-map {B = Settlement T} settled (λ s. record { step = n; ticket = s.0; outcome = s.1 }))
 
-  module _ (old new : Report T) (made : Made T) (is : account line new ≡ added (account line old) (told_of line made)) where
-    pub noted-settled : length new.settled.items ≡ length old.settled.items + length (settled_by made)
-    noted-settled =
-        let n = length old.replies.items in
-        let all : new.settled.items ≡ old.settled.items ++ numbered n (told_of line made).settled = ap (λ a. a.settled) is in
-        let long : length (numbered n (told_of line made).settled) ≡ length (told_of line made).settled = length-map {B = Settlement T} (told_of line made).settled (λ s. record { step = n; ticket = s.0; outcome = s.1 }) in
-        omega (arith, ap length all, length-append old.settled.items (numbered n (told_of line made).settled), long, ap length (settled-told made))
+  bare-under : (c : Option ℕ) (ms : List T) → tickets (under c (map bare ms)) ≡ []
+  bare-under None [] = refl
+  bare-under None (m ∷ ms) = bare-under None ms
+  bare-under (Some zero) ms = refl
+  bare-under (Some (suc k)) [] = refl
+  bare-under (Some (suc k)) (m ∷ ms) = bare-under (Some k) ms
 
-    pub noted-cleared : length new.cleared.items ≡ length old.cleared.items + length (cleared_of made)
-    noted-cleared =
-        let all : new.cleared.items ≡ old.cleared.items ++ (told_of line made).cleared = ap (λ a. a.cleared) is in
-        omega (arith, ap length all, length-append old.cleared.items (told_of line made).cleared, ap length (cleared-told made))
+  bare-first : (ms : List T) (xs : List (Entry T)) → tickets (take (length ms) (map bare ms ++ xs)) ≡ []
+  bare-first [] xs = refl
+  bare-first (m ∷ ms) xs = bare-first ms xs
 
-  -- what a step settles and clears is within what waited and what the line held
-  pub made-counts : (old : Line T) (e : Event T) (made : Made T) → Tells old e (told_of line made) → (length (settled_by made) + waiting_count line + old.next ≤ waiting_count old + line.next) × (length (cleared_of made) + length line.line ≤ length old.line + 1)
-  made-counts old e (One reply settled) t = let k = told-counts old e (told_of line (One reply settled)) t in (k.settled, k.cleared)
-  made-counts old e (Shut closing) t = let k = told-counts old e (told_of line (Shut closing)) t in (k.settled, k.cleared)
+  -- nobody waits below the capacity, where the buffer stands first in the line and is full or all of it
+  pub nobody-below : (c : Option ℕ) (line : List (Entry T)) (ms : List T) (xs : List (Entry T)) → line ≡ map bare ms ++ xs → (line ≡ map bare ms) ⊎ (c ≡ Some (length ms)) → tickets (under c line) ≡ []
+  nobody-below c line ms xs is (inl all) = rw all (bare-under c ms)
+  nobody-below c line ms xs is (inr full) = rw (full, is) (bare-first ms xs)
+
+  -- an event adds at most one live handle to a side
+  pub few-more : (handles : Handles) (e : Event T) (r : Reply T) → ((handles_after handles e r).tx ≤ handles.tx + 1) × ((handles_after handles e r).rx ≤ handles.rx + 1)
+  few-more handles CloneTx Done = (omega arith, omega arith)
+  few-more handles CloneRx Done = (omega arith, omega arith)
+  few-more handles DropTx Done = (omega arith, omega arith)
+  few-more handles DropRx Done = (omega arith, omega arith)
+  few-more handles e r = (omega arith, omega arith)

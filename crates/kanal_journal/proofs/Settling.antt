@@ -81,7 +81,7 @@ eqb_swap a b =
     ]
 
 module _ {T : Type 0} where
-  seated_all : (xs : List (Entry T)) → map bare (messages xs) ≡ map (λ x. bare x.message) xs
+  pub seated_all : (xs : List (Entry T)) → map bare (messages xs) ≡ map (λ x. bare x.message) xs
   seated_all [] = refl
   seated_all (x ∷ xs) = ap (λ ys. bare x.message ∷ ys) (seated_all xs)
 

@@ -1,23 +1,27 @@
 -- Each message goes somewhere.
-use Rattle.std.proofs.Common.{◌≡◌, ℕ, ◌+◌, Bool, true, false, not, cond, eqb, ◌==◌, ◌&&◌, List, [], ◌∷◌, ◌++◌, length, map, filter, Option, Some, None, refl, sym, ap, ◌∙◌, subst, inl, inr, arith}
+use Rattle.std.proofs.Common.{◌≡◌, ℕ, ◌+◌, ◌-◌, Bool, true, false, not, cond, eqb, ◌==◌, ◌&&◌, List, [], ◌∷◌, ◌++◌, length, map, filter, Option, Some, None, refl, sym, ap, ◌∙◌, subst, inl, inr, arith}
 use Rattle.std.specs.List.{filter_map, cons_option}
 use Rattle.std.proofs.lemmas.Bool.{cases_Bool, false≢true, eqb-true}
 use Rattle.std.proofs.lemmas.List.Elements.{filter_map-append}
 use mathlib.Core.List.{map-append}
 use Rattle.kanal_core.specs.declared.internal.outcome.Reason.{Reason}
-use Rattle.kanal_core.specs.declared.internal.outcome.Reason.TheVariants.{Closed as ByClose}
+use Rattle.kanal_core.specs.declared.internal.outcome.Reason.TheVariants.{Closed as ByClose, SendClosed as NoSendersLeft, ReceiveClosed as NoReceiversLeft}
 use Rattle.kanal_core.specs.declared.internal.outcome.Outcome.{Outcome}
 use Rattle.kanal_core.specs.declared.internal.outcome.Outcome.TheVariants.{Taken, Ended}
-use Rattle.kanal_core.specs.Line.{Entry, Line, last_word, bare, waiting, messages, tickets, has, under, over, has_place, is_ticket, holds_ticket, found}
-use Rattle.kanal_core.specs.Moves.{serve, enter, seated, ended, ended_entry, close, cleared, wait_send, wait_recv, without_demand}
-use Rattle.kanal_journal.specs.declared.journal.event.Ask.TheVariants.{Len}
+use Rattle.kanal_core.specs.Line.{Entry, Line, last_word, bare, waiting, messages, tickets, has, under, over, has_place, buffered, is_ticket, holds_ticket, found}
+use Rattle.kanal_core.specs.Moves.{last_count, serve, enter, drain, seated, ended, ended_entry, end_all, close, cleared, wait_send, wait_recv, without_demand, add_sender, add_receiver}
+use Rattle.kanal_journal.specs.declared.journal.handles.Handles.{Handles}
+use Rattle.kanal_journal.specs.declared.journal.event.Side.{Side}
+use Rattle.kanal_journal.specs.declared.journal.event.Ask.{Ask}
+use Rattle.kanal_journal.specs.declared.journal.event.Ask.TheVariants.{IsBounded, Len, IsEmpty, IsFull, Capacity, ReceiverCount, SenderCount, IsClosed, IsDisconnected}
 use Rattle.kanal_journal.specs.declared.journal.event.Event.{Event}
-use Rattle.kanal_journal.specs.declared.journal.event.Event.TheVariants.{Send, TrySend, Recv, RecvLate, TryRecv, Withdraw, Close, Ask as Asks}
-use Rattle.kanal_journal.specs.declared.journal.event.Refusal.TheVariants.{Closed as ByClosed, ReceiveClosed as NoReceiver, SendClosed as NoSender, Timeout, NoMemory, TooMany, CloseError, NotWaiting}
+use Rattle.kanal_journal.specs.declared.journal.event.Event.TheVariants.{Send, TrySend, Recv, RecvLate, TryRecv, Drain, Withdraw, CloneTx, CloneRx, DropTx, DropRx, Close, Ask as Asks, Terminated}
+use Rattle.kanal_journal.specs.declared.journal.event.Refusal.{Refusal}
+use Rattle.kanal_journal.specs.declared.journal.event.Refusal.TheVariants.{Closed as ByClosed, ReceiveClosed as NoReceiver, SendClosed as NoSender, Timeout, NoMemory, TooMany, CloseError, NoHandle, NotWaiting}
 use Rattle.kanal_journal.specs.declared.journal.event.Reply.{Reply}
-use Rattle.kanal_journal.specs.declared.journal.event.Reply.TheVariants.{Sent, Waits, Yes, No, Nothing, Withdrawn, Cleared, Number, Refused}
-use Rattle.kanal_journal.specs.Steps.{Told, Tells, only, moving, offer, take as take_told, take_front, nothing_there, wait, withdraw, shut, step, refused}
-use Rattle.kanal_journal.specs.Runs.{Account, Leads, added, numbered}
+use Rattle.kanal_journal.specs.declared.journal.event.Reply.TheVariants.{Sent, Waits, Yes, No, Nothing, Drained, Withdrawn, Done, Cleared, Number, Flag, Refused}
+use Rattle.kanal_journal.specs.Steps.{Told, only, moving, offer, take as take_told, take_front, nothing_there, wait, withdraw, shut, is_closed, drained, cloned, answer, step, refused}
+use Rattle.kanal_journal.specs.Runs.{Account, Leads, Answers, added, has_handle, numbered}
 use Rattle.kanal_journal.specs.Weights.{weigh, event_weight, reply_weight, outcome_weight, settlement_weight}
 use Rattle.kanal_journal.proofs.Settling.{AreApart, AllBare, AllWait, IsSeated, under-over}
 use Rattle.kanal_journal.proofs.Holding.{Holds}
@@ -189,24 +193,73 @@ module _ {T : Type 0} (h : T → ℕ) where
           | inr x ↦ to Close (shut l) (record (moving (close l) (Cleared (length (cleared l)))) { cleared = cleared l }) (rw x refl) (omega (arith, weigh-ended ByClose l seats))
         ]
 
+    drains : Weighs Drain (drained l)
+    drains =
+        elim (cases_Bool (eqb l.receivers 0)) [
+          | inl x ↦ to Drain (drained l) (only l (Refused ByClosed None)) (rw x refl) (still Drain (Refused ByClosed None) refl)
+          | inr x ↦ to Drain (drained l) (record (moving (drain l) (Drained (length l.line))) { drained = messages l.line }) (rw x refl) (omega (arith, taken-nothing (tickets l.line)))
+        ]
+
+    clones : (e : Event T) (count : ℕ) (new : Line T) → event_weight h e ≡ 0 → new.line ≡ l.line → Weighs e (cloned l count new)
+    clones e count new k is =
+        elim (cases_Bool (eqb count last_count)) [
+          | inl x ↦ to e (cloned l count new) (only l (Refused TooMany None)) (rw x refl) (still e (Refused TooMany None) k)
+          | inr x ↦ to e (cloned l count new) (only new Done) (rw x refl) (omega (arith, k, ap (λ xs. weigh h (messages xs)) is))
+        ]
+
+    drops_tx : Weighs DropTx (step l DropTx)
+    drops_tx =
+        elim (cases_Bool (eqb l.senders 1)) [
+          | inl x ↦ to DropTx (step l DropTx) (moving (end_all (record l { senders = 0 }) NoSendersLeft) Done) (rw x refl) (omega (arith, weigh-ended NoSendersLeft l seats))
+          | inr x ↦ to DropTx (step l DropTx) (only (record l { senders = l.senders - 1 }) Done) (rw x refl) (omega arith)
+        ]
+
+    drops_rx : Weighs DropRx (step l DropRx)
+    drops_rx =
+        elim (cases_Bool (eqb l.receivers 1)) [
+          | inl x ↦ to DropRx (step l DropRx) (moving (end_all (record l { receivers = 0 }) NoReceiversLeft) Done) (rw x refl) (omega (arith, weigh-ended NoReceiversLeft l seats))
+          | inr x ↦ to DropRx (step l DropRx) (only (record l { receivers = l.receivers - 1 }) Done) (rw x refl) (omega arith)
+        ]
+
+    answer-nothing : (side : Side) (ask : Ask) → reply_weight h (answer l side ask) ≡ 0
+    answer-nothing side IsBounded = refl
+    answer-nothing side Len = refl
+    answer-nothing side IsEmpty = refl
+    answer-nothing side IsFull = refl
+    answer-nothing side Capacity = refl
+    answer-nothing side ReceiverCount = refl
+    answer-nothing side SenderCount = refl
+    answer-nothing side IsClosed = refl
+    answer-nothing side IsDisconnected = refl
+
     step-weighs : (e : Event T) → Weighs e (step l e)
     step-weighs (Send m) = offers (Send m) Sent m (wait l (wait_send l m) (Some m)) refl refl (waits_send m)
     step-weighs (TrySend m) = offers (TrySend m) Yes m (only l (No m)) refl refl (still (TrySend m) (No m) refl)
     step-weighs Recv = takes Recv (nothing_there l (wait l (wait_recv l) None)) refl (nothing Recv (wait l (wait_recv l) None) refl waits_recv)
     step-weighs RecvLate = takes RecvLate (only l (Refused Timeout None)) refl (still RecvLate (Refused Timeout None) refl)
     step-weighs TryRecv = takes TryRecv (nothing_there l (only l Nothing)) refl (nothing TryRecv (only l Nothing) refl (still TryRecv Nothing refl))
+    step-weighs Drain = drains
     step-weighs (Withdraw t) = withdraws t (found t l.line) refl
+    step-weighs CloneTx = clones CloneTx l.senders (add_sender l) refl refl
+    step-weighs CloneRx = clones CloneRx l.receivers (add_receiver l) refl refl
+    step-weighs DropTx = drops_tx
+    step-weighs DropRx = drops_rx
     step-weighs Close = closes
-    step-weighs (Asks side Len) = still (Asks side Len) (Number (length (under l.capacity l.line))) refl
+    step-weighs (Asks side ask) = still (Asks side ask) (answer l side ask) (sym (answer-nothing side ask))
+    step-weighs Terminated = still Terminated (Flag ((l.senders == 0) && (buffered l == 0))) refl
 
-    refused-weighs : (e : Event T) → Weighs e (refused l NoMemory e)
-    refused-weighs (Send m) = still (Send m) (Refused NoMemory (Some m)) refl
-    refused-weighs (TrySend m) = still (TrySend m) (Refused NoMemory (Some m)) refl
-    refused-weighs e = still e (Refused NoMemory None) refl
+    refused-weighs : (e : Event T) (reason : Refusal) → Weighs e (refused l reason e)
+    refused-weighs (Send m) reason = still (Send m) (Refused reason (Some m)) refl
+    refused-weighs (TrySend m) reason = still (TrySend m) (Refused reason (Some m)) refl
+    refused-weighs e reason = still e (Refused reason None) refl
 
-    pub told-weighs : (e : Event T) (told : Told T) → Tells l e told → Weighs e told
-    told-weighs e told (inl is) = to e told (step l e) is (step-weighs e)
-    told-weighs e told (inr is) = to e told (refused l NoMemory e) is.1 (refused-weighs e)
+    pub told-weighs : (handles : Handles) (e : Event T) (told : Told T) → Answers handles l e told → Weighs e told
+    told-weighs handles e told (inl is) =
+        elim (cases_Bool (has_handle handles e)) [
+          | inl x ↦ to e told (step l e) (is ∙ rw x refl) (step-weighs e)
+          | inr x ↦ to e told (refused l NoHandle e) (is ∙ rw x refl) (refused-weighs e NoHandle)
+        ]
+    told-weighs handles e told (inr is) = to e told (refused l NoMemory e) is.2 (refused-weighs e NoMemory)
 
   abbrev pub account_weight : Account T → ℕ
   account_weight a = weigh (reply_weight h) a.replies + weigh (settlement_weight h) a.settled + weigh h a.drained + weigh h a.cleared + weigh h (messages a.line.line)
@@ -215,7 +268,7 @@ module _ {T : Type 0} (h : T → ℕ) where
   weigh-numbered n [] = refl
   weigh-numbered n (s ∷ ss) = ap (λ k. outcome_weight h s.1 + k) (weigh-numbered n ss)
 
-  weigh-added : (a : Account T) (e : Event T) (told : Told T) → weigh h (messages a.line.line) + event_weight h e ≡ told_weight told → account_weight a + event_weight h e ≡ account_weight (added a told)
+  weigh-added : (a : Account T) (e : Event T) (told : Told T) → weigh h (messages a.line.line) + event_weight h e ≡ told_weight told → account_weight a + event_weight h e ≡ account_weight (added a e told)
   weigh-added a e told w =
       omega (
         arith,
@@ -233,6 +286,6 @@ module _ {T : Type 0} (h : T → ℕ) where
   weigh-leads past a b (e ∷ es) now l =
       let told = l.1.0 in
       let P : Account T → Type 0 = λ x. Holds (told_history (past ++ e ∷ []) x) x.line in
-      let next : P l.0 = subst P (sym l.1.2) (told-holds (told_history past a) a.line now (length a.replies) e told l.1.1) in
-      let one = told-weighs a.line now.seats (apart-prefix (tickets a.line.line) a.line.demands now.apart) e told l.1.1 in
+      let next : P l.0 = subst P (sym l.1.2) (told-holds (told_history past a) a.line now (length a.replies) a.handles e told l.1.1) in
+      let one = told-weighs a.line now.seats (apart-prefix (tickets a.line.line) a.line.demands now.apart) a.handles e told l.1.1 in
       omega (arith, weigh-leads (past ++ e ∷ []) l.0 b es next l.2, weigh-added a e told one, ap account_weight l.1.2)

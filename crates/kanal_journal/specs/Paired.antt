@@ -1,13 +1,13 @@
 -- Which messages and which demands were kept, read from the history alone, and that they are paired in order.
-use Rattle.std.specs.Prelude.{◌≡◌, ℕ, ◌-◌, ◌==◌, nat_lt, Bool, true, false, not, ◌&&◌, ◌||◌, cond, List, [], ◌∷◌, ◌++◌, length, map, filter, take, drop, sum_by, Option, Some, None}
+use Rattle.std.specs.Prelude.{◌≡◌, ℕ, ◌-◌, ◌==◌, nat_lt, Bool, true, false, not, ◌&&◌, ◌||◌, cond, List, [], ◌∷◌, ◌++◌, length, map, filter, take, drop, replicate, sum_by, Option, Some, None}
 use Rattle.std.specs.List.{list_any}
 use Rattle.std.specs.Option.{option_or}
 use Rattle.kanal_core.specs.declared.internal.outcome.Outcome.{Outcome}
 use Rattle.kanal_core.specs.declared.internal.outcome.Outcome.TheVariants.{Given, Ended}
 use Rattle.kanal_journal.specs.declared.journal.event.Event.{Event}
-use Rattle.kanal_journal.specs.declared.journal.event.Event.TheVariants.{Send, TrySend, Recv, RecvLate, TryRecv, Withdraw}
+use Rattle.kanal_journal.specs.declared.journal.event.Event.TheVariants.{Send, TrySend, Recv, RecvLate, TryRecv, Drain, Withdraw}
 use Rattle.kanal_journal.specs.declared.journal.event.Reply.{Reply}
-use Rattle.kanal_journal.specs.declared.journal.event.Reply.TheVariants.{Sent, Waits, Yes, Got, Withdrawn, Cleared}
+use Rattle.kanal_journal.specs.declared.journal.event.Reply.TheVariants.{Sent, Waits, Yes, Got, Drained, Withdrawn, Cleared}
 use Rattle.kanal_journal.specs.declared.journal.event.Settlement.{Settlement}
 use Rattle.kanal_journal.specs.declared.journal.event.Report.{Report}
 
@@ -56,6 +56,7 @@ module _ {T : Type 0} where
   asked Recv (Waits t) = Later t ∷ []
   asked RecvLate (Got m) = AtOnce m ∷ []
   asked TryRecv (Got m) = AtOnce m ∷ []
+  asked Drain (Drained n) = replicate n Next
   asked event reply = []
 
   -- the ticket that was withdrawn at this step

@@ -1,17 +1,18 @@
 -- What one event does to the line, and what it tells.
-use Rattle.std.specs.Prelude.{◌≡◌, ◌≢◌, ℕ, ◌==◌, ◌&&◌, cond, List, [], ◌∷◌, length, Option, Some, None, ◌⊎◌}
+use Rattle.std.specs.Prelude.{◌≡◌, ◌≢◌, ℕ, ◌==◌, Bool, ◌&&◌, cond, List, [], ◌∷◌, length, Option, Some, None, ◌⊎◌}
 use Rattle.kanal_core.specs.declared.internal.outcome.Outcome.{Outcome}
-use Rattle.kanal_core.specs.Line.{Entry, Line, last_word, has_place, buffered, has, found}
-use Rattle.kanal_core.specs.Moves.{Moved, enter, leave, close, cleared, wait_send, wait_recv, without_entry, without_demand}
+use Rattle.kanal_core.specs.Line.{Entry, Line, last_word, is_at, is_bounded, capacity_word, messages, has_place, buffered, has, found}
+use Rattle.kanal_core.specs.Moves.{Moved, last_count, enter, leave, drain, close, cleared, wait_send, wait_recv, without_entry, without_demand, add_sender, add_receiver, drop_sender, drop_receiver}
 use Rattle.kanal_journal.specs.declared.journal.event.Side.{Side}
+use Rattle.kanal_journal.specs.declared.journal.event.Side.TheVariants.{Tx, Rx}
 use Rattle.kanal_journal.specs.declared.journal.event.Ask.{Ask}
-use Rattle.kanal_journal.specs.declared.journal.event.Ask.TheVariants.{Len}
+use Rattle.kanal_journal.specs.declared.journal.event.Ask.TheVariants.{IsBounded, Len, IsEmpty, IsFull, Capacity, ReceiverCount, SenderCount, IsClosed, IsDisconnected}
 use Rattle.kanal_journal.specs.declared.journal.event.Event.{Event}
-use Rattle.kanal_journal.specs.declared.journal.event.Event.TheVariants.{Send, TrySend, Recv, RecvLate, TryRecv, Withdraw, Close, Ask as Asks}
+use Rattle.kanal_journal.specs.declared.journal.event.Event.TheVariants.{Send, TrySend, Recv, RecvLate, TryRecv, Drain, Withdraw, CloneTx, CloneRx, DropTx, DropRx, Close, Ask as Asks, Terminated}
 use Rattle.kanal_journal.specs.declared.journal.event.Refusal.{Refusal}
 use Rattle.kanal_journal.specs.declared.journal.event.Refusal.TheVariants.{Closed, ReceiveClosed, SendClosed, Timeout, NoMemory, TooMany, CloseError, NotWaiting}
 use Rattle.kanal_journal.specs.declared.journal.event.Reply.{Reply}
-use Rattle.kanal_journal.specs.declared.journal.event.Reply.TheVariants.{Sent, Waits, Yes, No, Got, Nothing, Withdrawn, Cleared, Number, Refused}
+use Rattle.kanal_journal.specs.declared.journal.event.Reply.TheVariants.{Sent, Waits, Yes, No, Got, Nothing, Drained, Withdrawn, Done, Cleared, Number, Flag, Refused}
 
 -- what one event tells: the line after it, the reply, the tickets that it settles, the messages that it drains and those that it clears
 pub record Told (T : Type 0) : Type 0 where
@@ -59,27 +60,61 @@ module _ {T : Type 0} where
   withdraw old t [] = cond (has t old.demands) (only (without_demand old t) (Withdrawn None)) (only old (Refused NotWaiting None))
   withdraw old t (m ∷ ms) = only (without_entry old t) (Withdrawn (Some m))
 
+  -- both sides are gone
+  abbrev pub is_closed : Line T → Bool
+  is_closed old = (old.senders == 0) && (old.receivers == 0)
+
   -- the channel is closed: all waits end, and the buffer is cleared
   abbrev pub shut : Line T → Told T
   shut old =
-      cond ((old.senders == 0) && (old.receivers == 0))
+      cond (is_closed old)
       (only old (Refused CloseError None))
       (record (moving (close old) (Cleared (length (cleared old)))) { cleared = cleared old })
 
-  -- a question looks at the buffer
-  abbrev pub answer : Line T → Side → Ask → Reply T
-  answer old side Len = Number (buffered old)
+  -- the whole line is taken
+  abbrev pub drained : Line T → Told T
+  drained old =
+      cond (old.receivers == 0)
+      (only old (Refused Closed None))
+      (record (moving (drain old) (Drained (length old.line))) { drained = messages old.line })
 
-  -- what the event does, where it is not refused for memory
+  -- a handle of a side with this count is cloned, if the count may rise
+  abbrev pub cloned : Line T → ℕ → Line T → Told T
+  cloned old count new = cond (count == last_count) (only old (Refused TooMany None)) (only new Done)
+
+  -- the other side is gone
+  abbrev pub is_disconnected : Line T → Side → Bool
+  is_disconnected old Tx = old.receivers == 0
+  is_disconnected old Rx = old.senders == 0
+
+  -- a question looks at the buffer, the capacity and the counts
+  abbrev pub answer : Line T → Side → Ask → Reply T
+  answer old side IsBounded = Flag (is_bounded old.capacity)
+  answer old side Len = Number (buffered old)
+  answer old side IsEmpty = Flag (buffered old == 0)
+  answer old side IsFull = Flag (is_at (buffered old) old.capacity)
+  answer old side Capacity = Number (capacity_word old.capacity)
+  answer old side ReceiverCount = Number old.receivers
+  answer old side SenderCount = Number old.senders
+  answer old side IsClosed = Flag (is_closed old)
+  answer old side IsDisconnected = Flag (is_disconnected old side)
+
+  -- what the event does, through a live handle and where it is not refused for memory
   abbrev pub step : Line T → Event T → Told T
   step old (Send m) = offer old m Sent (wait old (wait_send old m) (Some m))
   step old (TrySend m) = offer old m Yes (only old (No m))
   step old Recv = take old (nothing_there old (wait old (wait_recv old) None))
   step old RecvLate = take old (only old (Refused Timeout None))
   step old TryRecv = take old (nothing_there old (only old Nothing))
+  step old Drain = drained old
   step old (Withdraw t) = withdraw old t (found t old.line)
+  step old CloneTx = cloned old old.senders (add_sender old)
+  step old CloneRx = cloned old old.receivers (add_receiver old)
+  step old DropTx = moving (drop_sender old) Done
+  step old DropRx = moving (drop_receiver old) Done
   step old Close = shut old
   step old (Asks side ask) = only old (answer old side ask)
+  step old Terminated = only old (Flag ((old.senders == 0) && (buffered old == 0)))
 
   -- the message of an event, which a refusal gives back
   abbrev pub message_of : Event T → Option T
@@ -100,11 +135,12 @@ module _ {T : Type 0} where
   abbrev pub Lengthens : Line T → Type 0
   Lengthens old = (old.receivers ≢ 0) × (old.demands ≡ []) × (old.capacity ≡ None)
 
-  -- the event may be refused for memory: it would start a wait, or lengthen an unlimited line while no demand waits
+  -- the event may be refused for memory: it would start a wait, lengthen an unlimited line while no demand waits, or drain a line that is not empty
   abbrev pub MayRefuse : Line T → Event T → Type 0
   MayRefuse old (Send m) = IsWait (step old (Send m)).reply ⊎ Lengthens old
   MayRefuse old (TrySend m) = Lengthens old
   MayRefuse old Recv = IsWait (step old Recv).reply
+  MayRefuse old Drain = (old.receivers ≢ 0) × (old.line ≢ [])
   MayRefuse old event = ⊥
 
   -- the event was made, or was refused for memory where it may be

@@ -15,12 +15,31 @@ pub enum Side {
 /// A question that either side may ask.
 #[derive(Clone, Copy, Debug, PartialEq, Eq)]
 pub enum Ask {
+    /// Whether there is a limit to the buffer.
+    IsBounded,
     /// How many messages are in the buffer.
     Len,
+    /// Whether there is no message in the buffer.
+    IsEmpty,
+    /// Whether the buffer holds all that its capacity allows.
+    IsFull,
+    /// The capacity, or the largest word where there is no limit.
+    Capacity,
+    /// How many receivers there are.
+    ReceiverCount,
+    /// How many senders there are.
+    SenderCount,
+    /// Whether both sides are gone.
+    IsClosed,
+    /// Whether the other side is gone.
+    IsDisconnected,
 }
 
 /// One call on a channel.
-#[derive(Drop)]
+///
+/// A call is made through a live handle of its side; a withdrawal needs none, and a close one of
+/// either side.
+#[derive(Clone, Copy, Drop)]
 pub enum Event<T> {
     /// Send this message, and wait if it can't enter at once.
     Send(T),
@@ -32,12 +51,24 @@ pub enum Event<T> {
     RecvLate,
     /// Receive a message if one is there.
     TryRecv,
+    /// Take all messages, those of waiting senders too.
+    Drain,
     /// Take back the wait with this ticket.
     Withdraw(u64),
+    /// Clone a sender.
+    CloneTx,
+    /// Clone a receiver.
+    CloneRx,
+    /// Drop a sender.
+    DropTx,
+    /// Drop a receiver.
+    DropRx,
     /// Close both sides.
     Close,
     /// Ask a question through this side.
     Ask(Side, Ask),
+    /// Ask whether no sender is left and no message is in the buffer.
+    Terminated,
 }
 
 /// Why an event changed nothing.
@@ -53,16 +84,18 @@ pub enum Refusal {
     Timeout,
     /// A growth was refused for memory.
     NoMemory,
-    /// The tickets are used up.
+    /// The tickets are used up, or a side's count.
     TooMany,
     /// A close of a channel whose sides are both gone.
     CloseError,
+    /// The event's side has no live handle.
+    NoHandle,
     /// A withdrawal of a ticket that does not wait.
     NotWaiting,
 }
 
 /// What an event is answered.
-#[derive(Drop)]
+#[derive(Clone, Copy, Drop)]
 pub enum Reply<T> {
     /// The message of a `Send` entered.
     Sent,
@@ -76,18 +109,24 @@ pub enum Reply<T> {
     Got(T),
     /// There is no message.
     Nothing,
+    /// So many messages were drained.
+    Drained(usize),
     /// The wait was taken back, with the message of a send.
     Withdrawn(Option<T>),
+    /// The handle was cloned or dropped.
+    Done,
     /// The channel was closed, and so many messages were cleared.
     Cleared(usize),
     /// A number that was asked for.
     Number(u64),
+    /// Yes or no, as it was asked.
+    Flag(bool),
     /// Nothing changed, and the event's message, if it had one, comes back.
     Refused(Refusal, Option<T>),
 }
 
 /// A wait that was settled at a step: its ticket's number, and what became of it.
-#[derive(Drop)]
+#[derive(Clone, Copy, Drop)]
 pub struct Settlement<T> {
     pub step: usize,
     pub ticket: u64,

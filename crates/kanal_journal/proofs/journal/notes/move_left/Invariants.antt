@@ -1,5 +1,5 @@
 use Rattle.std.proofs.Common.{◌≡◌, ◌≤◌, ◌+◌, ◌++◌, length, vec_len, vec_capacity}
-use Rattle.kanal_journal.proofs.journal.move_cleared.Given as goal
+use Rattle.kanal_journal.proofs.journal.notes.move_left.Given as goal
 
 -- what was moved and what is left are all, and there is room for what is left
 abbrev pub invariant-loop-message : goal.invariant-loop-message

@@ -1,6 +1,6 @@
 use Rattle.std.proofs.Common.{ap}
 use Rattle.kanal_journal.proofs.Numbering.{numbered-last}
-use Rattle.kanal_journal.proofs.journal.start_recv.Goals as goal
+use Rattle.kanal_journal.proofs.journal.calls.start_send.Goals as goal
 
 pub returns-in-Ok-clause-numbered : goal.returns-in-Ok-clause-numbered
 returns-in-Ok-clause-numbered g c =

@@ -6,7 +6,7 @@ use Rattle.kanal_journal.specs.declared.journal.event.Event.TheVariants.{Withdra
 use Rattle.kanal_journal.specs.Steps.{step}
 use Rattle.kanal_journal.proofs.Numbering.{numbered-count}
 use Rattle.kanal_journal.proofs.Withdrawing.{numbered-get, withdrawn-told, not-waiting-told}
-use Rattle.kanal_journal.proofs.journal.withdraw.Goals as goal
+use Rattle.kanal_journal.proofs.journal.calls.withdraw.Goals as goal
 
 pub returns-in_default-clause-told : goal.returns-in_default-clause-told
 returns-in_default-clause-told g c =

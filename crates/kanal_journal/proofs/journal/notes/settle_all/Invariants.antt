@@ -1,7 +1,7 @@
 use Rattle.std.proofs.Common.{◌≡◌, ◌≤◌, ◌+◌, ◌++◌, length, map, vec_len, vec_capacity}
 use Rattle.kanal_core.specs.Channel.{settlement}
 use Rattle.kanal_journal.specs.Runs.{numbered}
-use Rattle.kanal_journal.proofs.journal.settle_all.Given as goal
+use Rattle.kanal_journal.proofs.journal.notes.settle_all.Given as goal
 
 -- what was settled and what is left are all, and there is room for what is left
 abbrev pub invariant-loop-settled : goal.invariant-loop-settled

@@ -1,0 +1,97 @@
+//! What a step told, put at the end of the lists that keep it.
+//!
+//! Stands on what the core handed out. Every list has its room before, so that nothing is refused
+//! here.
+ghost use Rattle.std.specs.Prelude.{◌≡◌, ◌+◌, ◌<◌, ◌≤◌, [], ◌∷◌, ◌++◌, length, map, vec_len, vec_capacity};
+ghost use Rattle.kanal_core.specs.Channel.{settlement};
+ghost use Rattle.kanal_journal.specs.Runs.{numbered};
+ghost use Rattle.kanal_journal.specs.Made.{reply_of, settled_by, cleared_of};
+
+use super::calls::Made;
+use super::event::{Reply, Settlement};
+use kanal_core::internal::{Cleared, Closing, Ended, Left, Settled};
+
+/// Moves the messages to the vector's end, where they have room.
+fn move_cleared<T: Drop>(messages: Cleared<T>, into: &mut Vec<T>)
+    requires { vec_len into.old + length messages ≤ vec_capacity into.old }
+    ensures items { into.new.items ≡ into.old.items ++ messages }
+    ensures room { vec_capacity into.new ≡ vec_capacity into.old }
+{
+    let mut messages = messages;
+    while let Some(message) = messages.next() {
+        into.push_reserved(message);
+    }
+}
+
+/// Moves the messages to the vector's end, where they have room.
+pub(crate) fn move_left<T: Drop>(messages: Left<T, ()>, into: &mut Vec<T>)
+    requires { vec_len into.old + length messages ≤ vec_capacity into.old }
+    ensures items { into.new.items ≡ into.old.items ++ messages }
+    ensures room { vec_capacity into.new ≡ vec_capacity into.old }
+{
+    let mut messages = messages;
+    while let Some(message) = messages.next() {
+        into.push_reserved(message);
+    }
+}
+
+/// Puts a settled wait at the vector's end, where it has room, with the step's number.
+fn settle<T: Drop>(step: usize, settled: Settled<T, ()>, into: &mut Vec<Settlement<T>>)
+    requires { vec_len into.old < vec_capacity into.old }
+    ensures items { into.new.items ≡ into.old.items ++ numbered step (settlement settled ∷ []) }
+    ensures room { vec_capacity into.new ≡ vec_capacity into.old }
+{
+    into.push_reserved(Settlement {
+        step,
+        ticket: settled.ticket.number(),
+        outcome: settled.outcome,
+    });
+}
+
+/// Puts the waits that a step ended at the vector's end, where they have room.
+fn settle_all<T: Drop>(step: usize, ended: Ended<T, ()>, into: &mut Vec<Settlement<T>>)
+    requires { vec_len into.old + length ended ≤ vec_capacity into.old }
+    ensures items { into.new.items ≡ into.old.items ++ numbered step (map settlement ended) }
+    ensures room { vec_capacity into.new ≡ vec_capacity into.old }
+{
+    let mut ended = ended;
+    while let Some(settled) = ended.next() {
+        settle(step, settled, into);
+    }
+}
+
+/// Puts what a step settled and cleared at the ends of these vectors, which have room, and hands on
+/// its reply.
+pub(crate) fn note<T: Drop>(
+    step: usize,
+    made: Made<T>,
+    settlements: &mut Vec<Settlement<T>>,
+    clearings: &mut Vec<T>,
+) -> Reply<T>
+    requires settled { vec_len settlements.old + length (settled_by made) ≤ vec_capacity settlements.old }
+    requires cleared { vec_len clearings.old + length (cleared_of made) ≤ vec_capacity clearings.old }
+    ensures reply { result ≡ reply_of made }
+    ensures settled { settlements.new.items ≡ settlements.old.items ++ numbered step (settled_by made) }
+    ensures cleared { clearings.new.items ≡ clearings.old.items ++ cleared_of made }
+    ensures room { (vec_capacity settlements.new ≡ vec_capacity settlements.old) × (vec_capacity clearings.new ≡ vec_capacity clearings.old) }
+{
+    match made {
+        Made::One(reply, settled) => {
+            if let Some(settled) = settled {
+                settle(step, settled, settlements);
+            }
+            reply
+        },
+        Made::All(reply, ended) => {
+            settle_all(step, ended, settlements);
+            reply
+        },
+        Made::Shut(closing) => {
+            let Closing { cleared, ended } = closing;
+            let count = cleared.len();
+            settle_all(step, ended, settlements);
+            move_cleared(cleared, clearings);
+            Reply::Cleared(count)
+        },
+    }
+}

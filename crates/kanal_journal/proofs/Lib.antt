@@ -19,4 +19,6 @@ pub mod Numbering
 pub mod Withdrawing
 pub mod Counting
 pub mod Noting
+pub mod Regular
+pub mod Replaying
 pub mod Examples

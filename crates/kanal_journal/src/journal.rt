@@ -22,8 +22,16 @@ mod calls;
 mod event;
 mod handles;
 mod notes;
+mod pass;
+mod recorded;
+mod recorded_state;
+mod recorder;
 
 pub use event::{Ask, Event, Refusal, Reply, Report, Settlement, Side};
+pub use pass::{Note, Pass};
+pub use recorded::Recorded;
+pub use recorded_state::RecordedState;
+pub use recorder::Entry;
 
 /// Makes one event, and adds what it tells to the report.
 fn step<T: Drop>(

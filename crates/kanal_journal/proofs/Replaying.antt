@@ -161,7 +161,7 @@ module _ {T : Type 0} where
   pub same-recording : (old new : Recorder T) → IsSame old new → recording_of new ≡ recording_of old
   same-recording old new same =
       let f : Channel T (Unit {0}) → Handles → List (Entry T) → List (Settlement T) → List T → List T → Recording T = λ k hs es ss ds cs.
-        record { capacity = k.capacity; entries = es; account = record { line = line_of k; handles = hs; replies = replies_of es; settled = ss; drained = ds; cleared = cs } } in
+      record { capacity = k.capacity; entries = es; account = record { line = line_of k; handles = hs; replies = replies_of es; settled = ss; drained = ds; cleared = cs } } in
       ap (λ k. f k new.handles new.entries.items new.settled.items new.drained.items new.cleared.items) same.core
       ∙ (ap (λ hs. f old.core hs new.entries.items new.settled.items new.drained.items new.cleared.items) same.handles
       ∙ (ap (λ es. f old.core old.handles es new.settled.items new.drained.items new.cleared.items) same.entries

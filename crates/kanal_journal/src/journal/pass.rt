@@ -265,7 +265,13 @@ impl<T: Copy> Pass<T> {
     /// ```text
     /// pass.ask(rt, &channel, Side::Tx, Ask::Len)   answers  Number(1)   after 7 was sent
     /// ```
-    pub fn ask<R: Wait>(&mut self, rt: &R, channel: &Recorded<T>, side: Side, question: Ask) -> Reply<T>
+    pub fn ask<R: Wait>(
+        &mut self,
+        rt: &R,
+        channel: &Recorded<T>,
+        side: Side,
+        question: Ask,
+    ) -> Reply<T>
         ensures { Notes self.old (Event.Ask side question) result self.new }
     {
         self.call(rt, channel, Event::Ask(side, question))
@@ -289,8 +295,8 @@ impl<T: Copy> Pass<T> {
     fn call<R: Wait>(&mut self, rt: &R, channel: &Recorded<T>, event: Event<T>) -> Reply<T>
         ensures { Notes self.old event result self.new }
     {
-        let mut desk = channel.desk.lock(rt);
-        self.call_on(&mut desk.state, event)
+        let mut shared = channel.shared.lock(rt);
+        self.call_on(&mut shared.state, event)
     }
 
     /// Makes the event on the state that is lent, and notes it; or finds no memory, and changes

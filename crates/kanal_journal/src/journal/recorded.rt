@@ -14,7 +14,7 @@ use std::sync::Wait;
 
 /// What lies under the lock: the channel with its journal, and how many passes were drawn.
 #[derive(Drop)]
-pub(crate) struct Desk<T: Copy> {
+pub(crate) struct Shared<T: Copy> {
     pub(crate) state: RecordedState<T>,
     parties: u32,
 }
@@ -25,7 +25,7 @@ pub(crate) struct Desk<T: Copy> {
 /// the channel, and explains it whenever the lock is got. Contracts see the capacity.
 #[derive(Drop)]
 pub struct Recorded<T: Copy> {
-    pub(crate) desk: Mutex<Desk<T>>,
+    pub(crate) shared: Mutex<Shared<T>>,
     capacity: Option<usize>,
     alloc: Global,
 }
@@ -58,7 +58,7 @@ impl<T: Copy> Recorded<T> {
     {
         let state = RecordedState::new(alloc, capacity)?;
         Ok(Recorded {
-            desk: Mutex::new(Desk { state, parties: 0 }),
+            shared: Mutex::new(Shared { state, parties: 0 }),
             capacity,
             alloc,
         })
@@ -76,12 +76,12 @@ impl<T: Copy> Recorded<T> {
     pub fn pass<R: Wait>(&self, rt: &R) -> Result<Pass<T>, TooMany>
         ensures { IfOk result (λ p. p ≡ newcomer p.party) }
     {
-        let mut desk = self.desk.lock(rt);
-        let party = desk.parties;
+        let mut shared = self.shared.lock(rt);
+        let party = shared.parties;
         if party == u32::MAX {
             return Err(TooMany);
         }
-        desk.parties = party + 1;
+        shared.parties = party + 1;
         Ok(Pass::new(self.alloc, party))
     }
 }

@@ -127,6 +127,6 @@ impl<T: Copy> RecordedState<T> {
     pub fn len(&self) -> usize
         ensures { result ≡ length self.now.entries }
     {
-        self.recorder.entries().len()
+        self.entries().len()
     }
 }

@@ -3,17 +3,15 @@
 //! Stands on the making of one event and on the noting of what it told. Room for all that a step may
 //! add is made before the step. That the journal replays to what is there is a fact which each step
 //! is given and gives back; `RecordedState` alone keeps it, and nothing else uses this module.
-ghost use Rattle.std.specs.Prelude.{◌≡◌, ℕ, ◌+◌, ◌<◌, ◌≤◌, [], IfOk, IsErrOf, ◌↔◌, Some, length, vec_len, vec_capacity};
-ghost use Rattle.kanal_core.specs.Channel.{line_of};
+ghost use Rattle.std.specs.Prelude.{◌≡◌, ◌↔◌, ◌<◌, ◌≤◌, [], ◌∷◌, ◌++◌, IfOk, IsErrOf, Some, vec_len, vec_capacity};
 ghost use Rattle.kanal_journal.specs.Given.{AreNumbered};
 ghost use Rattle.kanal_journal.specs.Replays.{Records, opened, is_no_memory as tells_no_memory};
 ghost use Rattle.kanal_journal.specs.Recorders.{IsSound, IsSame, HasRoom, IsNoted, account_of, recording_of};
 
-use super::calls;
 use super::calls::Core;
 use super::event::{Event, Refusal, Reply, Settlement};
 use super::handles::Handles;
-use super::notes;
+use super::{calls, notes};
 use kanal_core::error::NewError;
 use kanal_core::internal::Ticket;
 use std::alloc::{AllocError, Global};
@@ -39,6 +37,19 @@ fn make_room<X>(list: &mut Vec<X>, total: usize) -> Result<(), AllocError>
     ensures room { IfOk result (λ _. total ≤ vec_capacity list.new) }
 {
     list.try_reserve(total.saturating_sub(list.len()))
+}
+
+/// Puts the call at the journal's end, which has room for it.
+fn enter<T: Copy>(entries: &mut Vec<Entry<T>>, party: u32, event: Event<T>, reply: Reply<T>)
+    requires { vec_len entries.old < vec_capacity entries.old }
+    ensures { entries.new.items ≡ entries.old.items ++ record { party = party; event = event; reply = reply } ∷ [] }
+{
+    let entry = Entry {
+        party,
+        event,
+        reply,
+    };
+    entries.push_reserved(entry);
 }
 
 /// A core with the tickets that it gave and the live handles; its journal; and what it settled,
@@ -124,11 +135,7 @@ impl<T: Copy> Recorder<T> {
         }
         let reply = self.make(event);
         if !is_no_memory(reply) {
-            self.entries.push_reserved(Entry {
-                party,
-                event,
-                reply,
-            });
+            enter(&mut self.entries, party, event, reply);
         }
         reply
     }

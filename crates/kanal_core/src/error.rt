@@ -79,12 +79,3 @@ pub enum WaitError {
     /// The channel's tickets are used up.
     TooMany,
 }
-
-/// A drain took nothing.
-#[derive(Clone, Copy, Debug, PartialEq, Eq)]
-pub enum DrainError {
-    /// No receiver is left.
-    Closed,
-    /// There was no memory for the messages in the vector.
-    NoMemory,
-}

@@ -7,18 +7,18 @@
 //!
 //! Stands on its two rooms, `buffer` and `wait_list`, which nothing else may use. Whoever shares a
 //! core puts it behind a lock, and settles or drops what a call hands out only after the release.
-ghost use Rattle.std.specs.Prelude.{OnOk, cond, ◌==◌, ◌&&◌, vec_len, vec_capacity, ◌≡◌, ◌≢◌, ◌⊎◌, ◌+◌, ◌<◌, ◌≤◌, ℕ, false, ◌↔◌, [], ◌∷◌, ◌++◌, true, length, map, MatchResult, IfOk, IfErr, IsErr, IsErrOf, Some, None};
+ghost use Rattle.std.specs.Prelude.{◌≡◌, ◌≢◌, ◌⊎◌, ◌+◌, ◌<◌, ◌≤◌, ℕ, false, ◌↔◌, [], ◌∷◌, ◌++◌, true, length, map, MatchResult, IfOk, IfErr, IsErr, IsErrOf, Some, None};
 ghost use Rattle.std.specs.Borrow.{sem};
 ghost use Rattle.std.specs.Fn.{FnReturnsAt};
 ghost use Rattle.std.specs.Option.{option_copied_mut, option_map};
-ghost use Rattle.kanal_core.specs.Line.{is_at, is_bounded, capacity_word, IsWithin, bare, buffered, found, has, messages};
-ghost use Rattle.kanal_core.specs.Moves.{close, cleared, wait_send, wait_recv, raised, last_count, drop_sender, drop_receiver, drain};
-ghost use Rattle.kanal_core.specs.Channel.{sender_dropped, receiver_dropped, drained, taken_by, line_of, opening, starting, closed, ended_by, settlement};
+ghost use Rattle.kanal_core.specs.Line.{IsWithin, bare, buffered, found, has, messages};
+ghost use Rattle.kanal_core.specs.Moves.{close, cleared, wait_send, wait_recv};
+ghost use Rattle.kanal_core.specs.Channel.{line_of, opening, starting, closed, ended_by, settlement};
 ghost use Rattle.kanal_core.specs.Waiters.{waiter_of, without, IsFirstWhere, receiver_first, sender_first};
 ghost use Rattle.kanal_core.specs.Calls.{Offers, Takes, Withdraws, MovesTo, OldestLeft, IsFull, IsEmpty, handed, let_in};
 ghost use Rattle.kanal_core.specs.Handing.{HandsOver, TakesSender, LetsIn, HasOnePlace};
 
-use crate::error::{CloseError, DrainError, NewError, TooMany, WaitError};
+use crate::error::{CloseError, NewError, WaitError};
 use std::alloc::Global;
 use std::marker::Model;
 use std::mem;
@@ -443,127 +443,6 @@ impl<T, W> ChannelInternal<T, W> {
         ensures { result ≡ buffered (line_of self.now) }
     {
         self.buffer.len()
-    }
-
-    pub fn add_sender(&mut self) -> Result<(), TooMany>
-        requires stub { ⊥ }
-        ensures raised { OnOk result (self.new ≡ record self.old { senders = raised self.old.senders }) }
-        ensures refused { IfErr result (λ _. self.new ≡ self.old) }
-        ensures most { IsErr result ↔ (self.old.senders ≡ last_count) }
-    {
-        unreachable!()
-    }
-
-    pub fn drop_sender(&mut self) -> Ended<T, W>
-        requires stub { ⊥ }
-        ensures step { MovesTo (drop_sender (line_of self.old)) (map settlement result) (line_of self.new) }
-        ensures after { self.new ≡ sender_dropped self.old }
-        ensures ended { result ≡ cond (self.old.senders == 1) (map (ended_by Reason.SendClosed) self.old.waiters) [] }
-    {
-        unreachable!()
-    }
-
-    pub fn add_receiver(&mut self) -> Result<(), TooMany>
-        requires stub { ⊥ }
-        ensures raised { OnOk result (self.new ≡ record self.old { receivers = raised self.old.receivers }) }
-        ensures refused { IfErr result (λ _. self.new ≡ self.old) }
-        ensures most { IsErr result ↔ (self.old.receivers ≡ last_count) }
-    {
-        unreachable!()
-    }
-
-    pub fn drop_receiver(&mut self) -> Ended<T, W>
-        requires stub { ⊥ }
-        ensures step { MovesTo (drop_receiver (line_of self.old)) (map settlement result) (line_of self.new) }
-        ensures after { self.new ≡ receiver_dropped self.old }
-        ensures ended { result ≡ cond (self.old.receivers == 1) (map (ended_by Reason.ReceiveClosed) self.old.waiters) [] }
-    {
-        unreachable!()
-    }
-
-    pub fn drain_into(&mut self, into: &mut Vec<T>) -> Result<(usize, Ended<T, W>), DrainError>
-        requires stub { ⊥ }
-        ensures step { IfOk result (λ d. MovesTo (drain (line_of self.old)) (map settlement d.1) (line_of self.new)) }
-        ensures receiver { IsErrOf result DrainError.Closed ↔ (self.old.receivers ≡ 0) }
-        ensures moved { IfOk result (λ _. into.new.items ≡ into.old.items ++ messages (line_of self.old).line) }
-        ensures count { IfOk result (λ d. d.0 ≡ length (line_of self.old).line) }
-        ensures after { IfOk result (λ _. self.new ≡ drained self.old) }
-        ensures taken { IfOk result (λ d. d.1 ≡ cond (sender_first self.old.waiters) (map taken_by self.old.waiters) []) }
-        ensures refused { IfErr result (λ _. (self.new ≡ self.old) × (into.new.items ≡ into.old.items)) }
-        ensures room { vec_len into.old + length (line_of self.old).line ≤ vec_capacity into.old → vec_capacity into.new ≡ vec_capacity into.old }
-        ensures memory { IsErrOf result DrainError.NoMemory → vec_capacity into.old < vec_len into.old + length (line_of self.old).line }
-    {
-        unreachable!()
-    }
-
-    pub fn is_bounded(&self) -> bool
-        requires stub { ⊥ }
-        ensures { result ≡ is_bounded self.now.capacity }
-    {
-        unreachable!()
-    }
-
-    pub fn is_empty(&self) -> bool
-        requires stub { ⊥ }
-        ensures { result ≡ buffered (line_of self.now) == 0 }
-    {
-        unreachable!()
-    }
-
-    pub fn is_full(&self) -> bool
-        requires stub { ⊥ }
-        ensures { result ≡ is_at (buffered (line_of self.now)) self.now.capacity }
-    {
-        unreachable!()
-    }
-
-    pub fn capacity(&self) -> usize
-        requires stub { ⊥ }
-        ensures { result ≡ capacity_word self.now.capacity }
-    {
-        unreachable!()
-    }
-
-    pub fn receiver_count(&self) -> u32
-        requires stub { ⊥ }
-        ensures { result ≡ self.now.receivers }
-    {
-        unreachable!()
-    }
-
-    pub fn sender_count(&self) -> u32
-        requires stub { ⊥ }
-        ensures { result ≡ self.now.senders }
-    {
-        unreachable!()
-    }
-
-    pub fn is_closed(&self) -> bool
-        requires stub { ⊥ }
-        ensures { result ≡ (self.now.senders == 0) && (self.now.receivers == 0) }
-    {
-        unreachable!()
-    }
-
-    pub fn send_side_gone(&self) -> bool
-        requires stub { ⊥ }
-        ensures { result ≡ self.now.senders == 0 }
-    {
-        unreachable!()
-    }
-
-    pub fn receive_side_gone(&self) -> bool
-        requires stub { ⊥ }
-        ensures { result ≡ self.now.receivers == 0 }
-    {
-        unreachable!()
-    }
-
-    pub fn is_terminated(&self) -> bool
-        requires stub { ⊥ }
-        ensures { result ≡ (self.now.senders == 0) && (buffered (line_of self.now) == 0) }
-    {
-        unreachable!()
     }
 
     /// Ends the channel's life and hands out what is still in its line: the buffer, front first, and

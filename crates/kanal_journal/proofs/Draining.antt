@@ -52,7 +52,7 @@ module _ {T : Type 0} where
           goes_waiting = λ t g. absurd (cc (none_ends T n (tickets l.line) t, g));
           send_new = refl;
           entry_new = refl;
-          demand_new = next-stays _ (length l.line);
+          demand_new = next-stays (longer h Drain reply ss (messages l.line)) (length l.line);
         }
 
     clean_drain : Clean l Drain reply ss (messages l.line) (record l { line = [] })

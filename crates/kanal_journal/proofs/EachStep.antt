@@ -211,7 +211,7 @@ module _ {T : Type 0} (h : History T) (l : Line T) (now : Holds h l) (n : ℕ) w
     where
       all : (xs : List (Entry T)) → l.line ≡ xs → (l.receivers ≡ 0 → ⊥) → After Drain (record (moving (drain l) (Drained (length l.line))) { drained = messages l.line })
       all [] is some_receiver =
-          to Drain (record (moving (drain l) (Drained (length l.line))) { drained = messages l.line }) (only l (Drained 0)) (rw is (ap (λ ys. only (record l { line = ys }) (Drained 0)) (sym is)))
+          to Drain (record (moving (drain l) (Drained (length l.line))) { drained = messages l.line }) (only l (Drained 0)) (rw is refl)
           (holds_quiet h l now n Drain (Drained 0) refl refl refl refl)
       all (x ∷ xs) is some_receiver =
           let none : l.demands ≡ [] = elim now.one [ inl k ↦ absurd (cc) | inr k ↦ k ] in

@@ -1,13 +1,14 @@
 -- What a contract sees of a channel's core, and the line that it stands for.
-use Rattle.std.specs.Prelude.{ℕ, List, [], ◌∷◌, ◌++◌, map, Option, Some, None}
+use Rattle.std.specs.Prelude.{ℕ, ◌-◌, ◌==◌, cond, List, [], ◌∷◌, ◌++◌, map, Option, Some, None}
 use Rattle.std.specs.List.{filter_map}
 use Rattle.std.specs.Option.{option_map}
 use Rattle.kanal_core.specs.declared.internal.outcome.Reason.{Reason}
 use Rattle.kanal_core.specs.declared.internal.outcome.Outcome.{Outcome}
-use Rattle.kanal_core.specs.declared.internal.outcome.Outcome.TheVariants.{Ended}
+use Rattle.kanal_core.specs.declared.internal.outcome.Outcome.TheVariants.{Taken, Ended}
 use Rattle.kanal_core.specs.declared.internal.outcome.Settled.{Settled}
 use Rattle.kanal_core.specs.declared.internal.outcome.Waiter.{Waiter}
 use Rattle.kanal_core.specs.Line.{Entry, Line, bare, waiting}
+use Rattle.kanal_core.specs.Waiters.{sender_first}
 
 -- the buffer from front to back, those that wait from the oldest on, and the counts
 pub record Channel (T W : Type 0) : Type 0 where
@@ -59,6 +60,22 @@ module _ {T W : Type 0} where
   -- how a waiter ends
   abbrev pub ended_by : Reason → Waiter T W → Settled T W
   ended_by reason w = record { ticket = w.ticket; w = w.w; outcome = Ended reason w.message }
+
+  -- how a waiter leaves whose message was taken
+  abbrev pub taken_by : Waiter T W → Settled T W
+  taken_by w = record { ticket = w.ticket; w = w.w; outcome = Taken }
+
+  -- a channel after a drop of a sender: with the last one all that wait leave
+  abbrev pub sender_dropped : Channel T W → Channel T W
+  sender_dropped c = record c { waiters = cond (c.senders == 1) [] c.waiters; senders = c.senders - 1 }
+
+  -- a channel after a drop of a receiver: with the last one all that wait leave
+  abbrev pub receiver_dropped : Channel T W → Channel T W
+  receiver_dropped c = record c { waiters = cond (c.receivers == 1) [] c.waiters; receivers = c.receivers - 1 }
+
+  -- a channel after a drain: the buffer and the waiting senders leave, and waiting receivers stay
+  abbrev pub drained : Channel T W → Channel T W
+  drained c = record c { buffer = []; waiters = cond (sender_first c.waiters) [] c.waiters }
 
   -- a settled waiter, as the line tells it
   abbrev pub settlement : Settled T W → ℕ × Outcome T

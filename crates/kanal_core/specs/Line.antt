@@ -20,6 +20,21 @@ pub record Line (T : Type 0) : Type 0 where
 abbrev pub last_word : ℕ
 last_word = 18446744073709551615
 
+-- n is all that the capacity allows
+abbrev pub is_at : ℕ → Option ℕ → Bool
+is_at n None = false
+is_at n (Some c) = n == c
+
+-- there is a limit
+abbrev pub is_bounded : Option ℕ → Bool
+is_bounded None = false
+is_bounded (Some c) = true
+
+-- the capacity as one word, which is the largest where there is no limit
+abbrev pub capacity_word : Option ℕ → ℕ
+capacity_word None = last_word
+capacity_word (Some c) = c
+
 -- n is below the capacity
 abbrev pub is_below : ℕ → Option ℕ → Bool
 is_below n None = true

@@ -8,6 +8,14 @@ use Rattle.kanal_core.specs.declared.internal.outcome.Outcome.{Outcome}
 use Rattle.kanal_core.specs.declared.internal.outcome.Outcome.TheVariants.{Taken, Given, Ended}
 use Rattle.kanal_core.specs.Line.{Entry, Line, under, over, bare, waiting, messages, tickets, holds_ticket}
 
+-- the largest count of a side's handles
+abbrev pub last_count : ℕ
+last_count = 4294967295
+
+-- a count with one more: what is 0 stays 0
+abbrev pub raised : ℕ → ℕ
+raised n = cond (n == 0) 0 (n + 1)
+
 -- a move: the line after it, and the tickets that it settled, oldest first
 pub record Moved (T : Type 0) : Type 0 where
   pub line : Line T
@@ -41,6 +49,10 @@ module _ {T : Type 0} where
   abbrev pub leave : Line T → List (Entry T) → List (Entry T) → Moved T
   leave old gone rest = record { line = record old { line = seated old.capacity rest }; settled = taken (gone ++ under old.capacity rest) }
 
+  -- Draining: the whole line leaves.
+  abbrev pub drain : Line T → Moved T
+  drain old = record { line = record old { line = [] }; settled = taken old.line }
+
   -- Waiting: a send joins the line's end with the next ticket,
   abbrev pub wait_send : Line T → T → Line T
   wait_send old m = record old { line = old.line ++ waiting m old.next ∷ []; next = old.next + 1 }
@@ -68,6 +80,13 @@ module _ {T : Type 0} where
   -- all that waits ends, and the places below the capacity stay
   abbrev pub end_all : Line T → Reason → Moved T
   end_all old reason = record { line = record old { line = under old.capacity old.line; demands = [] }; settled = ended reason old }
+
+  -- Adding: a count that is not 0 rises by one.
+  abbrev pub add_sender : Line T → Line T
+  add_sender old = record old { senders = raised old.senders }
+
+  abbrev pub add_receiver : Line T → Line T
+  add_receiver old = record old { receivers = raised old.receivers }
 
   -- Dropping: a count that is not 0 falls by one, and the last of a side ends all that waits.
   abbrev pub drop_sender : Line T → Moved T

@@ -79,3 +79,12 @@ pub enum WaitError {
     /// The channel's tickets are used up.
     TooMany,
 }
+
+/// A drain was refused.
+#[derive(Clone, Copy, Debug, PartialEq, Eq)]
+pub enum DrainError {
+    /// No receiver is left.
+    Closed,
+    /// The vector had too little room for the whole line, and there was no memory for more.
+    NoMemory,
+}

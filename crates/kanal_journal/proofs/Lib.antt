@@ -20,3 +20,6 @@ pub mod Withdrawing
 pub mod Counting
 pub mod Noting
 pub mod Examples
+pub mod Standing
+pub mod Lawful
+pub mod Over

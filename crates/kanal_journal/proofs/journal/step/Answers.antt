@@ -1,7 +1,6 @@
-use Rattle.std.proofs.Common.{◌≡◌, ◌+◌, ◌≤◌, [], length, ap, arith, refl, length-append}
+use Rattle.std.proofs.Common.{◌≡◌, [], length, ap, arith, refl, length-append}
 use Rattle.kanal_core.specs.Line.{tickets, under}
 use Rattle.kanal_core.specs.Channel.{line_of}
-use Rattle.kanal_journal.specs.Given.{waiting_count}
 use Rattle.kanal_journal.specs.Made.{settled_by, cleared_of}
 use Rattle.kanal_journal.proofs.Numbering.{numbered-more}
 use Rattle.kanal_journal.proofs.Noting.{noted-count, nobody-below, answered-counts}

@@ -1,5 +1,5 @@
-//! What moves out of the core: the waits that a step ended, the messages that a close cleared, and
-//! the messages that are left when a channel's life ends.
+//! What moves out of the core: the waits that a step ended or whose messages it took, the messages
+//! that a close cleared, and the messages that are left when a channel's life ends.
 //!
 //! Stands on the two rooms. Each value was moved out of the core as it stood, with no memory asked
 //! for, so that its waiters can be settled and its messages dropped after a lock was released.
@@ -42,7 +42,7 @@ impl Ending {
     }
 }
 
-/// The waits that a step ended, oldest first.
+/// The waits that a step ended, or the sends whose messages a drain took, oldest first.
 #[derive(Drop)]
 pub struct Ended<T, W> {
     ending: Ending,
@@ -103,8 +103,8 @@ impl<T, W> Ended<T, W> {
         }
     }
 
-    /// Hands out the oldest wait that is left. A sender's message is in the outcome, if the wait
-    /// ended before the message was taken.
+    /// Hands out the oldest wait that is left. A sender whose wait ended has its message back; one
+    /// whose message a drain took is told so.
     pub fn next(&mut self) -> Option<Settled<T, W>>
         ensures { MatchOption result ((self.old ≡ []) × (self.new ≡ [])) (λ s. self.old ≡ s ∷ self.new) }
     {

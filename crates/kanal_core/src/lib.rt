@@ -4,10 +4,12 @@
 //! counts of both sides. Each of its calls is one step of a line of messages, which its contract
 //! states. `signal` hands one outcome from a settler to a waiter who may be in another thread; it
 //! stands on `pointer`, which no other module uses. `error` has what a call may answer in place of
-//! its result. Nothing in this crate waits, starts a thread or takes a lock.
+//! its result. `mutex` is the lock by which a value is shared; its `lock` is the only call of this
+//! crate that waits. Nothing here starts a thread.
 #![tactic(auto)]
 
 pub mod error;
 pub mod internal;
+pub mod mutex;
 mod pointer;
 pub mod signal;

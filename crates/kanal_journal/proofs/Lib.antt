@@ -19,6 +19,8 @@ pub mod Numbering
 pub mod Withdrawing
 pub mod Counting
 pub mod Noting
+pub mod Regular
+pub mod Replaying
 pub mod Examples
 pub mod Standing
 pub mod Lawful

@@ -4,6 +4,10 @@
 //! is worth: the replies are those of one line of messages, and whoever reads only the events and
 //! what was told of them can say which message went to which receive.
 //!
+//! `RecordedState` is a channel that keeps a journal of the calls made on it, and its type keeps that
+//! the journal explains it; `Recorded` is that state under a lock, called through a `Pass` by each
+//! thread.
+//!
 //! Stands on the core's contracts. Nothing here looks into the core.
 ghost use Rattle.std.specs.Prelude.{◌≡◌, ◌↔◌, ℕ, ◌+◌, ◌<◌, ◌≤◌, [], length, IfOk, IsErrOf, Some, vec_len, vec_capacity};
 ghost use Rattle.kanal_core.specs.Channel.{line_of, opening};
@@ -22,8 +26,16 @@ mod calls;
 mod event;
 mod handles;
 mod notes;
+mod pass;
+mod recorded;
+mod recorded_state;
+mod recorder;
 
 pub use event::{Ask, Event, Refusal, Reply, Report, Settlement, Side};
+pub use pass::{Note, Pass};
+pub use recorded::Recorded;
+pub use recorded_state::RecordedState;
+pub use recorder::Entry;
 
 /// Makes one event, and adds what it tells to the report.
 fn step<T: Drop>(

@@ -95,7 +95,7 @@ pub enum Refusal {
 }
 
 /// What an event is answered.
-#[derive(Clone, Copy, Drop)]
+#[derive(Clone, Copy, Debug, PartialEq, Eq, Drop)]
 pub enum Reply<T> {
     /// The message of a `Send` entered.
     Sent,

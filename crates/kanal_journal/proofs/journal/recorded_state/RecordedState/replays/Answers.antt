@@ -1,0 +1,9 @@
+use Rattle.std.proofs.Common.{rules}
+use Rattle.kanal_journal.proofs.Replaying.{replays-paired, replays-left}
+use Rattle.kanal_journal.proofs.journal.recorded_state.RecordedState.replays.Goals as goal
+
+pub returns-clause-paired : goal.returns-clause-paired
+returns-clause-paired g c = replays-paired c.args.self.now (search rules)
+
+pub returns-clause-left : goal.returns-clause-left
+returns-clause-left g c = replays-left c.args.self.now (search rules)

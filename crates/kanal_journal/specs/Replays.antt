@@ -1,0 +1,75 @@
+-- A journal of calls, and the account of the line that explains it.
+use Rattle.std.specs.Prelude.{◌≡◌, ℕ, Bool, true, false, List, [], ◌∷◌, ◌++◌, map, Option, ◌⊎◌}
+use Rattle.kanal_journal.specs.declared.journal.event.Event.{Event}
+use Rattle.kanal_journal.specs.declared.journal.event.Refusal.TheVariants.{NoMemory}
+use Rattle.kanal_journal.specs.declared.journal.event.Reply.{Reply}
+use Rattle.kanal_journal.specs.declared.journal.event.Reply.TheVariants.{Refused}
+use Rattle.kanal_journal.specs.declared.journal.recorder.Entry.{Entry}
+use Rattle.kanal_journal.specs.Steps.{message_of}
+use Rattle.kanal_journal.specs.Runs.{Account, made, added, opening}
+use Rattle.kanal_journal.specs.Paired.{History}
+
+-- a journal: the channel's capacity, the entries, and all that was told so far
+pub record Recording (T : Type 0) : Type 0 where
+  pub capacity : Option ℕ
+  pub entries : List (Entry T)
+  pub account : Account T
+
+module _ {T : Type 0} where
+  -- the events of the entries, in order
+  abbrev pub events_of : List (Entry T) → List (Event T)
+  events_of entries = map (λ e. e.event) entries
+
+  -- the replies of the entries, in order
+  abbrev pub replies_of : List (Entry T) → List (Reply T)
+  replies_of entries = map (λ e. e.reply) entries
+
+  -- the account after one event, which is not refused for memory
+  abbrev pub next : Account T → Event T → Account T
+  next old event = added old event (made old.handles old.line event)
+
+  -- the account after all these events
+  abbrev pub played : Account T → List (Event T) → Account T
+  played old [] = old
+  played old (event ∷ events) = played (next old event) events
+
+  -- the line of a new channel gives each entry's reply to its event, and ends in this account
+  pub record Replays (capacity : Option ℕ) (entries : List (Entry T)) (end : Account T) : Type 0 where
+    pub ends : played (opening capacity) (events_of entries) ≡ end
+    pub replies : end.replies ≡ replies_of entries
+
+  -- a new channel's journal
+  abbrev pub opened : Option ℕ → Recording T
+  opened capacity = record { capacity = capacity; entries = []; account = opening capacity }
+
+  -- the history that a journal tells
+  abbrev pub history_of : Recording T → History T
+  history_of r = record { events = events_of r.entries; replies = replies_of r.entries; settled = r.account.settled; drained = r.account.drained }
+
+  -- the reply to an event that found no memory: its message comes back
+  abbrev pub no_memory : Event T → Reply T
+  no_memory event = Refused NoMemory (message_of event)
+
+  -- the reply says that there was no memory
+  abbrev pub is_no_memory : Reply T → Bool
+  is_no_memory (Refused NoMemory back) = true
+  is_no_memory reply = false
+
+  -- the reply that the line gives to the event where this journal ends
+  abbrev pub reply_at : Recording T → Event T → Reply T
+  reply_at old event = (made old.account.handles old.account.line event).reply
+
+  -- the journal with one entry more, of this party, event and reply
+  abbrev pub longer : Recording T → ℕ → Event T → Reply T → Recording T
+  longer old party event reply =
+      record {
+        capacity = old.capacity;
+        entries = old.entries ++ record { party = party; event = event; reply = reply } ∷ [];
+        account = next old.account event;
+      }
+
+  -- one entry was added, with the reply that the line gives; or there was no memory and nothing changed
+  abbrev pub Records : Recording T → ℕ → Event T → Reply T → Recording T → Type 0
+  Records old party event reply new =
+      ((reply ≡ no_memory event) × (new ≡ old))
+      ⊎ ((reply ≡ reply_at old event) × (new ≡ longer old party event reply))

@@ -1,0 +1,142 @@
+//! A channel with the journal of its calls, and all that it told along them.
+//!
+//! Stands on the making of one event and on the noting of what it told. Room for all that a step may
+//! add is made before the step. That the journal replays to what is there is a fact which each step
+//! is given and gives back; `RecordedState` alone keeps it, and nothing else uses this module.
+ghost use Rattle.std.specs.Prelude.{◌≡◌, ◌↔◌, ◌<◌, ◌≤◌, [], ◌∷◌, ◌++◌, IfOk, IsErrOf, Some, vec_len, vec_capacity};
+ghost use Rattle.kanal_journal.specs.Given.{AreNumbered};
+ghost use Rattle.kanal_journal.specs.Replays.{Records, opened, is_no_memory as tells_no_memory};
+ghost use Rattle.kanal_journal.specs.Recorders.{IsSound, IsSame, HasRoom, IsNoted, account_of, recording_of};
+
+use super::calls::Core;
+use super::event::{Event, Refusal, Reply, Settlement};
+use super::handles::Handles;
+use super::{calls, notes};
+use kanal_core::error::NewError;
+use kanal_core::internal::Ticket;
+use std::alloc::{AllocError, Global};
+
+/// One call of a journal: the party that made it, its event, and what it was replied.
+#[derive(Clone, Copy, Drop)]
+pub struct Entry<T> {
+    pub party: u32,
+    pub event: Event<T>,
+    pub reply: Reply<T>,
+}
+
+/// Whether the reply says that there was no memory.
+pub(crate) fn is_no_memory<T: Copy>(reply: Reply<T>) -> bool
+    ensures { result ≡ tells_no_memory reply }
+{
+    matches!(reply, Reply::Refused(Refusal::NoMemory, _))
+}
+
+/// Makes room in the list for so many items in all.
+fn make_room<X>(list: &mut Vec<X>, total: usize) -> Result<(), AllocError>
+    ensures items { list.new.items ≡ list.old.items }
+    ensures room { IfOk result (λ _. total ≤ vec_capacity list.new) }
+{
+    list.try_reserve(total.saturating_sub(list.len()))
+}
+
+/// Puts the call at the journal's end, which has room for it.
+fn enter<T: Copy>(entries: &mut Vec<Entry<T>>, party: u32, event: Event<T>, reply: Reply<T>)
+    requires { vec_len entries.old < vec_capacity entries.old }
+    ensures { entries.new.items ≡ entries.old.items ++ record { party = party; event = event; reply = reply } ∷ [] }
+{
+    let entry = Entry {
+        party,
+        event,
+        reply,
+    };
+    entries.push_reserved(entry);
+}
+
+/// A core with the tickets that it gave and the live handles; its journal; and what it settled,
+/// drained and cleared.
+#[derive(Drop)]
+pub(crate) struct Recorder<T: Copy> {
+    core: Core<T>,
+    tickets: Vec<Ticket>,
+    handles: Handles,
+    entries: Vec<Entry<T>>,
+    settled: Vec<Settlement<T>>,
+    drained: Vec<T>,
+    cleared: Vec<T>,
+}
+
+impl<T: Copy> Recorder<T> {
+    /// A new channel of this capacity, or without limit, on which no call was made.
+    pub(crate) fn new(alloc: Global, capacity: Option<usize>) -> Result<Self, NewError>
+        ensures opened { IfOk result (λ r. recording_of r ≡ opened capacity) }
+        ensures sound { IfOk result (λ r. IsSound r) }
+        ensures large { IsErrOf result NewError.TooLarge ↔ (capacity ≡ Some 18446744073709551615) }
+    {
+        Ok(Recorder {
+            core: super::channel(alloc, capacity)?,
+            tickets: Vec::new(alloc),
+            handles: Handles::new(),
+            entries: Vec::new(alloc),
+            settled: Vec::new(alloc),
+            drained: Vec::new(alloc),
+            cleared: Vec::new(alloc),
+        })
+    }
+
+    /// The journal.
+    pub(crate) fn entries(&self) -> &[Entry<T>]
+        ensures { result.now ≡ self.now.entries.items }
+    {
+        self.entries.as_slice()
+    }
+
+    /// Makes room in each list for one item more than there are entries, which is all that a step
+    /// may need.
+    fn reserve(&mut self) -> Result<(), AllocError>
+        ensures same { IsSame self.old self.new }
+        ensures room { IfOk result (λ _. HasRoom self.new) }
+    {
+        let total = self.entries.len() + 1;
+        make_room(&mut self.entries, total)?;
+        make_room(&mut self.tickets, total)?;
+        make_room(&mut self.settled, total)?;
+        make_room(&mut self.drained, total)?;
+        make_room(&mut self.cleared, total)
+    }
+
+    /// Makes the event, and keeps what it told but for the reply.
+    fn make(&mut self, event: Event<T>) -> Reply<T>
+        requires sound { IsSound self.old }
+        requires room { HasRoom self.old }
+        ensures noted { IsNoted (account_of self.old) event result (account_of self.new) }
+        ensures numbered { AreNumbered 0 self.new.tickets.items self.new.core.next }
+        ensures entries { self.new.entries ≡ self.old.entries }
+    {
+        let made = calls::answer(
+            &mut self.core,
+            &mut self.tickets,
+            &mut self.handles,
+            &mut self.drained,
+            event,
+        );
+        let number = self.entries.len();
+        notes::note(number, made, &mut self.settled, &mut self.cleared)
+    }
+
+    /// Makes the event for the party, and puts its entry at the journal's end; or finds no memory
+    /// and changes nothing.
+    pub(crate) fn step(&mut self, party: u32, event: Event<T>) -> Reply<T>
+        requires { IsSound self.old }
+        ensures sound { IsSound self.new }
+        ensures records { Records (recording_of self.old) party event result (recording_of self.new) }
+    {
+        if self.reserve().is_err() {
+            return calls::refuse(Refusal::NoMemory, event);
+        }
+        let reply = self.make(event);
+        if !is_no_memory(reply) {
+            enter(&mut self.entries, party, event, reply);
+        }
+        reply
+    }
+}

@@ -1,0 +1,42 @@
+//! Two threads on one recorded channel.
+use kanal_journal::journal::{Pass, Recorded, Reply};
+use std::sync::Wait;
+use std::test::Fail;
+use std::thread;
+use std::thread::Threads;
+
+const TURNS: u32 = 1_000_000;
+
+/// Tries again until a message is there, or all turns were taken.
+fn until_got<R: Wait>(rt: &R, channel: &Recorded<u64>, mut pass: Pass<u64>) -> Option<u64> {
+    for _ in 0..TURNS {
+        if let Reply::Got(message) = pass.try_recv(rt, channel) {
+            return Some(message);
+        }
+    }
+    None
+}
+
+fn hand_over<R: Threads + Wait + Sync>(
+    rt: &R,
+    channel: &Recorded<u64>,
+    mut a: Pass<u64>,
+    b: Pass<u64>,
+) -> (Reply<u64>, Option<u64>) {
+    thread::join(
+        rt,
+        move || a.try_send(rt, channel, 7),
+        move || until_got(rt, channel, b),
+    )
+}
+
+#[test]
+fn a_message_between_threads(rt: HostRuntime) -> Result<(), Fail> {
+    let channel = Recorded::new(rt.alloc(), Some(1))?;
+    let a = channel.pass(&rt)?;
+    let b = channel.pass(&rt)?;
+    let (sent, got) = hand_over(&rt, &channel, a, b);
+    assert_eq!(rt; sent, Reply::Yes);
+    assert_eq!(rt; got, Some(7));
+    Ok(())
+}

@@ -14,6 +14,7 @@ use Rattle.kanal_journal.specs.declared.journal.event.Reply.{Reply}
 use Rattle.kanal_journal.specs.declared.journal.event.Reply.TheVariants.{Sent, Waits, Yes, No, Nothing, Drained, Withdrawn, Done, Cleared, Flag, Refused}
 use Rattle.kanal_journal.specs.Steps.{Told, only, moving, offer, take as take_told, take_front, nothing_there, wait, withdraw, shut, drained, answer, message_of, step, refused}
 use Rattle.kanal_journal.specs.Runs.{Account, Answers, Leads, has_handle, has_side, handles_after}
+use Rattle.kanal_journal.proofs.Regular.{made-regular}
 
 pub raised-zero : (k : ℕ) → k ≡ 0 → raised k ≡ 0
 raised-zero k z = rw z refl
@@ -44,16 +45,10 @@ module _ {T : Type 0} where
   is_plain Close = false
   is_plain event = true
 
-  -- the counts and the capacity are as they were
+  -- the counts are as they were
   pub record IsSteady (l : Line T) (t : Told T) : Type 0 where
     pub senders : t.line.senders ≡ l.senders
     pub receivers : t.line.receivers ≡ l.receivers
-    pub capacity : t.line.capacity ≡ l.capacity
-
-  serve-capacity : (old : Line T) (line : List (Entry T)) (ds : List ℕ) → (serve old line ds).line.capacity ≡ old.capacity
-  serve-capacity old line [] = refl
-  serve-capacity old [] (d ∷ ds) = refl
-  serve-capacity old (e ∷ es) (d ∷ ds) = serve-capacity old es ds
 
   serve-senders : (old : Line T) (line : List (Entry T)) (ds : List ℕ) → (serve old line ds).line.senders ≡ old.senders
   serve-senders old line [] = refl
@@ -70,10 +65,10 @@ module _ {T : Type 0} where
     to told other is k = subst (IsSteady l) (sym is) k
 
     still : (r : Reply T) → IsSteady l (only l r)
-    still r = record { senders = refl; receivers = refl; capacity = refl }
+    still r = record { senders = refl; receivers = refl }
 
     entered : (m : T) (r : Reply T) → IsSteady l (moving (enter l m) r)
-    entered m r = record { senders = serve-senders l (l.line ++ bare m ∷ []) l.demands; receivers = serve-receivers l (l.line ++ bare m ∷ []) l.demands; capacity = serve-capacity l (l.line ++ bare m ∷ []) l.demands }
+    entered m r = record { senders = serve-senders l (l.line ++ bare m ∷ []) l.demands; receivers = serve-receivers l (l.line ++ bare m ∷ []) l.demands }
 
     offers : (m : T) (r : Reply T) (otherwise : Told T) → IsSteady l otherwise → IsSteady l (offer l m r otherwise)
     offers m r otherwise k =
@@ -95,7 +90,7 @@ module _ {T : Type 0} where
       where
         go : (xs : List (Entry T)) → IsSteady l (take_front l xs otherwise)
         go [] = k
-        go (x ∷ xs) = record { senders = refl; receivers = refl; capacity = refl }
+        go (x ∷ xs) = record { senders = refl; receivers = refl }
 
     nothing : (otherwise : Told T) → IsSteady l otherwise → IsSteady l (nothing_there l otherwise)
     nothing otherwise k =
@@ -104,32 +99,32 @@ module _ {T : Type 0} where
           | inr x ↦ to (nothing_there l otherwise) otherwise (rw x refl) k
         ]
 
-    starts : (new : Line T) (back : Option T) → new.senders ≡ l.senders → new.receivers ≡ l.receivers → new.capacity ≡ l.capacity → IsSteady l (wait l new back)
-    starts new back s r c =
+    starts : (new : Line T) (back : Option T) → new.senders ≡ l.senders → new.receivers ≡ l.receivers → IsSteady l (wait l new back)
+    starts new back s r =
         elim (cases_Bool (eqb l.next last_word)) [
           | inl x ↦ to (wait l new back) (only l (Refused TooMany back)) (rw x refl) (still (Refused TooMany back))
-          | inr x ↦ to (wait l new back) (only new (Waits l.next)) (rw x refl) (record { senders = s; receivers = r; capacity = c })
+          | inr x ↦ to (wait l new back) (only new (Waits l.next)) (rw x refl) (record { senders = s; receivers = r })
         ]
 
     withdraws : (t : ℕ) (ms : List T) → IsSteady l (withdraw l t ms)
     withdraws t [] =
         elim (cases_Bool (has t l.demands)) [
-          | inl x ↦ to (withdraw l t []) (only (without_demand l t) (Withdrawn None)) (rw x refl) (record { senders = refl; receivers = refl; capacity = refl })
+          | inl x ↦ to (withdraw l t []) (only (without_demand l t) (Withdrawn None)) (rw x refl) (record { senders = refl; receivers = refl })
           | inr x ↦ to (withdraw l t []) (only l (Refused NotWaiting None)) (rw x refl) (still (Refused NotWaiting None))
         ]
-    withdraws t (m ∷ ms) = record { senders = refl; receivers = refl; capacity = refl }
+    withdraws t (m ∷ ms) = record { senders = refl; receivers = refl }
 
     drains : IsSteady l (drained l)
     drains =
         elim (cases_Bool (eqb l.receivers 0)) [
           | inl x ↦ to (drained l) (only l (Refused ByClosed None)) (rw x refl) (still (Refused ByClosed None))
-          | inr x ↦ to (drained l) (record (moving (drain l) (Drained (length l.line))) { drained = messages l.line }) (rw x refl) (record { senders = refl; receivers = refl; capacity = refl })
+          | inr x ↦ to (drained l) (record (moving (drain l) (Drained (length l.line))) { drained = messages l.line }) (rw x refl) (record { senders = refl; receivers = refl })
         ]
 
     pub step-steady : (e : Event T) → is_plain e ≡ true → IsSteady l (step l e)
-    step-steady (Send m) p = offers m Sent (wait l (wait_send l m) (Some m)) (starts (wait_send l m) (Some m) refl refl refl)
+    step-steady (Send m) p = offers m Sent (wait l (wait_send l m) (Some m)) (starts (wait_send l m) (Some m) refl refl)
     step-steady (TrySend m) p = offers m Yes (only l (No m)) (still (No m))
-    step-steady Recv p = takes (nothing_there l (wait l (wait_recv l) None)) (nothing (wait l (wait_recv l) None) (starts (wait_recv l) None refl refl refl))
+    step-steady Recv p = takes (nothing_there l (wait l (wait_recv l) None)) (nothing (wait l (wait_recv l) None) (starts (wait_recv l) None refl refl))
     step-steady RecvLate p = takes (only l (Refused Timeout None)) (still (Refused Timeout None))
     step-steady TryRecv p = takes (nothing_there l (only l Nothing)) (nothing (only l Nothing) (still Nothing))
     step-steady Drain p = drains
@@ -187,14 +182,12 @@ module _ {T : Type 0} where
   pub record Keeps (l : Line T) (hs : Handles) (new : Line T) (after : Handles) : Type 0 where
     pub match : Match l hs → Match new after
     pub zero : StaysZero l new
-    pub capacity : new.capacity ≡ l.capacity
 
-  keeps-same : (l : Line T) (hs : Handles) (new : Line T) (after : Handles) → new.senders ≡ l.senders → new.receivers ≡ l.receivers → new.capacity ≡ l.capacity → after ≡ hs → Keeps l hs new after
-  keeps-same l hs new after s r c h =
+  keeps-same : (l : Line T) (hs : Handles) (new : Line T) (after : Handles) → new.senders ≡ l.senders → new.receivers ≡ l.receivers → after ≡ hs → Keeps l hs new after
+  keeps-same l hs new after s r h =
       record {
         match = λ m. rw (s, r, h) m;
         zero = (λ z. s ∙ z, λ z. r ∙ z);
-        capacity = c;
       }
 
   module _ (l : Line T) (hs : Handles) where
@@ -205,7 +198,7 @@ module _ {T : Type 0} where
     go_to e told other is k = subst (KeepsTold e) (sym is) k
 
     keeps-refused : (e : Event T) (reason : Refusal) (back : Option T) → KeepsTold e (only l (Refused reason back))
-    keeps-refused e reason back = keeps-same l hs l (handles_after hs e (Refused reason back)) refl refl refl (after-refused hs e reason back)
+    keeps-refused e reason back = keeps-same l hs l (handles_after hs e (Refused reason back)) refl refl (after-refused hs e reason back)
 
     clone-tx : has_side hs Tx ≡ true → KeepsTold CloneTx (step l CloneTx)
     clone-tx live =
@@ -219,7 +212,6 @@ module _ {T : Type 0} where
                   | inr k ↦ inr (raised-zero l.senders k.0, k.1)
                 ];
                 zero = (raised-zero l.senders, λ z. z);
-                capacity = refl;
               })
         ]
 
@@ -235,7 +227,6 @@ module _ {T : Type 0} where
                   | inr k ↦ inr (k.0, raised-zero l.receivers k.1)
                 ];
                 zero = (λ z. z, raised-zero l.receivers);
-                capacity = refl;
               })
         ]
 
@@ -250,7 +241,6 @@ module _ {T : Type 0} where
                   | inr k ↦ inr (refl, k.1)
                 ];
                 zero = (λ z. refl, λ z. z);
-                capacity = refl;
               })
           | inr x ↦
               go_to DropTx (step l DropTx) (only (record l { senders = l.senders - 1 }) Done) (rw x refl)
@@ -260,7 +250,6 @@ module _ {T : Type 0} where
                   | inr k ↦ inr (still-none l.senders k.0, k.1)
                 ];
                 zero = (still-none l.senders, λ z. z);
-                capacity = refl;
               })
         ]
 
@@ -275,7 +264,6 @@ module _ {T : Type 0} where
                   | inr k ↦ inr (k.0, refl)
                 ];
                 zero = (λ z. z, λ z. refl);
-                capacity = refl;
               })
           | inr x ↦
               go_to DropRx (step l DropRx) (only (record l { receivers = l.receivers - 1 }) Done) (rw x refl)
@@ -285,7 +273,6 @@ module _ {T : Type 0} where
                   | inr k ↦ inr (k.0, still-none l.receivers k.1)
                 ];
                 zero = (λ z. z, still-none l.receivers);
-                capacity = refl;
               })
         ]
 
@@ -295,11 +282,11 @@ module _ {T : Type 0} where
           | inl x ↦ go_to Close (shut l) (only l (Refused CloseError None)) (rw x refl) (keeps-refused Close CloseError None)
           | inr x ↦
               go_to Close (shut l) (record (moving (close l) (Cleared (length (cleared l)))) { cleared = cleared l }) (rw x refl)
-              (record { match = λ m. inr (refl, refl); zero = (λ z. refl, λ z. refl); capacity = refl })
+              (record { match = λ m. inr (refl, refl); zero = (λ z. refl, λ z. refl) })
         ]
 
     plain-keeps : (e : Event T) → is_plain e ≡ true → KeepsTold e (step l e)
-    plain-keeps e p = let k = step-steady l e p in keeps-same l hs (step l e).line (handles_after hs e (step l e).reply) k.senders k.receivers k.capacity (after-plain hs e (step l e).reply p)
+    plain-keeps e p = let k = step-steady l e p in keeps-same l hs (step l e).line (handles_after hs e (step l e).reply) k.senders k.receivers (after-plain hs e (step l e).reply p)
 
     step-keeps : (e : Event T) → has_handle hs e ≡ true → KeepsTold e (step l e)
     step-keeps (Send m) live = plain-keeps (Send m) refl
@@ -336,9 +323,11 @@ module _ {T : Type 0} where
       let rest = zero-along l.0 b es l.2 in
       (λ z. rest.0 (mid.0 z), λ z. rest.1 (mid.1 z))
 
+  told-capacity : (hs : Handles) (l : Line T) (e : Event T) (told : Told T) → Answers hs l e told → told.line.capacity ≡ l.capacity
+  told-capacity hs l e told (inl is) = ap (λ (t : Told T). t.line.capacity) is ∙ (made-regular l hs e).capacity
+  told-capacity hs l e told (inr is) = ap (λ (t : Told T). t.line.capacity) is.2
+
   -- the capacity stays
   pub capacity-along : (a b : Account T) (events : List (Event T)) → Leads a events b → b.line.capacity ≡ a.line.capacity
   capacity-along a b [] l = ap (λ x. x.line.capacity) l
-  capacity-along a b (e ∷ es) l =
-      let told = l.1.0 in
-      capacity-along l.0 b es l.2 ∙ (ap (λ x. x.line.capacity) l.1.2 ∙ (told-keeps a.line a.handles e told l.1.1).capacity)
+  capacity-along a b (e ∷ es) l = capacity-along l.0 b es l.2 ∙ (ap (λ x. x.line.capacity) l.1.2 ∙ told-capacity a.handles a.line e l.1.0 l.1.1)

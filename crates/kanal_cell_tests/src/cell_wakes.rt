@@ -3,7 +3,7 @@ ghost use Rattle.std.specs.Prelude.{◌≡◌};
 ghost use Rattle.kanal_core.specs.CellRule.{HasNotLeft, HasNotSettled};
 ghost use Rattle.kanal_core.specs.CellEnds.{wait_view, settle_view};
 
-use crossbeam_utils::sync::Parker;
+use crossbeam_utils::sync::{Parker, Unparker};
 use futures::Future;
 use futures::executor::block_on;
 use futures::spin::lock;
@@ -11,6 +11,7 @@ use futures::task::{Context, Poll, Source, Waker};
 use futures::test::MockTask;
 use kanal_core::signal;
 use kanal_core::signal::{SettleEnd, WaitEnd};
+use std::sync::atomic::{AtomicU64, Ordering};
 use std::sync::{Arc, Mutex};
 use std::test::Fail;
 use std::thread;
@@ -31,6 +32,49 @@ fn a_settle_wakes_the_parked_thread(rt: HostRuntime) -> Result<(), Fail> {
         }
         assert!(rt; other.join(&rt));
     }
+    Ok(())
+}
+
+/// The thread that may park is about to.
+const PARKS: u64 = 1;
+
+/// It has gone on.
+const PASSED: u64 = 2;
+
+/// Sees the thread about to park, gives it many turns in which it must not go on, and then wakes it.
+fn stays_parked(stage: &AtomicU64, waking: &Unparker) -> bool {
+    for _ in 0..1_000_000u32 {
+        if stage.load(Ordering::SeqCst) != 0 {
+            break;
+        }
+        thread::yield_now();
+    }
+    let mut stayed = true;
+    for _ in 0..1_000u32 {
+        stayed = stayed && stage.load(Ordering::SeqCst) != PASSED;
+        thread::yield_now();
+    }
+    waking.unpark();
+    stayed
+}
+
+/// A sleep that comes after the settle has the outcome at once, and its sleeper is not woken: a park
+/// after it lasts until somebody else ends it.
+#[test]
+fn a_sleep_after_the_settle_is_not_woken(rt: HostRuntime) -> Result<(), Fail> {
+    let parker = Parker::new(rt.alloc())?;
+    let sleeper = parker.unparker().clone()?;
+    let waking = parker.unparker().clone()?;
+    let (mut wait, mut settle) = signal::new::<u64>(rt.alloc())?;
+    assert!(rt; settle.settle(5).is_none());
+    assert_eq!(rt; wait.sleep(sleeper), Some(5));
+    let stage = Arc::new(rt.alloc(), AtomicU64::new(0))?;
+    let theirs = Arc::try_clone(&stage)?;
+    let other = thread::spawn(&rt, move || stays_parked(&theirs, &waking))?;
+    stage.store(PARKS, Ordering::SeqCst);
+    parker.park(&rt);
+    stage.store(PASSED, Ordering::SeqCst);
+    assert!(rt; other.join(&rt));
     Ok(())
 }
 

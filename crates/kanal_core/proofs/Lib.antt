@@ -6,6 +6,9 @@ pub mod Sided
 pub mod Stepping
 pub mod Sounding
 pub mod LettingIn
+pub mod Emptying
+pub mod Dropping
+pub mod Draining
 pub mod CellBools
 pub mod CellPlaces
 pub mod CellLawful

@@ -10,7 +10,7 @@ use Rattle.kanal_core.specs.declared.internal.outcome.Take.{Take}
 use Rattle.kanal_core.specs.declared.internal.outcome.Take.TheVariants.{Got, Closed as TakeClosed, SendClosed, Empty}
 use Rattle.kanal_core.specs.Line.{Entry, Line, has_place, has, found}
 use Rattle.kanal_core.specs.Moves.{Moved, enter, leave, without_entry, without_demand}
-use Rattle.kanal_core.specs.Channel.{settlement, settlements}
+use Rattle.kanal_core.specs.Channel.{Channel, settlement, settlements}
 
 -- the line moved, and settled these tickets
 abbrev pub MovesTo : {T : Type 0} → Moved T → List (ℕ × Outcome T) → Line T → Type 0
@@ -35,6 +35,10 @@ pub record TakesFront {T : Type 0} (old : Line T) (m : T) (settled : List (ℕ �
 abbrev pub Stays : {T : Type 0} → Line T → Line T → Type 0
 Stays old new = (old.receivers ≢ 0) × (new ≡ old)
 
+-- a side that was gone is gone still
+abbrev pub StaysGone : {T W : Type 0} → Channel T W → Channel T W → Type 0
+StaysGone old new = (old.senders ≡ 0 → new.senders ≡ 0) × (old.receivers ≡ 0 → new.receivers ≡ 0)
+
 -- an offer would be answered `Full`
 abbrev pub IsFull : {T : Type 0} → Line T → Type 0
 IsFull old = (old.receivers ≢ 0) × (has_place old ≡ false)
@@ -58,6 +62,24 @@ module _ {T W : Type 0} where
   Offers old m (OfferClosed back) new = (old.receivers ≡ 0) × (old.senders ≡ 0) × (back ≡ m) × (new ≡ old)
   Offers old m (ReceiveClosed back) new = (old.receivers ≡ 0) × (old.senders ≢ 0) × (back ≡ m) × (new ≡ old)
   Offers old m (NoMemory back) new = Stays old new × (old.demands ≡ []) × (old.capacity ≡ None) × (back ≡ m)
+
+  -- the message is in the line, or a waiting receiver has it
+  abbrev pub HasEntered : Offer T W → Type 0
+  HasEntered Entered = Unit {0}
+  HasEntered (Handed s) = Unit {0}
+  HasEntered (Full back) = ⊥
+  HasEntered (OfferClosed back) = ⊥
+  HasEntered (ReceiveClosed back) = ⊥
+  HasEntered (NoMemory back) = ⊥
+
+  -- an unlimited buffer found no memory for the message
+  abbrev pub LacksMemory : Offer T W → Type 0
+  LacksMemory (NoMemory back) = Unit {0}
+  LacksMemory Entered = ⊥
+  LacksMemory (Handed s) = ⊥
+  LacksMemory (Full back) = ⊥
+  LacksMemory (OfferClosed back) = ⊥
+  LacksMemory (ReceiveClosed back) = ⊥
 
   -- a message was asked for
   abbrev pub Takes : Line T → Take T W → Line T → Type 0

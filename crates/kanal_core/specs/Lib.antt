@@ -6,6 +6,7 @@ pub mod Places
 pub mod Moves
 pub mod Channel
 pub mod Calls
+pub mod Endings
 pub mod Rooms
 pub mod Sided
 pub mod Handing

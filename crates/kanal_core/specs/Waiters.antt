@@ -38,6 +38,10 @@ module _ {T W : Type 0} where
   abbrev pub brought : List (Waiter T W) → List T
   brought ws = filter_map (λ w. w.message) ws
 
+  -- a waiter whose message was moved out
+  abbrev pub emptied : Waiter T W → Waiter T W
+  emptied w = record w { message = None }
+
   -- whether a receiver waits, where senders and receivers never wait together
   abbrev pub receiver_first : List (Waiter T W) → Bool
   receiver_first [] = false

@@ -80,11 +80,11 @@ pub enum WaitError {
     TooMany,
 }
 
-/// A drain took nothing.
+/// A drain was refused.
 #[derive(Clone, Copy, Debug, PartialEq, Eq)]
 pub enum DrainError {
     /// No receiver is left.
     Closed,
-    /// There was no memory for the messages in the vector.
+    /// The vector had too little room for the whole line, and there was no memory for more.
     NoMemory,
 }

@@ -5,27 +5,31 @@
 //! receivers may wait. Each call is one step of that line, waits for nobody, and says in its
 //! contract which step it is.
 //!
-//! Stands on its two rooms, `buffer` and `wait_list`, which nothing else may use. Whoever shares a
-//! core puts it behind a lock, and settles or drops what a call hands out only after the release.
-ghost use Rattle.std.specs.Prelude.{OnOk, cond, ◌==◌, ◌&&◌, vec_len, vec_capacity, ◌≡◌, ◌≢◌, ◌⊎◌, ◌+◌, ◌<◌, ◌≤◌, ℕ, false, ◌↔◌, [], ◌∷◌, ◌++◌, true, length, map, MatchResult, IfOk, IfErr, IsErr, IsErrOf, Some, None};
+//! Stands on its two rooms, `buffer` and `wait_list`, which nothing else may use. The calls on
+//! counts and the close are in `handles`, the drain is in `draining`, and what can be asked is in
+//! `questions`. Whoever shares a core puts it behind a lock, and settles or drops what a call hands
+//! out only after the release.
+ghost use Rattle.std.specs.Prelude.{◌≡◌, ◌≢◌, ◌⊎◌, ◌≤◌, ℕ, false, ◌↔◌, [], ◌∷◌, ◌++◌, true, length, map, IfOk, IfErr, IsErr, IsErrOf, Some, None};
 ghost use Rattle.std.specs.Borrow.{sem};
 ghost use Rattle.std.specs.Fn.{FnReturnsAt};
 ghost use Rattle.std.specs.Option.{option_copied_mut, option_map};
-ghost use Rattle.kanal_core.specs.Line.{is_at, is_bounded, capacity_word, IsWithin, bare, buffered, found, has, messages};
-ghost use Rattle.kanal_core.specs.Moves.{close, cleared, wait_send, wait_recv, raised, last_count, drop_sender, drop_receiver, drain};
-ghost use Rattle.kanal_core.specs.Channel.{sender_dropped, receiver_dropped, drained, taken_by, line_of, opening, starting, closed, ended_by, settlement};
+ghost use Rattle.kanal_core.specs.Line.{IsWithin, bare, found, has, has_place, messages};
+ghost use Rattle.kanal_core.specs.Moves.{wait_send, wait_recv};
+ghost use Rattle.kanal_core.specs.Channel.{line_of, opening, starting};
 ghost use Rattle.kanal_core.specs.Waiters.{waiter_of, without, IsFirstWhere, receiver_first, sender_first};
-ghost use Rattle.kanal_core.specs.Calls.{Offers, Takes, Withdraws, MovesTo, OldestLeft, IsFull, IsEmpty, handed, let_in};
+ghost use Rattle.kanal_core.specs.Calls.{Offers, HasEntered, LacksMemory, Takes, Withdraws, OldestLeft, IsFull, IsEmpty, handed, let_in};
 ghost use Rattle.kanal_core.specs.Handing.{HandsOver, TakesSender, LetsIn, HasOnePlace};
 
-use crate::error::{CloseError, DrainError, NewError, TooMany, WaitError};
+use crate::error::{NewError, WaitError};
 use std::alloc::Global;
 use std::marker::Model;
-use std::mem;
 
 mod buffer;
+mod draining;
+mod handles;
 mod leaving;
 mod outcome;
+mod questions;
 mod wait_list;
 
 use buffer::Buffer;
@@ -201,6 +205,8 @@ impl<T, W> ChannelInternal<T, W> {
     /// ```
     pub fn offer(&mut self, message: T) -> Offer<T, W>
         ensures step { Offers (line_of self.old) message result (line_of self.new) }
+        ensures entered { HasEntered result → (self.old.receivers ≢ 0) × (has_place (line_of self.old) ≡ true) }
+        ensures enters { self.old.receivers ≢ 0 → has_place (line_of self.old) ≡ true → HasEntered result ⊎ LacksMemory result }
         ensures waiter { OldestLeft self.old.waiters (handed result) self.new.waiters }
         ensures ticket { self.new.next ≡ self.old.next }
     {
@@ -264,38 +270,6 @@ impl<T, W> ChannelInternal<T, W> {
         } else {
             Take::Empty
         }
-    }
-
-    /// Closes the channel for both sides, and moves out the messages of its buffer and all waits.
-    ///
-    /// # Errors
-    /// `CloseError` where both sides were gone already, and nothing changes.
-    ///
-    /// # Examples
-    /// ```text
-    /// let mut closing = core.close()?;
-    /// closing.cleared.next()   answers  the buffer's front, and so on
-    /// closing.ended.next()     answers  the oldest wait, as Ended(Closed, its message), and so on
-    /// ```
-    pub fn close(&mut self) -> Result<Closing<T, W>, CloseError>
-        ensures step { IfOk result (λ c. MovesTo (close (line_of self.old)) (map settlement c.ended) (line_of self.new)) }
-        ensures cleared { IfOk result (λ c. c.cleared ≡ cleared (line_of self.old)) }
-        ensures ended { IfOk result (λ c. c.ended ≡ map (ended_by Reason.Closed) self.old.waiters) }
-        ensures after { IfOk result (λ _. self.new ≡ closed self.old) }
-        ensures refused { IfErr result (λ _. self.new ≡ self.old) }
-        ensures shut { IsErr result ↔ ((self.old.senders ≡ 0) × (self.old.receivers ≡ 0)) }
-    {
-        if self.senders == 0 && self.receivers == 0 {
-            return Err(CloseError());
-        }
-        self.senders = 0;
-        self.receivers = 0;
-        let nobody = WaitList::new(self.alloc);
-        let waiters = mem::replace(&mut self.waiters, nobody);
-        Ok(Closing {
-            cleared: Cleared::new(self.buffer.take_all()),
-            ended: Ended::new(Reason::Closed, waiters),
-        })
     }
 
     /// Starts a wait of a sender, whose message joins the line's end under the next ticket.
@@ -431,139 +405,6 @@ impl<T, W> ChannelInternal<T, W> {
         ensures given { (t : ℕ) → self.now.next ≤ t → (found t (line_of self.now).line ≡ []) × (has t (line_of self.now).demands ≡ false) }
     {
         let _ = &self.next;
-    }
-
-    /// How many messages are in the buffer.
-    ///
-    /// # Examples
-    /// ```text
-    /// core.len()   answers  1   after one message entered a bounded channel for two
-    /// ```
-    pub fn len(&self) -> usize
-        ensures { result ≡ buffered (line_of self.now) }
-    {
-        self.buffer.len()
-    }
-
-    pub fn add_sender(&mut self) -> Result<(), TooMany>
-        requires stub { ⊥ }
-        ensures raised { OnOk result (self.new ≡ record self.old { senders = raised self.old.senders }) }
-        ensures refused { IfErr result (λ _. self.new ≡ self.old) }
-        ensures most { IsErr result ↔ (self.old.senders ≡ last_count) }
-    {
-        unreachable!()
-    }
-
-    pub fn drop_sender(&mut self) -> Ended<T, W>
-        requires stub { ⊥ }
-        ensures step { MovesTo (drop_sender (line_of self.old)) (map settlement result) (line_of self.new) }
-        ensures after { self.new ≡ sender_dropped self.old }
-        ensures ended { result ≡ cond (self.old.senders == 1) (map (ended_by Reason.SendClosed) self.old.waiters) [] }
-    {
-        unreachable!()
-    }
-
-    pub fn add_receiver(&mut self) -> Result<(), TooMany>
-        requires stub { ⊥ }
-        ensures raised { OnOk result (self.new ≡ record self.old { receivers = raised self.old.receivers }) }
-        ensures refused { IfErr result (λ _. self.new ≡ self.old) }
-        ensures most { IsErr result ↔ (self.old.receivers ≡ last_count) }
-    {
-        unreachable!()
-    }
-
-    pub fn drop_receiver(&mut self) -> Ended<T, W>
-        requires stub { ⊥ }
-        ensures step { MovesTo (drop_receiver (line_of self.old)) (map settlement result) (line_of self.new) }
-        ensures after { self.new ≡ receiver_dropped self.old }
-        ensures ended { result ≡ cond (self.old.receivers == 1) (map (ended_by Reason.ReceiveClosed) self.old.waiters) [] }
-    {
-        unreachable!()
-    }
-
-    pub fn drain_into(&mut self, into: &mut Vec<T>) -> Result<(usize, Ended<T, W>), DrainError>
-        requires stub { ⊥ }
-        ensures step { IfOk result (λ d. MovesTo (drain (line_of self.old)) (map settlement d.1) (line_of self.new)) }
-        ensures receiver { IsErrOf result DrainError.Closed ↔ (self.old.receivers ≡ 0) }
-        ensures moved { IfOk result (λ _. into.new.items ≡ into.old.items ++ messages (line_of self.old).line) }
-        ensures count { IfOk result (λ d. d.0 ≡ length (line_of self.old).line) }
-        ensures after { IfOk result (λ _. self.new ≡ drained self.old) }
-        ensures taken { IfOk result (λ d. d.1 ≡ cond (sender_first self.old.waiters) (map taken_by self.old.waiters) []) }
-        ensures refused { IfErr result (λ _. (self.new ≡ self.old) × (into.new.items ≡ into.old.items)) }
-        ensures room { vec_len into.old + length (line_of self.old).line ≤ vec_capacity into.old → vec_capacity into.new ≡ vec_capacity into.old }
-        ensures memory { IsErrOf result DrainError.NoMemory → vec_capacity into.old < vec_len into.old + length (line_of self.old).line }
-    {
-        unreachable!()
-    }
-
-    pub fn is_bounded(&self) -> bool
-        requires stub { ⊥ }
-        ensures { result ≡ is_bounded self.now.capacity }
-    {
-        unreachable!()
-    }
-
-    pub fn is_empty(&self) -> bool
-        requires stub { ⊥ }
-        ensures { result ≡ buffered (line_of self.now) == 0 }
-    {
-        unreachable!()
-    }
-
-    pub fn is_full(&self) -> bool
-        requires stub { ⊥ }
-        ensures { result ≡ is_at (buffered (line_of self.now)) self.now.capacity }
-    {
-        unreachable!()
-    }
-
-    pub fn capacity(&self) -> usize
-        requires stub { ⊥ }
-        ensures { result ≡ capacity_word self.now.capacity }
-    {
-        unreachable!()
-    }
-
-    pub fn receiver_count(&self) -> u32
-        requires stub { ⊥ }
-        ensures { result ≡ self.now.receivers }
-    {
-        unreachable!()
-    }
-
-    pub fn sender_count(&self) -> u32
-        requires stub { ⊥ }
-        ensures { result ≡ self.now.senders }
-    {
-        unreachable!()
-    }
-
-    pub fn is_closed(&self) -> bool
-        requires stub { ⊥ }
-        ensures { result ≡ (self.now.senders == 0) && (self.now.receivers == 0) }
-    {
-        unreachable!()
-    }
-
-    pub fn send_side_gone(&self) -> bool
-        requires stub { ⊥ }
-        ensures { result ≡ self.now.senders == 0 }
-    {
-        unreachable!()
-    }
-
-    pub fn receive_side_gone(&self) -> bool
-        requires stub { ⊥ }
-        ensures { result ≡ self.now.receivers == 0 }
-    {
-        unreachable!()
-    }
-
-    pub fn is_terminated(&self) -> bool
-        requires stub { ⊥ }
-        ensures { result ≡ (self.now.senders == 0) && (buffered (line_of self.now) == 0) }
-    {
-        unreachable!()
     }
 
     /// Ends the channel's life and hands out what is still in its line: the buffer, front first, and

@@ -1,26 +1,11 @@
 //! Waits on the core, at a W that isn't Copy.
+use crate::waits::{receive, send};
 use kanal_core::error::WaitError;
-use kanal_core::internal::{ChannelInternal, Offer, Outcome, Reason, Take, Ticket};
+use kanal_core::internal::{ChannelInternal, Offer, Outcome, Reason, Take};
 use std::alloc::Global;
 use std::test::Fail;
 
 type Core = ChannelInternal<u64, Box<u32>>;
-
-/// The ticket of a send that finds no place.
-fn send(core: &mut Core, message: u64, w: Box<u32>) -> Option<Ticket> {
-    match core.offer(message) {
-        Offer::Full(back) => core.wait_send(back, w).ok(),
-        _ => None,
-    }
-}
-
-/// The ticket of a receive that finds no message.
-fn receive(core: &mut Core, w: Box<u32>) -> Option<Ticket> {
-    match core.take() {
-        Take::Empty => core.wait_recv(w).ok(),
-        _ => None,
-    }
-}
 
 /// The message and the W of the sender that a take settles.
 fn take(core: &mut Core) -> Option<(u64, Option<Box<u32>>)> {

@@ -4,4 +4,10 @@
 #[cfg(test)]
 mod core_calls;
 #[cfg(test)]
+mod core_drains;
+#[cfg(test)]
+mod core_handles;
+#[cfg(test)]
 mod core_waits;
+#[cfg(test)]
+mod waits;

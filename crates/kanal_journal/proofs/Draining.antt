@@ -1,5 +1,5 @@
 -- A drain: the whole line leaves.
-use Rattle.std.proofs.Common.{◌≡◌, ℕ, zero, suc, List, [], ◌∷◌, ◌++◌, length, map, filter, replicate, refl, sym, ap, ◌∙◌, inl, inr, arith, append-nil}
+use Rattle.std.proofs.Common.{◌≡◌, ℕ, zero, suc, List, [], ◌∷◌, ◌++◌, length, map, filter, replicate, refl, sym, ap, ◌∙◌, inl, arith, append-nil}
 use Rattle.std.specs.List.{sum_by}
 use Rattle.std.proofs.Math.ListN.{length-map}
 use Rattle.kanal_core.specs.Line.{Entry, Line, bare, messages, tickets}
@@ -7,12 +7,11 @@ use Rattle.kanal_journal.specs.declared.journal.event.Event.TheVariants.{Drain}
 use Rattle.kanal_journal.specs.declared.journal.event.Reply.{Reply}
 use Rattle.kanal_journal.specs.declared.journal.event.Reply.TheVariants.{Drained}
 use Rattle.kanal_journal.specs.declared.journal.event.Settlement.{Settlement}
-use Rattle.kanal_journal.specs.Paired.{History, Demand, AtOnce, Next, cleared_by, demand_stays}
+use Rattle.kanal_journal.specs.Paired.{History, AtOnce, Next, cleared_by, demand_stays}
 use Rattle.kanal_journal.proofs.Sends.{longer, later, ticket_stays}
 use Rattle.kanal_journal.proofs.Slots.{resolve, nexts}
 use Rattle.kanal_journal.proofs.Settling.{AreApart, takes, none_ends, all_stay, later_taken, seated_all}
 use Rattle.kanal_journal.proofs.Holding.{Holds, Moves, waits}
-use Rattle.kanal_journal.proofs.Tickets.{apart-prefix}
 use Rattle.kanal_journal.proofs.Cleaning.{taken-now, later-there}
 use Rattle.kanal_journal.proofs.Upkeep.{Clean, holds_next}
 use Rattle.kanal_journal.proofs.Ending.{seats-none}

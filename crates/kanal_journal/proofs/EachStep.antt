@@ -7,7 +7,7 @@ use Rattle.std.proofs.lemmas.Bool.Decides.{nat_tests}
 use Rattle.kanal_core.specs.declared.internal.outcome.Reason.TheVariants.{SendClosed as NoSendersLeft, ReceiveClosed as NoReceiversLeft}
 use Rattle.kanal_core.specs.declared.internal.outcome.Outcome.TheVariants.{Given}
 use Rattle.kanal_core.specs.Line.{Entry, Line, last_word, bare, messages, tickets, has, is_below, has_place, buffered, found}
-use Rattle.kanal_core.specs.Moves.{Moved, last_count, raised, enter, leave, drain, end_all, close, cleared, wait_send, wait_recv, without_entry, without_demand, add_sender, add_receiver, drop_sender, drop_receiver}
+use Rattle.kanal_core.specs.Moves.{Moved, last_count, raised, enter, leave, drain, end_all, close, cleared, wait_send, wait_recv, without_entry, without_demand}
 use Rattle.kanal_core.proofs.Sided.{serve-nothing}
 use Rattle.kanal_journal.specs.declared.journal.handles.Handles.{Handles}
 use Rattle.kanal_journal.specs.declared.journal.event.Side.{Side}
@@ -18,9 +18,9 @@ use Rattle.kanal_journal.specs.declared.journal.event.Event.TheVariants.{Send, T
 use Rattle.kanal_journal.specs.declared.journal.event.Refusal.{Refusal}
 use Rattle.kanal_journal.specs.declared.journal.event.Refusal.TheVariants.{Closed as ByClosed, ReceiveClosed as NoReceiver, SendClosed as NoSender, Timeout, NoMemory, TooMany, CloseError, NoHandle, NotWaiting}
 use Rattle.kanal_journal.specs.declared.journal.event.Reply.{Reply}
-use Rattle.kanal_journal.specs.declared.journal.event.Reply.TheVariants.{Sent, Waits, Yes, No, Got, Nothing, Drained, Withdrawn, Done, Cleared, Number, Flag, Refused}
-use Rattle.kanal_journal.specs.Steps.{Told, Tells, only, moving, take, take_front, nothing_there, wait, withdraw, drained, cloned, answer, message_of, step, refused}
-use Rattle.kanal_journal.specs.Runs.{numbered, has_handle, made, Answers}
+use Rattle.kanal_journal.specs.declared.journal.event.Reply.TheVariants.{Sent, Waits, Yes, No, Got, Nothing, Drained, Withdrawn, Done, Cleared, Flag, Refused}
+use Rattle.kanal_journal.specs.Steps.{Told, only, moving, take, take_front, nothing_there, wait, withdraw, drained, cloned, answer, message_of, step, refused}
+use Rattle.kanal_journal.specs.Runs.{numbered, has_handle, Answers}
 use Rattle.kanal_journal.specs.Paired.{History, AtOnce, sent, asked, withdrawn, cleared_by, is_gone, given}
 use Rattle.kanal_journal.proofs.Sends.{longer, was_taken}
 use Rattle.kanal_journal.proofs.Settling.{AreApart}

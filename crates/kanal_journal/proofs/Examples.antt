@@ -1,14 +1,14 @@
 -- The definitions, at scripts whose answers are known.
-use Rattle.std.proofs.Common.{◌≡◌, ℕ, List, [], ◌∷◌, Option, Some, None, refl}
-use Rattle.kanal_core.specs.declared.internal.outcome.Reason.TheVariants.{Closed as ByClose}
+use Rattle.std.proofs.Common.{◌≡◌, ℕ, true, false, List, [], ◌∷◌, Option, Some, None, refl}
+use Rattle.kanal_core.specs.declared.internal.outcome.Reason.TheVariants.{Closed as ByClose, SendClosed as BySenders, ReceiveClosed as ByReceivers}
 use Rattle.kanal_core.specs.declared.internal.outcome.Outcome.TheVariants.{Taken, Given, Ended}
 use Rattle.kanal_journal.specs.declared.journal.event.Side.TheVariants.{Tx, Rx}
-use Rattle.kanal_journal.specs.declared.journal.event.Ask.TheVariants.{Len}
+use Rattle.kanal_journal.specs.declared.journal.event.Ask.TheVariants.{IsBounded, Len, IsEmpty, IsFull, Capacity, SenderCount}
 use Rattle.kanal_journal.specs.declared.journal.event.Event.{Event}
-use Rattle.kanal_journal.specs.declared.journal.event.Event.TheVariants.{Send, TrySend, Recv, RecvLate, TryRecv, Withdraw, Close, Ask}
-use Rattle.kanal_journal.specs.declared.journal.event.Refusal.TheVariants.{Closed, Timeout, CloseError, NotWaiting}
+use Rattle.kanal_journal.specs.declared.journal.event.Event.TheVariants.{Send, TrySend, Recv, RecvLate, TryRecv, Drain, Withdraw, CloneTx, DropTx, DropRx, Close, Ask, Terminated}
+use Rattle.kanal_journal.specs.declared.journal.event.Refusal.TheVariants.{Closed, ReceiveClosed, SendClosed, Timeout, CloseError, NoHandle, NotWaiting}
 use Rattle.kanal_journal.specs.declared.journal.event.Reply.{Reply}
-use Rattle.kanal_journal.specs.declared.journal.event.Reply.TheVariants.{Sent, Waits, Yes, No, Got, Nothing, Withdrawn, Cleared, Number, Refused}
+use Rattle.kanal_journal.specs.declared.journal.event.Reply.TheVariants.{Sent, Waits, Yes, No, Got, Nothing, Drained, Withdrawn, Done, Cleared, Number, Flag, Refused}
 use Rattle.kanal_journal.specs.declared.journal.event.Settlement.{Settlement}
 use Rattle.kanal_journal.specs.Runs.{Account, added, made, opening}
 use Rattle.kanal_journal.specs.Paired.{History, until, kept, receipts}
@@ -28,6 +28,9 @@ settlements c es = (along (opening c) es).settled
 
 abbrev cleared_messages : Option ℕ → List (Event ℕ) → List ℕ
 cleared_messages c es = (along (opening c) es).cleared
+
+abbrev drained_messages : Option ℕ → List (Event ℕ) → List ℕ
+drained_messages c es = (along (opening c) es).drained
 
 -- the history of a script
 abbrev told_history : Option ℕ → List (Event ℕ) → History ℕ
@@ -178,3 +181,178 @@ waiting_receives-cleared = refl
 
 waiting_receives-receipts : receipts (told_history (Some 0) waiting_receives) ≡ Some 7 ∷ []
 waiting_receives-receipts = refl
+
+abbrev two_drains : List (Event ℕ)
+two_drains = Send 1 ∷ Send 2 ∷ Drain ∷ Drain ∷ []
+
+two_drains-replies : answers (Some 0) two_drains ≡ Waits 0 ∷ Waits 1 ∷ Drained 2 ∷ Drained 0 ∷ []
+two_drains-replies = refl
+
+two_drains-settled : settlements (Some 0) two_drains ≡ record { step = 2; ticket = 0; outcome = Taken } ∷ record { step = 2; ticket = 1; outcome = Taken } ∷ []
+two_drains-settled = refl
+
+two_drains-drained : drained_messages (Some 0) two_drains ≡ 1 ∷ 2 ∷ []
+two_drains-drained = refl
+
+two_drains-cleared : cleared_messages (Some 0) two_drains ≡ []
+two_drains-cleared = refl
+
+abbrev last_handles : List (Event ℕ)
+last_handles = CloneTx ∷ DropTx ∷ Ask Rx SenderCount ∷ DropTx ∷ DropTx ∷ Close ∷ DropRx ∷ Close ∷ []
+
+last_handles-replies : answers (Some 1) last_handles ≡ Done ∷ Done ∷ Number 1 ∷ Done ∷ Refused NoHandle None ∷ Cleared 0 ∷ Done ∷ Refused NoHandle None ∷ []
+last_handles-replies = refl
+
+last_handles-settled : settlements (Some 1) last_handles ≡ []
+last_handles-settled = refl
+
+last_handles-drained : drained_messages (Some 1) last_handles ≡ []
+last_handles-drained = refl
+
+last_handles-cleared : cleared_messages (Some 1) last_handles ≡ []
+last_handles-cleared = refl
+
+abbrev drained_wait : List (Event ℕ)
+drained_wait = Send 1 ∷ Send 2 ∷ Send 3 ∷ Send 4 ∷ Withdraw 0 ∷ Drain ∷ Ask Rx Len ∷ []
+
+drained_wait-replies : answers (Some 2) drained_wait ≡ Sent ∷ Sent ∷ Waits 0 ∷ Waits 1 ∷ Withdrawn (Some 3) ∷ Drained 3 ∷ Number 0 ∷ []
+drained_wait-replies = refl
+
+drained_wait-settled : settlements (Some 2) drained_wait ≡ record { step = 5; ticket = 1; outcome = Taken } ∷ []
+drained_wait-settled = refl
+
+drained_wait-drained : drained_messages (Some 2) drained_wait ≡ 1 ∷ 2 ∷ 4 ∷ []
+drained_wait-drained = refl
+
+drained_wait-cleared : cleared_messages (Some 2) drained_wait ≡ []
+drained_wait-cleared = refl
+
+abbrev no_sender : List (Event ℕ)
+no_sender = Send 1 ∷ DropTx ∷ Recv ∷ Recv ∷ Drain ∷ RecvLate ∷ Terminated ∷ []
+
+no_sender-replies : answers (Some 1) no_sender ≡ Sent ∷ Done ∷ Got 1 ∷ Refused SendClosed None ∷ Drained 0 ∷ Refused Timeout None ∷ Flag true ∷ []
+no_sender-replies = refl
+
+no_sender-settled : settlements (Some 1) no_sender ≡ []
+no_sender-settled = refl
+
+no_sender-drained : drained_messages (Some 1) no_sender ≡ []
+no_sender-drained = refl
+
+no_sender-cleared : cleared_messages (Some 1) no_sender ≡ []
+no_sender-cleared = refl
+
+abbrev after_a_close : List (Event ℕ)
+after_a_close = TrySend 1 ∷ Close ∷ Close ∷ Recv ∷ Drain ∷ Send 2 ∷ CloneTx ∷ Ask Tx SenderCount ∷ []
+
+after_a_close-replies : answers (Some 1) after_a_close ≡ Yes ∷ Cleared 1 ∷ Refused CloseError None ∷ Refused Closed None ∷ Refused Closed None ∷ Refused Closed (Some 2) ∷ Done ∷ Number 0 ∷ []
+after_a_close-replies = refl
+
+after_a_close-settled : settlements (Some 1) after_a_close ≡ []
+after_a_close-settled = refl
+
+after_a_close-drained : drained_messages (Some 1) after_a_close ≡ []
+after_a_close-drained = refl
+
+after_a_close-cleared : cleared_messages (Some 1) after_a_close ≡ 1 ∷ []
+after_a_close-cleared = refl
+
+abbrev ended_receive : List (Event ℕ)
+ended_receive = Recv ∷ DropTx ∷ []
+
+ended_receive-replies : answers (Some 1) ended_receive ≡ Waits 0 ∷ Done ∷ []
+ended_receive-replies = refl
+
+ended_receive-settled : settlements (Some 1) ended_receive ≡ record { step = 1; ticket = 0; outcome = Ended BySenders None } ∷ []
+ended_receive-settled = refl
+
+ended_receive-drained : drained_messages (Some 1) ended_receive ≡ []
+ended_receive-drained = refl
+
+ended_receive-cleared : cleared_messages (Some 1) ended_receive ≡ []
+ended_receive-cleared = refl
+
+abbrev ended_send : List (Event ℕ)
+ended_send = Send 1 ∷ DropRx ∷ Send 2 ∷ Recv ∷ []
+
+ended_send-replies : answers (Some 0) ended_send ≡ Waits 0 ∷ Done ∷ Refused ReceiveClosed (Some 2) ∷ Refused NoHandle None ∷ []
+ended_send-replies = refl
+
+ended_send-settled : settlements (Some 0) ended_send ≡ record { step = 1; ticket = 0; outcome = Ended ByReceivers (Some 1) } ∷ []
+ended_send-settled = refl
+
+ended_send-drained : drained_messages (Some 0) ended_send ≡ []
+ended_send-drained = refl
+
+ended_send-cleared : cleared_messages (Some 0) ended_send ≡ []
+ended_send-cleared = refl
+
+abbrev no_place_is_full : List (Event ℕ)
+no_place_is_full = Ask Rx IsFull ∷ Ask Rx IsEmpty ∷ []
+
+no_place_is_full-replies : answers (Some 0) no_place_is_full ≡ Flag true ∷ Flag true ∷ []
+no_place_is_full-replies = refl
+
+no_place_is_full-settled : settlements (Some 0) no_place_is_full ≡ []
+no_place_is_full-settled = refl
+
+no_place_is_full-drained : drained_messages (Some 0) no_place_is_full ≡ []
+no_place_is_full-drained = refl
+
+no_place_is_full-cleared : cleared_messages (Some 0) no_place_is_full ≡ []
+no_place_is_full-cleared = refl
+
+abbrev no_limit_asked : List (Event ℕ)
+no_limit_asked = Ask Tx IsFull ∷ Ask Tx IsBounded ∷ Ask Tx Capacity ∷ []
+
+no_limit_asked-replies : answers None no_limit_asked ≡ Flag false ∷ Flag false ∷ Number 18446744073709551615 ∷ []
+no_limit_asked-replies = refl
+
+no_limit_asked-settled : settlements None no_limit_asked ≡ []
+no_limit_asked-settled = refl
+
+no_limit_asked-drained : drained_messages None no_limit_asked ≡ []
+no_limit_asked-drained = refl
+
+no_limit_asked-cleared : cleared_messages None no_limit_asked ≡ []
+no_limit_asked-cleared = refl
+
+abbrev buffer_stays : List (Event ℕ)
+buffer_stays = TrySend 1 ∷ DropRx ∷ Ask Tx Len ∷ Close ∷ Ask Tx Len ∷ []
+
+buffer_stays-replies : answers (Some 1) buffer_stays ≡ Yes ∷ Done ∷ Number 1 ∷ Cleared 1 ∷ Number 0 ∷ []
+buffer_stays-replies = refl
+
+buffer_stays-settled : settlements (Some 1) buffer_stays ≡ []
+buffer_stays-settled = refl
+
+buffer_stays-drained : drained_messages (Some 1) buffer_stays ≡ []
+buffer_stays-drained = refl
+
+buffer_stays-cleared : cleared_messages (Some 1) buffer_stays ≡ 1 ∷ []
+buffer_stays-cleared = refl
+
+abbrev ended_by_senders : List (Event ℕ)
+ended_by_senders = Send 1 ∷ DropTx ∷ TryRecv ∷ []
+
+ended_by_senders-replies : answers (Some 0) ended_by_senders ≡ Waits 0 ∷ Done ∷ Refused SendClosed None ∷ []
+ended_by_senders-replies = refl
+
+ended_by_senders-settled : settlements (Some 0) ended_by_senders ≡ record { step = 1; ticket = 0; outcome = Ended BySenders (Some 1) } ∷ []
+ended_by_senders-settled = refl
+
+ended_by_senders-drained : drained_messages (Some 0) ended_by_senders ≡ []
+ended_by_senders-drained = refl
+
+ended_by_senders-cleared : cleared_messages (Some 0) ended_by_senders ≡ []
+ended_by_senders-cleared = refl
+
+drained_wait-kept : kept (told_history (Some 2) drained_wait) ≡ 1 ∷ 2 ∷ 4 ∷ []
+drained_wait-kept = refl
+
+drained_wait-receipts : receipts (told_history (Some 2) drained_wait) ≡ Some 1 ∷ Some 2 ∷ Some 4 ∷ []
+drained_wait-receipts = refl
+
+-- before the drain all three are kept, and no demand is there
+drained_wait-cut : receipts (until 5 (told_history (Some 2) drained_wait)) ≡ []
+drained_wait-cut = refl

@@ -22,3 +22,6 @@ pub mod Noting
 pub mod Regular
 pub mod Replaying
 pub mod Examples
+pub mod Standing
+pub mod Lawful
+pub mod Over

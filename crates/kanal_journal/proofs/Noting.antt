@@ -1,7 +1,6 @@
 -- What the lists hold after a step was noted.
-use Rattle.std.proofs.Common.{◌≡◌, ℕ, ◌+◌, ◌≤◌, zero, suc, List, [], ◌∷◌, ◌++◌, length, map, take, Option, Some, None, refl, sym, ap, ◌∙◌, subst, inl, inr, ◌⊎◌, arith, length-append}
+use Rattle.std.proofs.Common.{◌≡◌, ℕ, ◌+◌, ◌≤◌, zero, suc, List, [], ◌∷◌, ◌++◌, length, map, take, Option, Some, None, refl, ap, inl, inr, ◌⊎◌, arith, length-append}
 use Rattle.std.proofs.lemmas.List.{length-map}
-use Rattle.std.proofs.Math.Seq.{take-append_seam}
 use Rattle.kanal_core.specs.declared.internal.outcome.Outcome.{Outcome}
 use Rattle.kanal_core.specs.Line.{Entry, Line, bare, tickets, under}
 use Rattle.kanal_journal.specs.declared.journal.handles.Handles.{Handles}
@@ -10,7 +9,11 @@ use Rattle.kanal_journal.specs.declared.journal.event.Event.TheVariants.{CloneTx
 use Rattle.kanal_journal.specs.declared.journal.event.Reply.{Reply}
 use Rattle.kanal_journal.specs.declared.journal.event.Reply.TheVariants.{Done}
 use Rattle.kanal_journal.specs.declared.journal.event.Settlement.{Settlement}
+use Rattle.kanal_journal.specs.declared.journal.calls.Made.{Made}
 use Rattle.kanal_journal.specs.Runs.{Account, numbered, handles_after}
+use Rattle.kanal_journal.specs.Given.{waiting_count}
+use Rattle.kanal_journal.specs.Made.{told_of, settled_by, cleared_of, IsAnswered}
+use Rattle.kanal_journal.proofs.Counting.{told-counts, told-count}
 
 module _ {T : Type 0} where
   -- accounts with the same parts
@@ -46,3 +49,10 @@ module _ {T : Type 0} where
   few-more handles DropTx Done = (omega arith, omega arith)
   few-more handles DropRx Done = (omega arith, omega arith)
   few-more handles e r = (omega arith, omega arith)
+
+  -- what an answered event settles, drains and clears is within what waited and what the line held
+  pub answered-counts : (handles : Handles) (old new : Line T) (e : Event T) (before after : List T) (made : Made T) → tickets (under old.capacity old.line) ≡ [] → IsAnswered handles old e new before after made
+      → (length (settled_by made) + waiting_count new + old.next ≤ waiting_count old + new.next) × (length after + length new.line ≤ length before + length old.line + 1) × (length (cleared_of made) + length new.line ≤ length old.line + 1)
+  answered-counts handles old new e before after made below is =
+      let k = told-counts (λ x. 1) old below handles e (told_of new is.messages made) is.told in
+      (told-count old below handles e (told_of new is.messages made) is.told, omega (arith, k.left, ap length is.drained, length-append before is.messages), omega (arith, k.left))

@@ -1,9 +1,9 @@
 -- What follows for a journal that replays, and how it grows by one entry.
-use Rattle.std.proofs.Common.{◌≡◌, ℕ, ◌+◌, ◌≤◌, true, false, List, [], ◌∷◌, ◌++◌, length, map, Option, Some, None, refl, sym, ap, ◌∙◌, subst, inl, inr, arith, length-append, append-nil}
+use Rattle.std.proofs.Common.{◌≡◌, ℕ, ◌+◌, ◌≤◌, true, false, List, [], ◌∷◌, ◌++◌, length, Option, refl, sym, ap, ◌∙◌, subst, inl, inr, arith, length-append, append-nil}
 use Rattle.std.proofs.lemmas.List.{map-append, length-map}
 use Rattle.std.proofs.lemmas.Bool.{false≢true}
 use Rattle.std.specs.Global.{Vec}
-use Rattle.kanal_core.specs.Line.{Entry as Place, messages, tickets, under}
+use Rattle.kanal_core.specs.Line.{messages, tickets, under}
 use Rattle.kanal_core.specs.Channel.{Channel, line_of}
 use Rattle.kanal_journal.specs.declared.journal.handles.Handles.{Handles}
 use Rattle.kanal_journal.specs.declared.journal.event.Event.{Event}
@@ -15,17 +15,17 @@ use Rattle.kanal_journal.specs.declared.journal.event.Reply.{Reply}
 use Rattle.kanal_journal.specs.declared.journal.event.Reply.TheVariants.{Refused}
 use Rattle.kanal_journal.specs.declared.journal.recorder.Entry.{Entry}
 use Rattle.kanal_journal.specs.Steps.{Told, message_of, refused}
-use Rattle.kanal_journal.specs.Runs.{Account, Leads, added, made, opening, opening_line, handles_after, numbered}
+use Rattle.kanal_journal.specs.Runs.{Account, Leads, added, made, opening, handles_after}
 use Rattle.kanal_journal.specs.Given.{AreNumbered, waiting_count}
 use Rattle.kanal_journal.specs.Paired.{Paired, until, rest}
 use Rattle.kanal_journal.specs.Replays.{Recording, Replays, Records, events_of, replies_of, next, played, history_of, no_memory, is_no_memory, longer}
 use Rattle.kanal_journal.specs.Recorders.{IsNoted, IsSame, IsSound, account_of, recording_of}
 use Rattle.kanal_journal.specs.declared.journal.recorder.Recorder.{Recorder}
-use Rattle.kanal_journal.proofs.Settling.{AllBare}
 use Rattle.kanal_journal.proofs.Holding.{Holds}
+use Rattle.kanal_journal.proofs.Tickets.{bare-tickets}
 use Rattle.kanal_journal.proofs.EachStep.{told-holds}
 use Rattle.kanal_journal.proofs.Along.{told_history, holds-opening, holds-along, paired-at, rest-left}
-use Rattle.kanal_journal.proofs.Counting.{Counts, told-counts}
+use Rattle.kanal_journal.proofs.Counting.{told-counts, told-count}
 use Rattle.kanal_journal.proofs.Noting.{noted-count, few-more}
 use Rattle.kanal_journal.proofs.Regular.{Regular, made-regular}
 
@@ -53,10 +53,6 @@ module _ {T : Type 0} where
       let es = events_of r.entries in
       rw (sym k.replies) (rest-left (told_history es r.account) r.account.line (holds-along [] (opening r.capacity) r.account es (holds-opening r.capacity) l))
 
-  bare-tickets : (xs : List (Place T)) → AllBare xs → tickets xs ≡ []
-  bare-tickets [] a = refl
-  bare-tickets (x ∷ xs) a = rw a.0 (bare-tickets xs a.1)
-
   -- nobody waits below the capacity
   pub replays-below : (c : Option ℕ) (entries : List (Entry T)) (a : Account T) → Replays c entries a → tickets (under a.line.capacity a.line.line) ≡ []
   replays-below c entries a r = bare-tickets (under a.line.capacity a.line.line) (holds-along [] (opening c) a (events_of entries) (holds-opening c) (replays-leads c entries a r)).seats.0
@@ -74,12 +70,13 @@ module _ {T : Type 0} where
   bounds-next c n a e below b =
       let told : Told T = made a.handles a.line e in
       let k : Regular a.line told = made-regular a.line a.handles e in
-      let counts : Counts a.line told = told-counts a.line below a.handles e told (inl refl) in
+      let counts = told-counts (λ x. 1) a.line below a.handles e told (inl refl) in
+      let count = told-count a.line below a.handles e told (inl refl) in
       let more = few-more a.handles e told.reply in
       record {
         capacity = k.capacity ∙ b.capacity;
         given = omega (arith, k.next, b.given);
-        settled = omega (arith, counts.settled, b.settled, noted-count (length a.replies) a.settled (next a e).settled told.settled refl);
+        settled = omega (arith, count, b.settled, noted-count (length a.replies) a.settled (next a e).settled told.settled refl);
         left = omega (arith, counts.left, b.left, length-append a.drained told.drained, length-append a.cleared told.cleared);
         tx = omega (arith, more.0, b.tx);
         rx = omega (arith, more.1, b.rx);

@@ -19,8 +19,8 @@ use Rattle.kanal_journal.specs.declared.journal.event.Event.TheVariants.{Send, T
 use Rattle.kanal_journal.specs.declared.journal.event.Refusal.{Refusal}
 use Rattle.kanal_journal.specs.declared.journal.event.Refusal.TheVariants.{Closed as ByClosed, ReceiveClosed as NoReceiver, SendClosed as NoSender, Timeout, NoMemory, TooMany, CloseError, NoHandle, NotWaiting}
 use Rattle.kanal_journal.specs.declared.journal.event.Reply.{Reply}
-use Rattle.kanal_journal.specs.declared.journal.event.Reply.TheVariants.{Sent, Waits, Yes, No, Nothing, Drained, Withdrawn, Done, Cleared, Number, Flag, Refused}
-use Rattle.kanal_journal.specs.Steps.{Told, only, moving, offer, take as take_told, take_front, nothing_there, wait, withdraw, shut, is_closed, drained, cloned, answer, step, refused}
+use Rattle.kanal_journal.specs.declared.journal.event.Reply.TheVariants.{Sent, Waits, Yes, No, Nothing, Drained, Withdrawn, Done, Cleared, Flag, Refused}
+use Rattle.kanal_journal.specs.Steps.{Told, only, moving, offer, take as take_told, take_front, nothing_there, wait, withdraw, shut, drained, cloned, answer, step, refused}
 use Rattle.kanal_journal.specs.Runs.{Account, Leads, Answers, added, has_handle, numbered}
 use Rattle.kanal_journal.specs.Weights.{weigh, event_weight, reply_weight, outcome_weight, settlement_weight}
 use Rattle.kanal_journal.proofs.Settling.{AreApart, AllBare, AllWait, IsSeated, under-over}

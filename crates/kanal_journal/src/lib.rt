@@ -5,3 +5,4 @@
 #![tactic(auto)]
 
 pub mod journal;
+pub mod laws;

@@ -1,14 +1,14 @@
 -- How a script's answer is written.
-use Rattle.std.specs.Prelude.{◌==◌, ℕ, ◌+◌, List, [], ◌∷◌, ◌++◌, take, drop, Option, Some, None, codes, decimal}
+use Rattle.std.specs.Prelude.{◌==◌, ℕ, Bool, true, false, ◌+◌, List, [], ◌∷◌, ◌++◌, take, drop, Option, Some, None, codes, decimal}
 use Rattle.std.specs.List.{prefix_len}
 use Rattle.kanal_core.specs.declared.internal.outcome.Reason.{Reason}
 use Rattle.kanal_core.specs.declared.internal.outcome.Reason.TheVariants.{Closed as ByClose, SendClosed as BySenders, ReceiveClosed as ByReceivers}
 use Rattle.kanal_core.specs.declared.internal.outcome.Outcome.{Outcome}
 use Rattle.kanal_core.specs.declared.internal.outcome.Outcome.TheVariants.{Taken, Given, Ended}
 use Rattle.kanal_journal.specs.declared.journal.event.Refusal.{Refusal}
-use Rattle.kanal_journal.specs.declared.journal.event.Refusal.TheVariants.{Closed, ReceiveClosed, SendClosed, Timeout, NoMemory, TooMany, CloseError, NotWaiting}
+use Rattle.kanal_journal.specs.declared.journal.event.Refusal.TheVariants.{Closed, ReceiveClosed, SendClosed, Timeout, NoMemory, TooMany, CloseError, NoHandle, NotWaiting}
 use Rattle.kanal_journal.specs.declared.journal.event.Reply.{Reply}
-use Rattle.kanal_journal.specs.declared.journal.event.Reply.TheVariants.{Sent, Waits, Yes, No, Got, Nothing, Withdrawn, Cleared, Number, Refused}
+use Rattle.kanal_journal.specs.declared.journal.event.Reply.TheVariants.{Sent, Waits, Yes, No, Got, Nothing, Drained, Withdrawn, Done, Cleared, Number, Flag, Refused}
 use Rattle.kanal_journal.specs.declared.journal.event.Settlement.{Settlement}
 use Rattle.kanal_journal.specs.declared.journal.event.Report.{Report}
 use Rattle.kanal_script.specs.Script.{line}
@@ -22,6 +22,7 @@ refusal_name Timeout = codes "Timeout"
 refusal_name NoMemory = codes "NoMemory"
 refusal_name TooMany = codes "TooMany"
 refusal_name CloseError = codes "CloseError"
+refusal_name NoHandle = codes "NoHandle"
 refusal_name NotWaiting = codes "NotWaiting"
 
 -- the name of the reason for which a wait ended
@@ -40,6 +41,11 @@ abbrev pub messages_text : List ℕ → List ℕ
 messages_text [] = []
 messages_text (message ∷ messages) = (32 ∷ decimal message) ++ messages_text messages
 
+-- a yes or a no
+abbrev pub flag_word : Bool → List ℕ
+flag_word true = codes "true"
+flag_word false = codes "false"
+
 -- a reply's words; a count is followed by the messages that it counts
 abbrev pub reply_words : Reply ℕ → List ℕ → List ℕ
 reply_words Sent counted = codes "sent"
@@ -48,23 +54,29 @@ reply_words Yes counted = codes "yes"
 reply_words (No message) counted = codes "no " ++ decimal message
 reply_words (Got message) counted = codes "got " ++ decimal message
 reply_words Nothing counted = codes "nothing"
+reply_words (Drained count) counted = codes "drained " ++ (decimal count ++ messages_text counted)
 reply_words (Withdrawn back) counted = codes "withdrawn" ++ back_text back
+reply_words Done counted = codes "done"
 reply_words (Cleared count) counted = codes "cleared " ++ (decimal count ++ messages_text counted)
 reply_words (Number number) counted = decimal number
+reply_words (Flag flag) counted = flag_word flag
 reply_words (Refused refusal back) counted = codes "refused " ++ (refusal_name refusal ++ back_text back)
 
--- how many messages a reply counts
-abbrev pub counted : Reply ℕ → ℕ
-counted (Cleared count) = count
-counted Sent = 0
-counted (Waits ticket) = 0
-counted Yes = 0
-counted (No message) = 0
-counted (Got message) = 0
-counted Nothing = 0
-counted (Withdrawn back) = 0
-counted (Number number) = 0
-counted (Refused refusal back) = 0
+-- how many of the drained messages a reply counts
+abbrev pub drained_count : Reply ℕ → ℕ
+drained_count (Drained count) = count
+drained_count reply = 0
+
+-- how many of the cleared messages a reply counts
+abbrev pub cleared_count : Reply ℕ → ℕ
+cleared_count (Cleared count) = count
+cleared_count reply = 0
+
+-- the messages that a reply counts
+abbrev pub counted : Reply ℕ → List ℕ → List ℕ → List ℕ
+counted (Drained count) drained cleared = take count drained
+counted (Cleared count) drained cleared = take count cleared
+counted reply drained cleared = []
 
 -- what became of a wait
 abbrev pub outcome_words : Outcome ℕ → List ℕ
@@ -86,16 +98,16 @@ abbrev pub settled_at : ℕ → List (Settlement ℕ) → ℕ
 settled_at step settled = prefix_len (λ s. s.step == step) settled
 
 -- from the step on: each reply's line with the messages that it counts, and then its settlements' lines
-abbrev pub replies_text : ℕ → List (Reply ℕ) → List ℕ → List (Settlement ℕ) → List ℕ
-replies_text step [] messages settled = []
-replies_text step (reply ∷ replies) messages settled =
-    line (reply_words reply (take (counted reply) messages))
+abbrev pub replies_text : ℕ → List (Reply ℕ) → List ℕ → List ℕ → List (Settlement ℕ) → List ℕ
+replies_text step [] drained cleared settled = []
+replies_text step (reply ∷ replies) drained cleared settled =
+    line (reply_words reply (counted reply drained cleared))
     ++ (settlements_text (take (settled_at step settled) settled)
-    ++ replies_text (step + 1) replies (drop (counted reply) messages) (drop (settled_at step settled) settled))
+    ++ replies_text (step + 1) replies (drop (drained_count reply) drained) (drop (cleared_count reply) cleared) (drop (settled_at step settled) settled))
 
 -- a report, printed
 abbrev pub report_text : Report ℕ → List ℕ
-report_text report = replies_text 0 report.replies.items report.cleared.items report.settled.items
+report_text report = replies_text 0 report.replies.items report.drained.items report.cleared.items report.settled.items
 
 -- what is printed of a channel that can't be so large
 abbrev pub too_large_text : List ℕ

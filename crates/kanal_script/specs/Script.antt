@@ -3,9 +3,9 @@ use Rattle.std.specs.Prelude.{◌≡◌, ℕ, List, [], ◌∷◌, ◌++◌, Opt
 use Rattle.kanal_journal.specs.declared.journal.event.Side.{Side}
 use Rattle.kanal_journal.specs.declared.journal.event.Side.TheVariants.{Tx, Rx}
 use Rattle.kanal_journal.specs.declared.journal.event.Ask.{Ask}
-use Rattle.kanal_journal.specs.declared.journal.event.Ask.TheVariants.{Len}
+use Rattle.kanal_journal.specs.declared.journal.event.Ask.TheVariants.{IsBounded, Len, IsEmpty, IsFull, Capacity, ReceiverCount, SenderCount, IsClosed, IsDisconnected}
 use Rattle.kanal_journal.specs.declared.journal.event.Event.{Event}
-use Rattle.kanal_journal.specs.declared.journal.event.Event.TheVariants.{Send, TrySend, Recv, RecvLate, TryRecv, Withdraw, Close, Ask as Asks}
+use Rattle.kanal_journal.specs.declared.journal.event.Event.TheVariants.{Send, TrySend, Recv, RecvLate, TryRecv, Drain, Withdraw, CloneTx, CloneRx, DropTx, DropRx, Close, Ask as Asks, Terminated}
 
 -- a line: its words, and a line feed
 abbrev pub line : List ℕ → List ℕ
@@ -23,7 +23,15 @@ side_word Rx = codes "rx"
 
 -- the name of a question
 abbrev pub ask_word : Ask → List ℕ
+ask_word IsBounded = codes "is_bounded"
 ask_word Len = codes "len"
+ask_word IsEmpty = codes "is_empty"
+ask_word IsFull = codes "is_full"
+ask_word Capacity = codes "capacity"
+ask_word ReceiverCount = codes "receiver_count"
+ask_word SenderCount = codes "sender_count"
+ask_word IsClosed = codes "is_closed"
+ask_word IsDisconnected = codes "is_disconnected"
 
 -- an event's words
 abbrev pub event_words : Event ℕ → List ℕ
@@ -32,9 +40,15 @@ event_words (TrySend message) = codes "try_send " ++ decimal message
 event_words Recv = codes "recv"
 event_words RecvLate = codes "recv_late"
 event_words TryRecv = codes "try_recv"
+event_words Drain = codes "drain"
 event_words (Withdraw ticket) = codes "withdraw " ++ decimal ticket
+event_words CloneTx = codes "clone_tx"
+event_words CloneRx = codes "clone_rx"
+event_words DropTx = codes "drop_tx"
+event_words DropRx = codes "drop_rx"
 event_words Close = codes "close"
 event_words (Asks side ask) = codes "ask " ++ (side_word side ++ (32 ∷ ask_word ask))
+event_words Terminated = codes "terminated"
 
 -- the events' lines
 abbrev pub events_text : List (Event ℕ) → List ℕ

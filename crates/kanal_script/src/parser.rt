@@ -114,12 +114,18 @@ impl<'a> Parser<'a> {
             "recv" => Some(Event::Recv),
             "recv_late" => Some(Event::RecvLate),
             "try_recv" => Some(Event::TryRecv),
+            "drain" => Some(Event::Drain),
             "withdraw" => Some(Event::Withdraw(self.argument()?)),
+            "clone_tx" => Some(Event::CloneTx),
+            "clone_rx" => Some(Event::CloneRx),
+            "drop_tx" => Some(Event::DropTx),
+            "drop_rx" => Some(Event::DropRx),
             "close" => Some(Event::Close),
             "ask" => {
                 let side = self.side()?;
                 Some(Event::Ask(side, self.question()?))
             },
+            "terminated" => Some(Event::Terminated),
             _ => None,
         }
     }
@@ -142,7 +148,15 @@ impl<'a> Parser<'a> {
         ensures line { self.new.line ≡ self.old.line }
     {
         match self.next_word()? {
+            "is_bounded" => Some(Ask::IsBounded),
             "len" => Some(Ask::Len),
+            "is_empty" => Some(Ask::IsEmpty),
+            "is_full" => Some(Ask::IsFull),
+            "capacity" => Some(Ask::Capacity),
+            "receiver_count" => Some(Ask::ReceiverCount),
+            "sender_count" => Some(Ask::SenderCount),
+            "is_closed" => Some(Ask::IsClosed),
+            "is_disconnected" => Some(Ask::IsDisconnected),
             _ => None,
         }
     }

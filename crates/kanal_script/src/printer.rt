@@ -2,10 +2,10 @@
 //!
 //! It stands on the names of `kanal_journal`'s replies and of `kanal_core`'s outcomes. No other
 //! module writes these texts.
-ghost use Rattle.std.specs.Prelude.{◌≡◌, ◌++◌, ◌≤◌, length, OnOk};
+ghost use Rattle.std.specs.Prelude.{◌≡◌, ◌++◌, ◌≤◌, length, drop, OnOk};
 ghost use Rattle.std.specs.Io.KnownBytes.{Appends};
 ghost use Rattle.kanal_script.specs.Script.{line};
-ghost use Rattle.kanal_script.specs.Answer.{refusal_name, reason_name, messages_text, reply_words, counted, settlement_words, settlements_text, settled_at, report_text, too_large_text};
+ghost use Rattle.kanal_script.specs.Answer.{refusal_name, reason_name, messages_text, reply_words, flag_word, counted, drained_count, cleared_count, settlement_words, settlements_text, settled_at, report_text, too_large_text};
 
 use kanal_core::internal::{Outcome, Reason};
 use kanal_journal::journal::{Refusal, Reply, Report, Settlement};
@@ -24,6 +24,7 @@ fn refusal_name(refusal: Refusal) -> &'static str
         Refusal::NoMemory => "NoMemory",
         Refusal::TooMany => "TooMany",
         Refusal::CloseError => "CloseError",
+        Refusal::NoHandle => "NoHandle",
         Refusal::NotWaiting => "NotWaiting",
     }
 }
@@ -39,13 +40,40 @@ fn reason_name(reason: Reason) -> &'static str
     }
 }
 
-/// How many messages a reply counts.
-fn counted(reply: &Reply<u64>) -> usize
-    ensures { result ≡ counted reply.now }
+/// A yes or a no, as it is printed.
+fn flag_word(flag: bool) -> &'static str
+    ensures { result.now ≡ flag_word flag }
 {
-    match reply {
-        Reply::Cleared(count) => *count,
-        _ => 0,
+    if flag { "true" } else { "false" }
+}
+
+/// The drained and the cleared messages that no reply has counted yet.
+#[derive(Drop)]
+struct Uncounted<'a> {
+    drained: &'a [u64],
+    cleared: &'a [u64],
+}
+
+impl<'a> Uncounted<'a> {
+    /// Takes those that the reply counts.
+    fn take(&mut self, reply: &Reply<u64>) -> &'a [u64]
+        ensures own { result.now ≡ counted reply.now self.old.drained.now self.old.cleared.now }
+        ensures drained { self.new.drained.now ≡ drop (drained_count reply.now) self.old.drained.now }
+        ensures cleared { self.new.cleared.now ≡ drop (cleared_count reply.now) self.old.cleared.now }
+    {
+        match reply {
+            Reply::Drained(count) => {
+                let (own, later) = self.drained.split_at((*count).min(self.drained.len()));
+                self.drained = later;
+                own
+            },
+            Reply::Cleared(count) => {
+                let (own, later) = self.cleared.split_at((*count).min(self.cleared.len()));
+                self.cleared = later;
+                own
+            },
+            _ => &[],
+        }
     }
 }
 
@@ -61,7 +89,7 @@ fn print_messages<W: Write>(output: &mut W, messages: &[u64]) -> io::Result<()>
 
 /// Prints a reply's line.
 ///
-/// The count of a close is followed by the messages, and a refusal or a withdrawal by the message
+/// The count of a drain or of a close is followed by the messages, and a refusal or a withdrawal by the message
 /// that comes back with it. The error is the writer's own; a beginning of the line may then have
 /// been written.
 ///
@@ -80,13 +108,19 @@ pub fn print_reply<W: Write>(output: &mut W, reply: &Reply<u64>, messages: &[u64
         Reply::No(message) => writeln!(output, "no {message}"),
         Reply::Got(message) => writeln!(output, "got {message}"),
         Reply::Nothing => writeln!(output, "nothing"),
+        Reply::Drained(count) => {
+            write!(output, "drained {count}")?;
+            print_messages(output, messages)
+        },
         Reply::Withdrawn(None) => writeln!(output, "withdrawn"),
         Reply::Withdrawn(Some(message)) => writeln!(output, "withdrawn {message}"),
+        Reply::Done => writeln!(output, "done"),
         Reply::Cleared(count) => {
             write!(output, "cleared {count}")?;
             print_messages(output, messages)
         },
         Reply::Number(number) => writeln!(output, "{number}"),
+        Reply::Flag(flag) => writeln!(output, "{}", flag_word(*flag)),
         Reply::Refused(refusal, None) => writeln!(output, "refused {}", refusal_name(*refusal)),
         Reply::Refused(refusal, Some(message)) => {
             writeln!(output, "refused {} {message}", refusal_name(*refusal))
@@ -161,12 +195,13 @@ fn print_settlements<W: Write>(output: &mut W, settled: &[Settlement<u64>]) -> i
 pub fn print<W: Write>(output: &mut W, report: &Report<u64>) -> io::Result<()>
     ensures { OnOk result (Appends (W.contents output.old) (W.contents output.new) (report_text report.now)) }
 {
-    let mut messages = report.cleared.as_slice();
+    let mut messages = Uncounted {
+        drained: report.drained.as_slice(),
+        cleared: report.cleared.as_slice(),
+    };
     let mut settled = report.settled.as_slice();
     for (step, reply) in report.replies.iter().enumerate() {
-        let (own, later) = messages.split_at(counted(reply).min(messages.len()));
-        print_reply(output, reply, own)?;
-        messages = later;
+        print_reply(output, reply, messages.take(reply))?;
         let (own, later) = settled.split_at(settled_at(step, settled));
         print_settlements(output, own)?;
         settled = later;

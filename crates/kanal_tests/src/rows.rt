@@ -3,7 +3,7 @@ use kanal_script::serve;
 use std::test::Fail;
 
 /// Each script, what it prints, and the status. A semicolon and a space stand for a line feed.
-const ROWS: [(&str, &str, u8); 16] = [
+const ROWS: [(&str, &str, u8); 27] = [
     (
         "cap 1; try_send 1; try_send 2; try_recv; close",
         "yes; no 2; got 1; cleared 0",
@@ -64,6 +64,61 @@ const ROWS: [(&str, &str, u8); 16] = [
     (
         "cap 0; recv; recv; try_send 7; withdraw 0; withdraw 1; try_send 8",
         "waits 0; waits 1; yes; ticket 0 given 7; refused NotWaiting; withdrawn; no 8",
+        0,
+    ),
+    (
+        "cap 0; send 1; send 2; drain; drain",
+        "waits 0; waits 1; drained 2 1 2; ticket 0 taken; ticket 1 taken; drained 0",
+        0,
+    ),
+    (
+        "cap 1; clone_tx; drop_tx; ask rx sender_count; drop_tx; drop_tx; close; drop_rx; close",
+        "done; done; 1; done; refused NoHandle; cleared 0; done; refused NoHandle",
+        0,
+    ),
+    (
+        "cap 2; send 1; send 2; send 3; send 4; withdraw 0; drain; ask rx len",
+        "sent; sent; waits 0; waits 1; withdrawn 3; drained 3 1 2 4; ticket 1 taken; 0",
+        0,
+    ),
+    (
+        "cap 1; send 1; drop_tx; recv; recv; drain; recv_late; terminated",
+        "sent; done; got 1; refused SendClosed; drained 0; refused Timeout; true",
+        0,
+    ),
+    (
+        "cap 1; try_send 1; close; close; recv; drain; send 2; clone_tx; ask tx sender_count",
+        "yes; cleared 1 1; refused CloseError; refused Closed; refused Closed; refused Closed 2; done; 0",
+        0,
+    ),
+    (
+        "cap 1; recv; drop_tx",
+        "waits 0; done; ticket 0 ended SendClosed",
+        0,
+    ),
+    (
+        "cap 0; send 1; drop_rx; send 2; recv",
+        "waits 0; done; ticket 0 ended ReceiveClosed 1; refused ReceiveClosed 2; refused NoHandle",
+        0,
+    ),
+    (
+        "cap 0; ask rx is_full; ask rx is_empty",
+        "true; true",
+        0,
+    ),
+    (
+        "cap unbounded; ask tx is_full; ask tx is_bounded; ask tx capacity",
+        "false; false; 18446744073709551615",
+        0,
+    ),
+    (
+        "cap 1; try_send 1; drop_rx; ask tx len; close; ask tx len",
+        "yes; done; 1; cleared 1 1; 0",
+        0,
+    ),
+    (
+        "cap 0; send 1; drop_tx; try_recv",
+        "waits 0; done; ticket 0 ended SendClosed 1; refused SendClosed",
         0,
     ),
     ("", "", 2),

@@ -8,7 +8,7 @@ use anyhow::{Context, Result};
 use std::fs;
 
 /// The files, which lie in the folder that the program runs in.
-const FILES: [&str; 2] = ["scripts-first.txt", "scripts-waits.txt"];
+const FILES: [&str; 3] = ["scripts-first.txt", "scripts-waits.txt", "scripts-full.txt"];
 
 fn main(rt: HostRuntime) -> Result<()> {
     for file in FILES {

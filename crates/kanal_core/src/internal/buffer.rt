@@ -2,7 +2,8 @@
 //!
 //! Stands on a deque alone. A limited buffer has all its memory from the start, so that entering
 //! it is never refused for memory. Only the core holds one.
-ghost use Rattle.std.specs.Prelude.{◌≡◌, ◌≢◌, ◌↔◌, [], ◌∷◌, ◌++◌, length, true, IsTrue, IfOk, IfErr, OnOk, MatchOption, None, Some};
+ghost use Rattle.std.specs.Prelude.{◌≡◌, ◌+◌, ◌^◌, ◌<◌, ◌≤◌, [], ◌∷◌, ◌++◌, length, true, IfOk, IfErr, OnOk, MatchOption, None, Some};
+ghost use Rattle.std.specs.Vec.{vec_capacity, vec_len};
 ghost use Rattle.kanal_core.specs.Line.{is_below};
 
 use std::alloc::{AllocError, Global};
@@ -57,7 +58,8 @@ impl<T> Buffer<T> {
 
     /// How many messages there are.
     pub fn len(&self) -> usize
-        ensures { result ≡ length self.now.messages }
+        ensures len { result ≡ length self.now.messages }
+        ensures small { result < 2 ^ 63 }
     {
         self.messages.len()
     }
@@ -95,6 +97,19 @@ impl<T> Buffer<T> {
         ensures { MatchOption result ((self.old.messages ≡ []) × (self.new ≡ self.old)) (λ m. (self.old.messages ≡ m ∷ self.new.messages) × (self.new.limit ≡ self.old.limit)) }
     {
         self.messages.pop_front()
+    }
+
+    /// Moves all messages to the vector's end, which has the room.
+    pub fn move_into(&mut self, into: &mut Vec<T>)
+        requires { vec_len into.old + length self.old.messages ≤ vec_capacity into.old }
+        ensures moved { into.new.items ≡ into.old.items ++ self.old.messages }
+        ensures len { vec_len into.new ≡ vec_len into.old + length self.old.messages }
+        ensures capacity { vec_capacity into.new ≡ vec_capacity into.old }
+        ensures left { self.new ≡ record self.old { messages = [] } }
+    {
+        while let Some(message) = self.pop_front() {
+            into.push_reserved(message);
+        }
     }
 
     /// Moves the whole buffer out, and leaves one that takes nothing.

@@ -1,21 +1,51 @@
-//! What moves out of the core: the waits that a step ended, the messages that a close cleared, and
-//! the messages that are left when a channel's life ends.
+//! What moves out of the core: the waits that a step ended or whose messages it took, the messages
+//! that a close cleared, and the messages that are left when a channel's life ends.
 //!
 //! Stands on the two rooms. Each value was moved out of the core as it stood, with no memory asked
 //! for, so that its waiters can be settled and its messages dropped after a lock was released.
-ghost use Rattle.std.specs.Prelude.{◌≡◌, [], ◌∷◌, ◌++◌, length, MatchOption, map};
-ghost use Rattle.kanal_core.specs.Waiters.{brought};
-ghost use Rattle.kanal_core.specs.Channel.{ended_by};
+ghost use Rattle.std.specs.Prelude.{◌≡◌, ◌+◌, ◌≤◌, [], ◌∷◌, ◌++◌, cond, length, MatchOption, map};
+ghost use Rattle.std.specs.Vec.{vec_capacity, vec_len};
+ghost use Rattle.kanal_core.specs.Waiters.{brought, sender_first};
+ghost use Rattle.kanal_core.specs.Channel.{ended_by, taken_by};
+ghost use Rattle.kanal_core.specs.Endings.{HaveMovedOut, settled_by};
 
 use super::buffer::Buffer;
-use super::outcome::{Outcome, Reason, Settled};
+use super::outcome::{Outcome, Reason, Settled, Waiter};
 use super::wait_list::WaitList;
+use std::alloc::Global;
 use std::marker::Model;
 
-/// The waits that a step ended, oldest first.
+/// What became of all waiters of one step.
+#[derive(Clone, Copy)]
+enum Ending {
+    /// The senders' messages were taken, and have moved out already.
+    Taken,
+    /// The waits ended for this reason.
+    For(Reason),
+}
+
+impl Ending {
+    /// The waiter with what became of it.
+    fn settle<T, W>(self, waiter: Waiter<T, W>) -> Settled<T, W>
+        requires { HaveMovedOut self (waiter ∷ []) }
+        ensures { result ≡ settled_by self waiter }
+    {
+        let Waiter { ticket, message, w } = waiter;
+        let outcome = match self {
+            Ending::For(reason) => Outcome::Ended(reason, message),
+            Ending::Taken => match message {
+                None => Outcome::Taken,
+                Some(_message) => unreachable!(),
+            },
+        };
+        Settled { ticket, w, outcome }
+    }
+}
+
+/// The waits that a step ended, or the sends whose messages a drain took, oldest first.
 #[derive(Drop)]
 pub struct Ended<T, W> {
-    reason: Reason,
+    ending: Ending,
     waiters: WaitList<T, W>,
 }
 
@@ -25,30 +55,62 @@ impl<T, W> Model for Ended<T, W> {
 
     ghost Value = { List (Settled T W) };
 
-    ghost use Rattle.kanal_core.specs.Channel.{ended_by};
+    ghost use Rattle.kanal_core.specs.Endings.{HaveMovedOut, settled_by};
 
-    ghost view = { λ e. map (ended_by e.reason) e.waiters };
+    ghost view = { λ e. map (settled_by e.ending) e.waiters };
+
+    ghost invariant = { λ e. HaveMovedOut e.ending e.waiters };
 }
 
 impl<T, W> Ended<T, W> {
-    /// These waiters, ended for this reason.
-    pub(crate) fn new(reason: Reason, waiters: WaitList<T, W>) -> Self
-        ensures { result ≡ map (ended_by reason) waiters }
+    /// Moves all waiters out of the list, ended for this reason.
+    pub(crate) fn all(waiters: &mut WaitList<T, W>, reason: Reason, alloc: Global) -> Self
+        ensures ended { result ≡ map (ended_by reason) waiters.old }
+        ensures left { waiters.new ≡ [] }
     {
-        Ended { reason, waiters }
+        Ended {
+            ending: Ending::For(reason),
+            waiters: waiters.take_all(alloc),
+        }
     }
 
-    /// Hands out the oldest wait that is left, with its message back if it is a sender's.
+    /// Moves the messages of waiting senders to the vector's end, which has the room, and the
+    /// senders out of the list. Receivers stay.
+    pub(crate) fn taken(waiters: &mut WaitList<T, W>, into: &mut Vec<T>, alloc: Global) -> Self
+        requires room { vec_len into.old + cond (sender_first waiters.old) (length waiters.old) 0 ≤ vec_capacity into.old }
+        ensures ended { result ≡ cond (sender_first waiters.old) (map taken_by waiters.old) [] }
+        ensures left { waiters.new ≡ cond (sender_first waiters.old) [] waiters.old }
+        ensures moved { into.new.items ≡ into.old.items ++ cond (sender_first waiters.old) (brought waiters.old) [] }
+        ensures capacity { vec_capacity into.new ≡ vec_capacity into.old }
+    {
+        if !waiters.sender_first() {
+            return Ended::nobody(alloc);
+        }
+        waiters.move_messages(into);
+        Ended {
+            ending: Ending::Taken,
+            waiters: waiters.take_all(alloc),
+        }
+    }
+
+    /// No wait ended.
+    pub(crate) fn nobody(alloc: Global) -> Self
+        ensures { result ≡ [] }
+    {
+        Ended {
+            ending: Ending::Taken,
+            waiters: WaitList::new(alloc),
+        }
+    }
+
+    /// Hands out the oldest wait that is left. A sender whose wait ended has its message back; one
+    /// whose message a drain took is told so.
     pub fn next(&mut self) -> Option<Settled<T, W>>
         ensures { MatchOption result ((self.old ≡ []) × (self.new ≡ [])) (λ s. self.old ≡ s ∷ self.new) }
     {
         match self.waiters.pop_front() {
             None => None,
-            Some(waiter) => Some(Settled {
-                ticket: waiter.ticket,
-                w: waiter.w,
-                outcome: Outcome::Ended(self.reason, waiter.message),
-            }),
+            Some(waiter) => Some(self.ending.settle(waiter)),
         }
     }
 }

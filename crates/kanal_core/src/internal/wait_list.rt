@@ -2,17 +2,19 @@
 //!
 //! Stands on a deque alone. Only the core, and what it hands out at an end, hold one. A waiter is
 //! named by its ticket; no other module knows where in the list it stands.
-ghost use Rattle.std.specs.Prelude.{◌≡◌, [], ◌∷◌, ◌++◌, MatchOption, IfOk, IfErr};
+ghost use Rattle.std.specs.Prelude.{◌≡◌, ◌+◌, ◌^◌, ◌<◌, ◌≤◌, [], ◌∷◌, ◌++◌, cond, length, map, MatchOption, IfOk, IfErr};
+ghost use Rattle.std.specs.Vec.{vec_capacity, vec_len};
 ghost use Rattle.std.specs.Borrow.{sem};
 ghost use Rattle.std.specs.Fn.{FnReturnsAt};
 ghost use Rattle.std.specs.Option.{option_copied_mut, option_map};
-ghost use Rattle.kanal_core.specs.Places.{place_of};
-ghost use Rattle.kanal_core.specs.Waiters.{brought, waiter_of, without, IsFirstWhere, receiver_first, sender_first};
+ghost use Rattle.kanal_core.specs.Places.{TakesMessage, place_of};
+ghost use Rattle.kanal_core.specs.Waiters.{brought, emptied, waiter_of, without, IsFirstWhere, receiver_first, sender_first};
 
 use super::outcome::{Ticket, Waiter};
 use std::alloc::Global;
 use std::collections::VecDeque;
 use std::marker::Model;
+use std::mem;
 
 /// Waiters, oldest first.
 #[derive(Drop)]
@@ -82,6 +84,22 @@ impl<T, W> WaitList<T, W> {
         }
     }
 
+    /// How many wait.
+    fn len(&self) -> usize
+        ensures len { result ≡ length self.now }
+        ensures small { result < 2 ^ 63 }
+    {
+        self.waiters.len()
+    }
+
+    /// How many senders wait, where all that wait are of one side.
+    pub fn senders_len(&self) -> usize
+        ensures len { result ≡ cond (sender_first self.now) (length self.now) 0 }
+        ensures small { result < 2 ^ 63 }
+    {
+        if self.sender_first() { self.len() } else { 0 }
+    }
+
     /// Puts a waiter at the end under a ticket with this number, or gives message and W back where
     /// there is no memory.
     pub fn push_back(
@@ -132,6 +150,38 @@ impl<T, W> WaitList<T, W> {
             }
         }
         None
+    }
+
+    /// Takes the message out of the waiter at this index.
+    fn take_message(&mut self, i: usize) -> Option<T>
+        requires { i < length self.old }
+        ensures { TakesMessage self.old i result self.new }
+    {
+        let waiter = &mut self.waiters[i];
+        waiter.message.take()
+    }
+
+    /// Moves what the waiters brought to the vector's end, which has the room, and leaves them
+    /// without a message.
+    pub fn move_messages(&mut self, into: &mut Vec<T>)
+        requires { vec_len into.old + length self.old ≤ vec_capacity into.old }
+        ensures moved { into.new.items ≡ into.old.items ++ brought self.old }
+        ensures capacity { vec_capacity into.new ≡ vec_capacity into.old }
+        ensures left { self.new ≡ map emptied self.old }
+    {
+        for i in 0..self.len() {
+            if let Some(message) = self.take_message(i) {
+                into.push_reserved(message);
+            }
+        }
+    }
+
+    /// Moves the whole list out, and leaves one that nobody waits in.
+    pub fn take_all(&mut self, alloc: Global) -> WaitList<T, W>
+        ensures out { result ≡ self.old }
+        ensures left { self.new ≡ [] }
+    {
+        mem::replace(self, WaitList::new(alloc))
     }
 
     /// Takes the waiter with the ticket out, if it is there.

@@ -5,7 +5,7 @@ use Rattle.kanal_core.proofs.internal.ChannelInternal.close.Goals as goal
 
 pub returns-clause-step : goal.returns-clause-step
 returns-clause-step g c =
-    rw (← c.self.view_is, c.new-2.ensures, c.replace-waiters.ensures.value, c.replace-waiters.ensures.after, c.new-nobody.ensures, c.take_all.ensures.left, ends-line c.self.inside.buffer.messages c.self.inside.capacity c.self.inside.waiters c.self.invariant.side c.self.invariant.within Closed)
+    rw (← c.self.view_is, c.all.ensures.ended, c.all.ensures.left, c.take_all.ensures.left, ends-line c.self.inside.buffer.messages c.self.inside.capacity c.self.inside.waiters c.self.invariant.side c.self.invariant.within Closed)
     refl
 
 pub returns-clause-cleared : goal.returns-clause-cleared

@@ -1,4 +1,5 @@
 use Rattle.std.proofs.Common.{◌≡◌, false, length, refl, sym, ap, ◌∙◌, subst, arith}
+use Rattle.std.proofs.lemmas.Bool.{false≢true}
 use Rattle.kanal_core.proofs.Sided.{receiver-side}
 use Rattle.kanal_core.proofs.Stepping.{enters-handed, no-place}
 use Rattle.kanal_core.proofs.Sounding.{side-tail, rises-tail}
@@ -37,3 +38,6 @@ returns-then-not-has_place-clause-step g c =
     let full : is_below (length now.buffer.messages) now.capacity ≡ false = sym (ap (λ l. is_below (length now.buffer.messages) l) limit) ∙ sym c.if-not-has_place.ensures in
     rw (← c.self.view_is)
     ((c.if-self-eq0.false, refl), no-place now.capacity now.senders now.receivers now.next now.buffer.messages now.waiters c.self.invariant.side c.self.invariant.within (sym c.if-receiver_first.ensures) full, refl)
+
+pub returns-then-not-has_place-clause-enters : goal.returns-then-not-has_place-clause-enters
+returns-then-not-has_place-clause-enters g c = λ _ place. absurd (false≢true (sym (returns-then-not-has_place-clause-step g c).1 ∙ place))

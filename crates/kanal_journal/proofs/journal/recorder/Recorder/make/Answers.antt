@@ -1,9 +1,8 @@
-use Rattle.std.proofs.Common.{◌≡◌, ◌+◌, ◌≤◌, length, arith}
+use Rattle.std.proofs.Common.{arith}
 use Rattle.kanal_core.specs.Channel.{line_of}
-use Rattle.kanal_journal.specs.Made.{told_of}
 use Rattle.kanal_journal.specs.Recorders.{account_of}
 use Rattle.kanal_journal.proofs.Numbering.{numbered-more, numbered-count}
-use Rattle.kanal_journal.proofs.Counting.{Counts, told-counts}
+use Rattle.kanal_journal.proofs.Noting.{answered-counts}
 use Rattle.kanal_journal.proofs.Replaying.{replays-below, replays-bounds}
 use Rattle.kanal_journal.proofs.journal.recorder.Recorder.make.Goals as goal
 
@@ -30,16 +29,14 @@ note-requires-clause-settled g c =
     let now = c.args.self.now in
     let b = replays-bounds now.core.capacity now.entries.items (account_of now) c.requires.sound.replays in
     let below = replays-below now.core.capacity now.entries.items (account_of now) c.requires.sound.replays in
-    let a = c.answer-made.ensures.answered in
-    let counts : Counts (line_of now.core) (told_of (line_of c.answer-made.new.core) a.messages c.answer-made.result) = told-counts (line_of now.core) below now.handles c.args.event (told_of (line_of c.answer-made.new.core) a.messages c.answer-made.result) a.told in
+    let counts = answered-counts now.handles (line_of now.core) (line_of c.answer-made.new.core) c.args.event now.drained.items c.answer-made.new.drained.items c.answer-made.result below c.answer-made.ensures.answered in
     let more = numbered-more now.tickets.items c.answer-made.new.tickets.items now.core.next c.answer-made.new.core.next c.requires.sound.numbered c.answer-made.ensures.numbered (omega (arith, c.answer-made.ensures.one, now.tickets.ok.0, c.answer-made.new.tickets.ok.0)) in
-    omega (arith, counts.settled, more, b.given, b.settled, c.requires.room.settled, now.settled.ok.0)
+    omega (arith, counts.0, more, b.given, b.settled, c.requires.room.settled, now.settled.ok.0)
 
 pub note-requires-clause-cleared : goal.note-requires-clause-cleared
 note-requires-clause-cleared g c =
     let now = c.args.self.now in
     let b = replays-bounds now.core.capacity now.entries.items (account_of now) c.requires.sound.replays in
     let below = replays-below now.core.capacity now.entries.items (account_of now) c.requires.sound.replays in
-    let a = c.answer-made.ensures.answered in
-    let counts : Counts (line_of now.core) (told_of (line_of c.answer-made.new.core) a.messages c.answer-made.result) = told-counts (line_of now.core) below now.handles c.args.event (told_of (line_of c.answer-made.new.core) a.messages c.answer-made.result) a.told in
-    omega (arith, counts.left, b.left, c.requires.room.cleared, now.cleared.ok.0)
+    let counts = answered-counts now.handles (line_of now.core) (line_of c.answer-made.new.core) c.args.event now.drained.items c.answer-made.new.drained.items c.answer-made.result below c.answer-made.ensures.answered in
+    omega (arith, counts.2, b.left, c.requires.room.cleared, now.cleared.ok.0)

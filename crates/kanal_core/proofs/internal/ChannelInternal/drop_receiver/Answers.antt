@@ -1,0 +1,8 @@
+use Rattle.kanal_core.specs.declared.internal.outcome.Reason.TheVariants.{ReceiveClosed}
+use Rattle.kanal_core.proofs.Dropping.{ends-all}
+use Rattle.kanal_core.proofs.internal.ChannelInternal.drop_receiver.Goals as goal
+
+pub returns-then-self-eq1-clause-step : goal.returns-then-self-eq1-clause-step
+returns-then-self-eq1-clause-step g c =
+    let now = c.self.inside in
+    rw (← c.self.view_is, c.all.ensures.ended, c.all.ensures.left, c.if-self-eq1.true) (ends-all now.capacity now.senders 0 now.next now.buffer.messages now.waiters c.self.invariant.side c.self.invariant.within ReceiveClosed)

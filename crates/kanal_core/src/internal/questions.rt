@@ -1,0 +1,149 @@
+//! What can be asked of a core without changing it.
+//!
+//! Stands on the core's fields. An answer holds until the next call that changes the core.
+ghost use Rattle.std.specs.Prelude.{◌≡◌, ◌==◌, ◌&&◌};
+ghost use Rattle.kanal_core.specs.Line.{buffered, capacity_word, is_at, is_bounded};
+ghost use Rattle.kanal_core.specs.Channel.{line_of};
+
+use super::ChannelInternal;
+
+impl<T, W> ChannelInternal<T, W> {
+    /// How many messages are in the buffer.
+    ///
+    /// # Examples
+    /// ```text
+    /// core.len()   answers  1   after one message entered a bounded channel for two
+    /// ```
+    pub fn len(&self) -> usize
+        ensures { result ≡ buffered (line_of self.now) }
+    {
+        self.buffer.len()
+    }
+
+    /// Whether no message is in the buffer, whoever waits.
+    ///
+    /// # Examples
+    /// ```text
+    /// core.is_empty()   answers  false   after one message entered
+    /// ```
+    pub fn is_empty(&self) -> bool
+        ensures { result ≡ buffered (line_of self.now) == 0 }
+    {
+        self.len() == 0
+    }
+
+    /// Whether the buffer is at the capacity: always at capacity 0, and never without a limit.
+    ///
+    /// # Examples
+    /// ```text
+    /// core.is_full()   answers  true   after one message entered a bounded channel for one
+    /// ```
+    pub fn is_full(&self) -> bool
+        ensures { result ≡ is_at (buffered (line_of self.now)) self.now.capacity }
+    {
+        match self.capacity {
+            None => false,
+            Some(limit) => self.len() == limit,
+        }
+    }
+
+    /// Whether the channel has a limit.
+    ///
+    /// # Examples
+    /// ```text
+    /// core.is_bounded()   answers  true   for a channel that `new` made
+    /// ```
+    pub fn is_bounded(&self) -> bool
+        ensures { result ≡ is_bounded self.now.capacity }
+    {
+        self.capacity.is_some()
+    }
+
+    /// How many messages the buffer may hold, which is `usize::MAX` without a limit.
+    ///
+    /// # Examples
+    /// ```text
+    /// core.capacity()   answers  2            for a bounded channel for two
+    /// core.capacity()   answers  usize::MAX   for a channel that `unbounded` made
+    /// ```
+    pub fn capacity(&self) -> usize
+        ensures { result ≡ capacity_word self.now.capacity }
+    {
+        match self.capacity {
+            None => usize::MAX,
+            Some(limit) => limit,
+        }
+    }
+
+    /// How many receivers there are.
+    ///
+    /// # Examples
+    /// ```text
+    /// core.receiver_count()   answers  1   for a new channel
+    /// ```
+    pub fn receiver_count(&self) -> u32
+        ensures { result ≡ self.now.receivers }
+    {
+        self.receivers
+    }
+
+    /// How many senders there are.
+    ///
+    /// # Examples
+    /// ```text
+    /// core.sender_count()   answers  1   for a new channel
+    /// ```
+    pub fn sender_count(&self) -> u32
+        ensures { result ≡ self.now.senders }
+    {
+        self.senders
+    }
+
+    /// Whether both sides are gone.
+    ///
+    /// # Examples
+    /// ```text
+    /// core.is_closed()   answers  true   after a close
+    /// ```
+    pub fn is_closed(&self) -> bool
+        ensures { result ≡ (self.now.senders == 0) && (self.now.receivers == 0) }
+    {
+        self.send_side_gone() && self.receive_side_gone()
+    }
+
+    /// Whether no sender is left.
+    ///
+    /// # Examples
+    /// ```text
+    /// core.send_side_gone()   answers  true   after the last sender was dropped
+    /// ```
+    pub fn send_side_gone(&self) -> bool
+        ensures { result ≡ self.now.senders == 0 }
+    {
+        self.sender_count() == 0
+    }
+
+    /// Whether no receiver is left.
+    ///
+    /// # Examples
+    /// ```text
+    /// core.receive_side_gone()   answers  true   after the last receiver was dropped
+    /// ```
+    pub fn receive_side_gone(&self) -> bool
+        ensures { result ≡ self.now.receivers == 0 }
+    {
+        self.receiver_count() == 0
+    }
+
+    /// Whether no sender is left and the buffer is empty, so that no message will come.
+    ///
+    /// # Examples
+    /// ```text
+    /// core.is_terminated()   answers  true   after the last sender was dropped and the buffer taken
+    /// ```
+    pub fn is_terminated(&self) -> bool
+        ensures { result ≡ (self.now.senders == 0) && (buffered (line_of self.now) == 0) }
+    {
+        self.send_side_gone() && self.is_empty()
+    }
+}

@@ -1,0 +1,10 @@
+use Rattle.kanal_journal.specs.Runs.{opening}
+use Rattle.kanal_journal.proofs.Lawful.{full}
+use Rattle.kanal_journal.proofs.Standing.{capacity-along}
+use Rattle.kanal_journal.proofs.laws.buffer_is_bounded.Goals as goal
+
+pub returns-clause-full : goal.returns-clause-full
+returns-clause-full g c a l = full c.args.capacity c.args.events.now a l
+
+pub returns-clause-same : goal.returns-clause-same
+returns-clause-same g c a l = capacity-along (opening c.args.capacity) a c.args.events.now l

@@ -2,7 +2,7 @@
 //!
 //! Stands on the making of one event and on the noting of what it told. Room for all that a step may
 //! add is made before the step. That the journal replays to what is there is a fact which each step
-//! is given and gives back; `RecordedState` alone keeps it, and nothing else uses this module.
+//! is given and gives back; `RecordedState` keeps it, and nothing else has a recorder.
 ghost use Rattle.std.specs.Prelude.{◌≡◌, ◌↔◌, ◌<◌, ◌≤◌, [], ◌∷◌, ◌++◌, IfOk, IsErrOf, Some, vec_len, vec_capacity};
 ghost use Rattle.kanal_journal.specs.Given.{AreNumbered};
 ghost use Rattle.kanal_journal.specs.Replays.{Records, opened, is_no_memory as tells_no_memory};

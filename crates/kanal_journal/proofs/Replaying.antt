@@ -2,6 +2,7 @@
 use Rattle.std.proofs.Common.{◌≡◌, ℕ, ◌+◌, ◌≤◌, true, false, List, [], ◌∷◌, ◌++◌, length, Option, refl, sym, ap, ◌∙◌, subst, inl, inr, arith, length-append, append-nil}
 use Rattle.std.proofs.lemmas.List.{map-append, length-map}
 use Rattle.std.proofs.lemmas.Bool.{false≢true}
+use Rattle.std.specs.Global.{Vec}
 use Rattle.kanal_core.specs.Line.{messages, tickets, under}
 use Rattle.kanal_core.specs.Channel.{Channel, line_of}
 use Rattle.kanal_journal.specs.declared.journal.handles.Handles.{Handles}
@@ -15,10 +16,10 @@ use Rattle.kanal_journal.specs.declared.journal.event.Reply.TheVariants.{Refused
 use Rattle.kanal_journal.specs.declared.journal.recorder.Entry.{Entry}
 use Rattle.kanal_journal.specs.Steps.{Told, message_of, refused}
 use Rattle.kanal_journal.specs.Runs.{Account, Leads, added, made, opening, handles_after}
-use Rattle.kanal_journal.specs.Given.{waiting_count}
+use Rattle.kanal_journal.specs.Given.{AreNumbered, waiting_count}
 use Rattle.kanal_journal.specs.Paired.{Paired, until, rest}
 use Rattle.kanal_journal.specs.Replays.{Recording, Replays, Records, events_of, replies_of, next, played, history_of, no_memory, is_no_memory, longer}
-use Rattle.kanal_journal.specs.Recorders.{IsNoted, IsSame, recording_of}
+use Rattle.kanal_journal.specs.Recorders.{IsNoted, IsSame, IsSound, account_of, recording_of}
 use Rattle.kanal_journal.specs.declared.journal.recorder.Recorder.{Recorder}
 use Rattle.kanal_journal.proofs.Holding.{Holds}
 use Rattle.kanal_journal.proofs.Tickets.{bare-tickets}
@@ -117,7 +118,7 @@ module _ {T : Type 0} where
   refused-same a e = rw (refused-handles a.handles e NoMemory (message_of e), append-nil a.settled, append-nil a.drained, append-nil a.cleared) refl
 
   -- where there was no memory nothing changed
-  pub noted-nothing : (a b : Account T) (e : Event T) (reply : Reply T) → IsNoted a e reply b → is_no_memory reply ≡ true → (reply ≡ no_memory e) × (b ≡ a)
+  noted-nothing : (a b : Account T) (e : Event T) (reply : Reply T) → IsNoted a e reply b → is_no_memory reply ≡ true → (reply ≡ no_memory e) × (b ≡ a)
   noted-nothing a b e reply k w =
       elim k.1 [
         | inl p ↦ absurd (false≢true (sym (made-regular a.line a.handles e).memory ∙ (ap (λ (t : Told T). is_no_memory t.reply) (sym p) ∙ (ap is_no_memory (sym k.2) ∙ w))))
@@ -125,7 +126,7 @@ module _ {T : Type 0} where
       ]
 
   -- otherwise the line's own step was made
-  pub noted-made : (a b : Account T) (e : Event T) (reply : Reply T) → IsNoted a e reply b → is_no_memory reply ≡ false → (reply ≡ (made a.handles a.line e).reply) × (b ≡ record (next a e) { replies = a.replies })
+  noted-made : (a b : Account T) (e : Event T) (reply : Reply T) → IsNoted a e reply b → is_no_memory reply ≡ false → (reply ≡ (made a.handles a.line e).reply) × (b ≡ record (next a e) { replies = a.replies })
   noted-made a b e reply k w =
       elim k.1 [
         | inl p ↦ (k.2 ∙ ap (λ (t : Told T). t.reply) p, k.3 ∙ ap (λ (t : Told T). record (added a e t) { replies = a.replies }) p)
@@ -138,7 +139,7 @@ module _ {T : Type 0} where
   longer-is c c' entries entries' a b party e reply p q r = cc
 
   -- the journal after a step that found memory: one entry more, and it replays
-  pub step-records : (c c' : Option ℕ) (entries entries' : List (Entry T)) (a b : Account T) (party : ℕ) (e : Event T) (reply : Reply T)
+  step-records : (c c' : Option ℕ) (entries entries' : List (Entry T)) (a b : Account T) (party : ℕ) (e : Event T) (reply : Reply T)
       → Replays c entries a → a.line.capacity ≡ c → b.line.capacity ≡ c' → a.replies ≡ replies_of entries → IsNoted a e reply b → is_no_memory reply ≡ false
       → entries' ≡ entries ++ record { party = party; event = e; reply = reply } ∷ []
       → Replays c' entries' (record b { replies = replies_of entries' })
@@ -155,7 +156,7 @@ module _ {T : Type 0} where
       )
 
   -- where only the room is another, the journal is the same
-  pub same-recording : (old new : Recorder T) → IsSame old new → recording_of new ≡ recording_of old
+  same-recording : (old new : Recorder T) → IsSame old new → recording_of new ≡ recording_of old
   same-recording old new same =
       let f : Channel T (Unit {0}) → Handles → List (Entry T) → List (Settlement T) → List T → List T → Recording T = λ k hs es ss ds cs.
       record { capacity = k.capacity; entries = es; account = record { line = line_of k; handles = hs; replies = replies_of es; settled = ss; drained = ds; cleared = cs } } in
@@ -165,3 +166,26 @@ module _ {T : Type 0} where
       ∙ (ap (λ ss. f old.core old.handles old.entries.items ss new.drained.items new.cleared.items) same.settled
       ∙ (ap (λ ds. f old.core old.handles old.entries.items old.settled.items ds new.cleared.items) same.drained
       ∙ ap (λ cs. f old.core old.handles old.entries.items old.settled.items old.drained.items cs) same.cleared))))
+
+  module _ (old start : Recorder T) (sound : IsSound old) (same : IsSame old start) where
+    start-replays : Replays start.core.capacity start.entries.items (account_of start)
+    start-replays = let P : Recording T → Type 0 = λ r. Replays r.capacity r.entries r.account in subst P (sym (same-recording old start same)) sound.replays
+
+    module _ (mid : Recorder T) (party : ℕ) (e : Event T) (reply : Reply T) (noted : IsNoted (account_of start) e reply (account_of mid)) (kept : mid.entries ≡ start.entries) (numbered : AreNumbered 0 mid.tickets.items mid.core.next) where
+      -- a step of the recorder that found memory, and entered its call
+      pub step-made : (entries : Vec (Entry T)) → is_no_memory reply ≡ false → entries.items ≡ mid.entries.items ++ record { party = party; event = e; reply = reply } ∷ []
+          → IsSound (record mid { entries = entries }) × Records (recording_of old) party e reply (recording_of (record mid { entries = entries }))
+      step-made entries said is =
+          let more : entries.items ≡ start.entries.items ++ record { party = party; event = e; reply = reply } ∷ [] = is ∙ ap (λ (v : Vec (Entry T)). v.items ++ record { party = party; event = e; reply = reply } ∷ []) kept in
+          let made = step-records start.core.capacity mid.core.capacity start.entries.items entries.items (account_of start) (account_of mid) party e reply start-replays refl refl refl noted said more in
+          let Q : Recording T → Type 0 = λ r. Records r party e reply (recording_of (record mid { entries = entries })) in
+          (record { replays = made.0; numbered = numbered }, subst Q (same-recording old start same) made.1)
+
+      -- a step of the recorder that found no memory
+      pub step-still : is_no_memory reply ≡ true → IsSound mid × Records (recording_of old) party e reply (recording_of mid)
+      step-still said =
+          let n = noted-nothing (account_of start) (account_of mid) e reply noted said in
+          let f : List (Entry T) → Account T → Recording T = λ es a. record { capacity = a.line.capacity; entries = es; account = a } in
+          let is : recording_of mid ≡ recording_of start = ap (λ (v : Vec (Entry T)). f v.items (account_of mid)) kept ∙ ap (f start.entries.items) n.1 in
+          let P : Recording T → Type 0 = λ r. Replays r.capacity r.entries r.account in
+          (record { replays = subst P (sym is) start-replays; numbered = numbered }, inl (n.0, is ∙ same-recording old start same))

@@ -19,9 +19,13 @@ use std::sync::Wait;
 /// much of the journal the pass had seen before.
 #[derive(Clone, Copy, Drop)]
 pub struct Note<T> {
+    /// What was asked.
     pub event: Event<T>,
+    /// What was answered.
     pub reply: Reply<T>,
+    /// The place of the entry in the journal, from 0.
     pub place: usize,
+    /// How many of the journal's entries the pass had seen before.
     pub seen: usize,
 }
 

@@ -19,8 +19,11 @@ use std::alloc::{AllocError, Global};
 /// One call of a journal: the party that made it, its event, and what it was replied.
 #[derive(Clone, Copy, Drop)]
 pub struct Entry<T> {
+    /// Who made the call.
     pub party: u32,
+    /// What was asked.
     pub event: Event<T>,
+    /// What was answered.
     pub reply: Reply<T>,
 }
 

@@ -1,8 +1,8 @@
 //! Makes calls on a recorded channel through four passes, and then checks its history or leaves it.
 //!
-//! `kanal_finish_bench COUNT finish` makes COUNT calls and prints how many entries the checked journal
-//! has; `leave` prints how many calls were made. `scripts/bench-finish` runs both, to tell what the
-//! check costs.
+//! `kanal_finish_bench COUNT ROUNDS finish` makes COUNT calls in each of the rounds and prints how many
+//! entries the last checked journal has; any other last word leaves the histories unchecked.
+//! `scripts/bench-finish` runs both, to tell what the check costs.
 #![tactic(auto)]
 
 use anyhow::{Result, bail};
@@ -37,26 +37,34 @@ fn talk<R: Wait>(rt: &R, channel: &Recorded<u64>, passes: &mut [Pass<u64>], coun
     }
 }
 
+/// Makes the calls, and checks the history or leaves it; answers how many entries or calls there are.
+fn round<R: Wait>(rt: &R, alloc: Global, count: usize, is_checked: bool) -> Result<usize> {
+    let channel: Recorded<u64> = Recorded::new(alloc, Some(64))?;
+    let mut passes = draw(rt, alloc, &channel)?;
+    talk(rt, &channel, &mut passes, count);
+    if !is_checked {
+        return Ok(count);
+    }
+    match channel.finish(passes) {
+        Ok(journal) => Ok(journal.entries.len()),
+        Err(_) => bail!("the lists don't agree with the journal"),
+    }
+}
+
 fn main(rt: HostRuntime) -> Result<()> {
     let mut args = env::args(&rt)?;
     let _program = args.next();
-    let (Some(count), Some(way)) = (args.next(), args.next()) else {
-        bail!("usage: kanal_finish_bench COUNT finish|leave");
+    let (Some(count), Some(rounds), Some(way)) = (args.next(), args.next(), args.next()) else {
+        bail!("usage: kanal_finish_bench COUNT ROUNDS finish|leave");
     };
-    let Ok(count) = count.parse::<usize>() else {
-        bail!("COUNT is no number");
+    let (Ok(count), Ok(rounds)) = (count.parse::<usize>(), rounds.parse::<usize>()) else {
+        bail!("COUNT or ROUNDS is no number");
     };
-    let channel: Recorded<u64> = Recorded::new(rt.alloc(), Some(64))?;
-    let mut passes = draw(&rt, rt.alloc(), &channel)?;
-    talk(&rt, &channel, &mut passes, count);
-    let entries = match way.as_str() {
-        "finish" => match channel.finish(passes) {
-            Ok(journal) => journal.entries.len(),
-            Err(_) => bail!("the lists don't agree with the journal"),
-        },
-        "leave" => count,
-        _ => bail!("the last word is neither finish nor leave"),
-    };
-    println!(rt; "{entries}")?;
+    let is_checked = way.as_str() == "finish";
+    let mut last = 0;
+    for _ in 0..rounds {
+        last = round(&rt, rt.alloc(), count, is_checked)?;
+    }
+    println!(rt; "{last}")?;
     Ok(())
 }

@@ -24,6 +24,10 @@ module _ {T : Type 0} where
         seen = max old.seen (place + 1);
       }
 
+  -- the party has heard how much of the journal another has seen
+  abbrev pub heard : Calls T → ℕ → Calls T
+  heard old seen = record old { seen = max old.seen seen }
+
   -- the call found no memory and the pass is as it was; or it was noted, at some place of the journal
   abbrev pub Notes : Calls T → Event T → Reply T → Calls T → Type 0
   Notes old event reply new =

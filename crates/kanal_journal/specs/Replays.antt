@@ -1,6 +1,8 @@
 -- A journal of calls, and the account of the line that explains it.
-use Rattle.std.specs.Prelude.{◌≡◌, ℕ, Bool, true, false, List, [], ◌∷◌, ◌++◌, map, Option, ◌⊎◌}
+use Rattle.std.specs.Prelude.{◌≡◌, ℕ, ◌==◌, Bool, true, false, cond, List, [], ◌∷◌, ◌++◌, map, Option, Some, None, ◌⊎◌}
+use Rattle.kanal_core.specs.declared.internal.outcome.Outcome.{Outcome}
 use Rattle.kanal_journal.specs.declared.journal.event.Event.{Event}
+use Rattle.kanal_journal.specs.declared.journal.event.Settlement.{Settlement}
 use Rattle.kanal_journal.specs.declared.journal.event.Refusal.TheVariants.{NoMemory}
 use Rattle.kanal_journal.specs.declared.journal.event.Reply.{Reply}
 use Rattle.kanal_journal.specs.declared.journal.event.Reply.TheVariants.{Refused}
@@ -45,6 +47,11 @@ module _ {T : Type 0} where
   -- the history that a journal tells
   abbrev pub history_of : Recording T → History T
   history_of r = record { events = events_of r.entries; replies = replies_of r.entries; settled = r.account.settled; drained = r.account.drained }
+
+  -- what became of the wait with the ticket, if it was settled
+  abbrev pub outcome_of : ℕ → List (Settlement T) → Option (Outcome T)
+  outcome_of t [] = None
+  outcome_of t (s ∷ ss) = cond (s.ticket == t) (Some s.outcome) (outcome_of t ss)
 
   -- the reply to an event that found no memory: its message comes back
   abbrev pub no_memory : Event T → Reply T

@@ -24,6 +24,7 @@ use std::alloc::{AllocError, Global};
 
 mod calls;
 mod event;
+mod finish;
 mod handles;
 mod notes;
 mod pass;
@@ -32,10 +33,10 @@ mod recorded_state;
 mod recorder;
 
 pub use event::{Ask, Event, Refusal, Reply, Report, Settlement, Side};
-pub use pass::{Note, Pass};
-pub use recorded::Recorded;
+pub use pass::{Note, Pass, Seen};
+pub use recorded::{Mismatch, Recorded};
 pub use recorded_state::RecordedState;
-pub use recorder::Entry;
+pub use recorder::{Entry, Journal};
 
 /// Makes one event, and adds what it tells to the report.
 fn step<T: Drop>(

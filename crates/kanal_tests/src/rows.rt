@@ -101,11 +101,7 @@ const ROWS: [(&str, &str, u8); 27] = [
         "waits 0; done; ticket 0 ended ReceiveClosed 1; refused ReceiveClosed 2; refused NoHandle",
         0,
     ),
-    (
-        "cap 0; ask rx is_full; ask rx is_empty",
-        "true; true",
-        0,
-    ),
+    ("cap 0; ask rx is_full; ask rx is_empty", "true; true", 0),
     (
         "cap unbounded; ask tx is_full; ask tx is_bounded; ask tx capacity",
         "false; false; 18446744073709551615",

@@ -79,7 +79,7 @@ pub enum Reason {
 }
 
 /// What became of a wait.
-#[derive(Clone, Copy, Drop)]
+#[derive(Clone, Copy, Debug, PartialEq, Eq, Drop)]
 pub enum Outcome<T> {
     /// The waiting sender's message was taken.
     Taken,

@@ -39,7 +39,7 @@ pub enum Ask {
 ///
 /// A call is made through a live handle of its side; a withdrawal needs none, and a close one of
 /// either side.
-#[derive(Clone, Copy, Drop)]
+#[derive(Clone, Copy, Debug, PartialEq, Eq, Drop)]
 pub enum Event<T> {
     /// Send this message, and wait if it can't enter at once.
     Send(T),
@@ -126,7 +126,7 @@ pub enum Reply<T> {
 }
 
 /// A wait that was settled at a step: its ticket's number, and what became of it.
-#[derive(Clone, Copy, Drop)]
+#[derive(Clone, Copy, Debug, PartialEq, Eq, Drop)]
 pub struct Settlement<T> {
     pub step: usize,
     pub ticket: u64,

@@ -3,7 +3,7 @@
 //! Stands on the recorded channel. A call gets the lock, makes room in the pass's own list, lends the
 //! state to one step, and notes what that answered; only a pass gets the lock.
 ghost use Rattle.std.specs.Prelude.{◌≡◌};
-ghost use Rattle.kanal_journal.specs.Passes.{Notes, NotesAt, newcomer};
+ghost use Rattle.kanal_journal.specs.Passes.{Notes, NotesAt, heard, newcomer};
 ghost use Rattle.kanal_journal.specs.Replays.{Records};
 
 use super::calls;
@@ -11,13 +11,14 @@ use super::event::{Ask, Event, Refusal, Reply, Side};
 use super::recorded::Recorded;
 use super::recorded_state::RecordedState;
 use super::recorder::is_no_memory;
+use kanal_core::internal::Outcome;
 use std::alloc::Global;
 use std::marker::Model;
 use std::sync::Wait;
 
 /// One call of a pass: what it asked and was replied, the place of its entry in the journal, and how
 /// much of the journal the pass had seen before.
-#[derive(Clone, Copy, Drop)]
+#[derive(Clone, Copy, Debug, PartialEq, Eq, Drop)]
 pub struct Note<T> {
     /// What was asked.
     pub event: Event<T>,
@@ -27,6 +28,12 @@ pub struct Note<T> {
     pub place: usize,
     /// How many of the journal's entries the pass had seen before.
     pub seen: usize,
+}
+
+/// How much of a journal a pass has seen: a length, to be told to other passes.
+#[derive(Clone, Copy, Debug, PartialEq, Eq)]
+pub struct Seen {
+    length: usize,
 }
 
 /// One party's way to a recorded channel: it makes calls, and keeps a list of them.
@@ -293,6 +300,52 @@ impl<T: Copy> Pass<T> {
         ensures { Notes self.old Event.Terminated result self.new }
     {
         self.call(rt, channel, Event::Terminated)
+    }
+
+    /// What became of the wait with this ticket's number so far, by the channel's journal: `None`
+    /// where it waits, was withdrawn or was never given. The pass keeps nothing of this question.
+    ///
+    /// # Examples
+    /// ```text
+    /// pass.outcome(rt, &channel, 0)   answers  Some(Given(7))   once ticket 0 was given 7
+    /// ```
+    pub fn outcome<R: Wait>(
+        &mut self,
+        rt: &R,
+        channel: &Recorded<T>,
+        ticket: u64,
+    ) -> Option<Outcome<T>>
+        ensures { self.new ≡ self.old }
+    {
+        channel.shared.lock(rt).state.outcome(ticket)
+    }
+
+    /// How much of the journal this pass has seen, for another pass to hear. It waits for nobody.
+    ///
+    /// # Examples
+    /// ```text
+    /// let seen = a.tell();
+    /// b.hear(seen);   b's next call now stands behind all that a has seen
+    /// ```
+    pub fn tell(&self) -> Seen
+        ensures { result.length ≡ self.now.seen }
+    {
+        Seen { length: self.seen }
+    }
+
+    /// Takes note of what another pass has seen. It waits for nobody.
+    ///
+    /// What is told of another channel is heard as well; the passes' lists then don't agree with
+    /// either journal.
+    ///
+    /// # Examples
+    /// ```text
+    /// b.hear(a.tell());
+    /// ```
+    pub fn hear(&mut self, seen: Seen)
+        ensures { self.new ≡ heard self.old seen.length }
+    {
+        self.seen = self.seen.max(seen.length);
     }
 
     /// Makes the event on the channel, once its lock is got.

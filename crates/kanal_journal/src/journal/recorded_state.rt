@@ -5,12 +5,13 @@
 ghost use Rattle.std.specs.Prelude.{◌≡◌, ◌↔◌, ℕ, IfOk, IsErrOf, Some, length};
 ghost use Rattle.kanal_core.specs.Line.{messages};
 ghost use Rattle.kanal_journal.specs.Paired.{Paired, until, rest};
-ghost use Rattle.kanal_journal.specs.Replays.{Records, Replays, opened, history_of};
+ghost use Rattle.kanal_journal.specs.Replays.{Records, Replays, opened, outcome_of, history_of};
 ghost use Rattle.kanal_journal.specs.Recorders.{IsSound};
 
 use super::event::{Event, Reply};
-use super::recorder::{Entry, Recorder};
+use super::recorder::{Entry, Journal, Recorder};
 use kanal_core::error::NewError;
+use kanal_core::internal::Outcome;
 use std::alloc::Global;
 use std::marker::Model;
 
@@ -128,5 +129,31 @@ impl<T: Copy> RecordedState<T> {
         ensures { result ≡ length self.now.entries }
     {
         self.entries().len()
+    }
+
+    /// What became of the wait with this ticket's number so far: `None` where it waits, was withdrawn
+    /// or was never given.
+    ///
+    /// # Examples
+    /// ```text
+    /// state.step(0, Event::Recv)         answers  Waits(0)
+    /// state.step(1, Event::TrySend(7))   answers  Yes
+    /// state.outcome(0)                   answers  Some(Given(7))
+    /// ```
+    pub fn outcome(&self, ticket: u64) -> Option<Outcome<T>>
+        ensures { result ≡ outcome_of ticket self.now.account.settled }
+    {
+        self.recorder.outcome(ticket)
+    }
+
+    /// The journal, moved out with all that was told along it.
+    pub(crate) fn into_journal(self) -> Journal<T>
+        ensures journal { (result.capacity ≡ self.capacity) × (result.entries.items ≡ self.entries) }
+        ensures told { (result.settled.items ≡ self.account.settled) × (result.drained.items ≡ self.account.drained) × (result.cleared.items ≡ self.account.cleared) }
+        ensures replays { Replays self.capacity self.entries self.account }
+        ensures paired { (n : ℕ) → Paired (until n (history_of self)) }
+    {
+        let RecordedState { recorder, capacity } = self;
+        recorder.into_journal(capacity)
     }
 }

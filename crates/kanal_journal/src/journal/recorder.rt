@@ -5,7 +5,7 @@
 //! is given and gives back; `RecordedState` keeps it, and nothing else has a recorder.
 ghost use Rattle.std.specs.Prelude.{◌≡◌, ◌↔◌, ◌<◌, ◌≤◌, [], ◌∷◌, ◌++◌, IfOk, IsErrOf, Some, vec_len, vec_capacity};
 ghost use Rattle.kanal_journal.specs.Given.{AreNumbered};
-ghost use Rattle.kanal_journal.specs.Replays.{Records, opened, is_no_memory as tells_no_memory};
+ghost use Rattle.kanal_journal.specs.Replays.{Records, opened, outcome_of, is_no_memory as tells_no_memory};
 ghost use Rattle.kanal_journal.specs.Recorders.{IsSound, IsSame, HasRoom, IsNoted, account_of, recording_of};
 
 use super::calls::Core;
@@ -13,11 +13,11 @@ use super::event::{Event, Refusal, Reply, Settlement};
 use super::handles::Handles;
 use super::{calls, notes};
 use kanal_core::error::NewError;
-use kanal_core::internal::Ticket;
+use kanal_core::internal::{Outcome, Ticket};
 use std::alloc::{AllocError, Global};
 
 /// One call of a journal: the party that made it, its event, and what it was replied.
-#[derive(Clone, Copy, Drop)]
+#[derive(Clone, Copy, Debug, PartialEq, Eq, Drop)]
 pub struct Entry<T> {
     /// Who made the call.
     pub party: u32,
@@ -25,6 +25,21 @@ pub struct Entry<T> {
     pub event: Event<T>,
     /// What was answered.
     pub reply: Reply<T>,
+}
+
+/// A journal at its end, with all that was told along it.
+#[derive(Drop)]
+pub struct Journal<T> {
+    /// The capacity of the channel, `None` being no limit.
+    pub capacity: Option<usize>,
+    /// The calls, in the order in which they were made.
+    pub entries: Vec<Entry<T>>,
+    /// Every wait that was settled, in order; a step's number is the place of its entry.
+    pub settled: Vec<Settlement<T>>,
+    /// The messages of all drains, in order.
+    pub drained: Vec<T>,
+    /// The messages that a close cleared, in order.
+    pub cleared: Vec<T>,
 }
 
 /// Whether the reply says that there was no memory.
@@ -91,6 +106,31 @@ impl<T: Copy> Recorder<T> {
         ensures { result.now ≡ self.now.entries.items }
     {
         self.entries.as_slice()
+    }
+
+    /// What became of the wait with this ticket, if it was settled.
+    pub(crate) fn outcome(&self, ticket: u64) -> Option<Outcome<T>>
+        ensures { result ≡ outcome_of ticket self.now.settled.items }
+    {
+        for settlement in self.settled.as_slice() {
+            if settlement.ticket == ticket {
+                return Some(settlement.outcome);
+            }
+        }
+        None
+    }
+
+    /// The journal, with all that was told along it, moved out.
+    pub(crate) fn into_journal(self, capacity: Option<usize>) -> Journal<T>
+        ensures { (result.capacity ≡ capacity) × (result.entries ≡ self.entries) × (result.settled ≡ self.settled) × (result.drained ≡ self.drained) × (result.cleared ≡ self.cleared) }
+    {
+        Journal {
+            capacity,
+            entries: self.entries,
+            settled: self.settled,
+            drained: self.drained,
+            cleared: self.cleared,
+        }
     }
 
     /// Makes room in each list for one item more than there are entries, which is all that a step

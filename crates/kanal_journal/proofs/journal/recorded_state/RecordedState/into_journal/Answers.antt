@@ -1,0 +1,6 @@
+use Rattle.std.proofs.Common.{rules}
+use Rattle.kanal_journal.proofs.Replaying.{replays-paired}
+use Rattle.kanal_journal.proofs.journal.recorded_state.RecordedState.into_journal.Goals as goal
+
+pub returns-clause-paired : goal.returns-clause-paired
+returns-clause-paired g c = replays-paired c.args.self (search rules)

@@ -69,7 +69,10 @@ fn the_last_sender_while_senders_wait(rt: HostRuntime) -> Result<(), Fail> {
     assert!(rt; matches!(core.offer(1), Offer::Entered));
     assert!(rt; send(&mut core, 2, 7).is_some());
     let mut ended = core.drop_sender();
-    assert_eq!(rt; next_end(&mut ended), Some((7, Reason::SendClosed, Some(2))));
+    assert_eq!(rt;
+        next_end(&mut ended),
+        Some((7, Reason::SendClosed, Some(2)))
+    );
     assert!(rt; ended.next().is_none());
     assert!(rt; !core.is_terminated());
     assert!(rt; matches!(core.take(), Take::Got(1, None)));
@@ -83,7 +86,10 @@ fn the_last_receiver(rt: HostRuntime) -> Result<(), Fail> {
     assert!(rt; matches!(core.offer(1), Offer::Entered));
     assert!(rt; send(&mut core, 2, 7).is_some());
     let mut ended = core.drop_receiver();
-    assert_eq!(rt; next_end(&mut ended), Some((7, Reason::ReceiveClosed, Some(2))));
+    assert_eq!(rt;
+        next_end(&mut ended),
+        Some((7, Reason::ReceiveClosed, Some(2)))
+    );
     assert!(rt; ended.next().is_none());
     assert_eq!(rt; core.len(), 1);
     assert!(rt; core.receive_side_gone());

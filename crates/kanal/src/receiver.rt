@@ -8,6 +8,9 @@ use kanal_core::error::{CloseError, ReceiveError, TooMany};
 use std::fmt;
 use std::sync::Wait;
 
+#[cfg(test)]
+mod held;
+
 /// Receives messages of a channel. It may be shared by threads and moved to them.
 ///
 /// The channel's receive side is gone when the last receiver was dropped. A drop waits for nobody.

@@ -2,7 +2,7 @@
 //!
 //! Stands on nothing. No other module writes the text of an error.
 ghost use Rattle.std.specs.Prelude.{Some};
-ghost use Rattle.kanal_core.specs.Texts.{close_error_text, new_error_text, no_memory_text, too_many_text};
+ghost use Rattle.kanal_core.specs.Texts.{close_error_text, new_error_text, no_memory_text, receive_error_text, receive_error_timeout_text, send_error_text, send_error_timeout_text, too_many_text};
 
 use std::error::Error;
 use std::fmt;
@@ -88,3 +88,133 @@ pub enum DrainError {
     /// The vector had too little room for the whole line, and there was no memory for more.
     NoMemory,
 }
+
+/// A message could not be sent.
+#[derive(Clone, Copy, Debug, PartialEq, Eq)]
+pub enum SendError {
+    /// Both sides are gone.
+    Closed,
+    /// No receiver is left.
+    ReceiveClosed,
+    /// A growth was refused: of a buffer without limit, or for a wait.
+    NoMemory,
+    /// The channel's tickets are used up.
+    TooMany,
+    /// A future that had ended was polled again.
+    Finished,
+}
+
+impl fmt::Display for SendError {
+    ghost output = { λ e. Some (send_error_text e) };
+
+    fn fmt<W: fmt::Write>(&self, f: &mut fmt::Formatter<W>) -> fmt::Result {
+        match self {
+            SendError::Closed => write!(f, "send to a closed channel"),
+            SendError::ReceiveClosed => write!(f, "send to a half closed channel"),
+            SendError::NoMemory => write!(f, "no memory"),
+            SendError::TooMany => write!(f, "too many"),
+            SendError::Finished => write!(f, "already finished"),
+        }
+    }
+}
+
+impl Error for SendError {}
+
+/// A message could not be sent by a deadline.
+#[derive(Clone, Copy, Debug, PartialEq, Eq)]
+pub enum SendErrorTimeout {
+    /// Both sides are gone.
+    Closed,
+    /// No receiver is left.
+    ReceiveClosed,
+    /// The deadline passed.
+    Timeout,
+    /// A growth was refused: of a buffer without limit, or for a wait.
+    NoMemory,
+    /// The channel's tickets are used up.
+    TooMany,
+    /// The deadline is past the largest moment.
+    DeadlineOutOfRange,
+}
+
+impl fmt::Display for SendErrorTimeout {
+    ghost output = { λ e. Some (send_error_timeout_text e) };
+
+    fn fmt<W: fmt::Write>(&self, f: &mut fmt::Formatter<W>) -> fmt::Result {
+        match self {
+            SendErrorTimeout::Closed => write!(f, "send to a closed channel"),
+            SendErrorTimeout::ReceiveClosed => write!(f, "send to a half closed channel"),
+            SendErrorTimeout::Timeout => write!(f, "send timeout"),
+            SendErrorTimeout::NoMemory => write!(f, "no memory"),
+            SendErrorTimeout::TooMany => write!(f, "too many"),
+            SendErrorTimeout::DeadlineOutOfRange => write!(f, "deadline out of range"),
+        }
+    }
+}
+
+impl Error for SendErrorTimeout {}
+
+/// A message could not be received.
+#[derive(Clone, Copy, Debug, PartialEq, Eq)]
+pub enum ReceiveError {
+    /// No receiver is left.
+    Closed,
+    /// Nothing is there, and no sender is left.
+    SendClosed,
+    /// A growth was refused, for a wait.
+    NoMemory,
+    /// The channel's tickets are used up.
+    TooMany,
+    /// A future that had ended was polled again.
+    Finished,
+}
+
+impl fmt::Display for ReceiveError {
+    ghost output = { λ e. Some (receive_error_text e) };
+
+    fn fmt<W: fmt::Write>(&self, f: &mut fmt::Formatter<W>) -> fmt::Result {
+        match self {
+            ReceiveError::Closed => write!(f, "receive from a closed channel"),
+            ReceiveError::SendClosed => write!(f, "receive from a half closed channel"),
+            ReceiveError::NoMemory => write!(f, "no memory"),
+            ReceiveError::TooMany => write!(f, "too many"),
+            ReceiveError::Finished => write!(f, "already finished"),
+        }
+    }
+}
+
+impl Error for ReceiveError {}
+
+/// A message could not be received by a deadline.
+#[derive(Clone, Copy, Debug, PartialEq, Eq)]
+pub enum ReceiveErrorTimeout {
+    /// No receiver is left.
+    Closed,
+    /// Nothing is there, and no sender is left.
+    SendClosed,
+    /// The deadline passed.
+    Timeout,
+    /// A growth was refused, for a wait.
+    NoMemory,
+    /// The channel's tickets are used up.
+    TooMany,
+    /// The deadline is past the largest moment.
+    DeadlineOutOfRange,
+}
+
+impl fmt::Display for ReceiveErrorTimeout {
+    ghost output = { λ e. Some (receive_error_timeout_text e) };
+
+    fn fmt<W: fmt::Write>(&self, f: &mut fmt::Formatter<W>) -> fmt::Result {
+        match self {
+            ReceiveErrorTimeout::Closed => write!(f, "receive from a closed channel"),
+            ReceiveErrorTimeout::SendClosed => write!(f, "receive from a half closed channel"),
+            ReceiveErrorTimeout::Timeout => write!(f, "receive timeout"),
+            ReceiveErrorTimeout::NoMemory => write!(f, "no memory"),
+            ReceiveErrorTimeout::TooMany => write!(f, "too many"),
+            ReceiveErrorTimeout::DeadlineOutOfRange => write!(f, "deadline out of range"),
+        }
+    }
+}
+
+impl Error for ReceiveErrorTimeout {}

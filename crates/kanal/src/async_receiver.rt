@@ -1,0 +1,132 @@
+//! The receiving handle that holds the channel, with the bodies of all that a receiver does.
+//!
+//! Stands on the lock and the steps. It alone has a receiver's drop; the other handles of a receiver
+//! are made over it.
+ghost use Rattle.std.specs.Prelude.{◌≡◌, ◌++◌, List, length, Some, IfOk, IfErr, codes};
+
+use crate::async_sender::wait;
+use crate::seat::{settle_all, settle_one};
+use crate::shared::Shared;
+use crate::steps;
+use crate::steps::{Received, Tried};
+use kanal_core::error::{ReceiveError, TooMany};
+use kanal_core::internal::{Outcome, Reason};
+use std::alloc::Global;
+use std::fmt;
+use std::sync::{Arc, Wait};
+
+/// A receiver of a channel.
+pub struct AsyncReceiver<T> {
+    shared: Arc<Shared<T>>,
+    alloc: Global,
+}
+
+impl<T: Drop> Drop for AsyncReceiver<T> {
+    fn drop(self) {
+        let AsyncReceiver { shared, alloc: _ } = self;
+        shared.drop_receiver();
+    }
+}
+
+/// What the end of a receiver's wait answers.
+fn answer_of<T: Drop>(outcome: Outcome<T>) -> Result<T, ReceiveError> {
+    match outcome {
+        Outcome::Given(message) => Ok(message),
+        Outcome::Ended(Reason::SendClosed, _message) => Err(ReceiveError::SendClosed),
+        Outcome::Ended(_reason, _message) => Err(ReceiveError::Closed),
+        Outcome::Taken => Err(ReceiveError::Closed),
+    }
+}
+
+impl<T: Drop> AsyncReceiver<T> {
+    /// The first receiver of the channel.
+    pub(crate) fn new(shared: Arc<Shared<T>>, alloc: Global) -> Self {
+        AsyncReceiver { shared, alloc }
+    }
+
+    /// What all handles share.
+    pub(crate) fn shared(&self) -> &Shared<T> {
+        &self.shared
+    }
+
+    /// One more receiver.
+    pub(crate) fn clone<R: Wait>(&self, rt: &R) -> Result<Self, TooMany> {
+        let Ok(shared) = Arc::try_clone(&self.shared) else {
+            return Err(TooMany);
+        };
+        self.shared.add_receiver(rt)?;
+        let alloc = self.alloc;
+        Ok(AsyncReceiver { shared, alloc })
+    }
+
+    /// Takes the front message, if there is one.
+    pub(crate) fn try_recv<R: Wait>(&self, rt: &R) -> Result<Option<T>, ReceiveError> {
+        let (mut guard, noticed) = self.shared.lock(rt);
+        let Tried { answer, settled } = steps::try_recv(&mut guard);
+        self.shared.release(guard, noticed);
+        settle_one(settled);
+        answer
+    }
+
+    /// Takes the front message, if there is one and the lock is free.
+    pub(crate) fn try_recv_realtime(&self) -> Result<Option<T>, ReceiveError> {
+        let Some((mut guard, noticed)) = self.shared.try_lock() else {
+            return Ok(None);
+        };
+        let Tried { answer, settled } = steps::try_recv(&mut guard);
+        self.shared.release(guard, noticed);
+        settle_one(settled);
+        answer
+    }
+
+    /// Moves the whole line to the vector's end.
+    pub(crate) fn drain_into<R: Wait>(
+        &self,
+        rt: &R,
+        into: &mut Vec<T>,
+    ) -> Result<usize, ReceiveError>
+        ensures drained { IfOk result (λ n. (more : List T) × (into.new.items ≡ into.old.items ++ more) × (length more ≡ n)) }
+        ensures refused { IfErr result (λ _. into.new.items ≡ into.old.items) }
+    {
+        let (mut guard, noticed) = self.shared.lock(rt);
+        let drained = steps::drain(&mut guard, into);
+        self.shared.release(guard, noticed);
+        let (count, ended) = drained?;
+        settle_all(ended);
+        Ok(count)
+    }
+
+    /// Receives a message, and waits where there is none.
+    pub(crate) fn recv_blocking<R: Wait>(&self, rt: &R) -> Result<T, ReceiveError> {
+        match self.try_recv(rt)? {
+            Some(message) => Ok(message),
+            None => self.recv_waiting(rt),
+        }
+    }
+
+    /// Receives a message with what a wait needs in hand.
+    fn recv_waiting<R: Wait>(&self, rt: &R) -> Result<T, ReceiveError> {
+        let Some((waiting, seat)) = wait(self.alloc) else {
+            return Err(ReceiveError::NoMemory);
+        };
+        let (mut guard, noticed) = self.shared.lock(rt);
+        let received = steps::recv(&mut guard, seat);
+        self.shared.release(guard, noticed);
+        match received {
+            Received::Got(message, settled, _seat) => {
+                settle_one(settled);
+                Ok(message)
+            },
+            Received::Waits(_ticket) => answer_of(waiting.outcome(rt)),
+            Received::Refused(error, _seat) => Err(error),
+        }
+    }
+}
+
+impl<T: Drop> fmt::Debug for AsyncReceiver<T> {
+    ghost debug_output = { λ _. Some (codes "AsyncReceiver { .. }") };
+
+    fn fmt<W: fmt::Write>(&self, f: &mut fmt::Formatter<W>) -> fmt::Result {
+        f.write_str("AsyncReceiver { .. }")
+    }
+}

@@ -1,0 +1,140 @@
+//! The sending handle that holds the channel, with the bodies of all that a sender does.
+//!
+//! Stands on the lock and the steps. It alone has a sender's drop; the other handles of a sender are
+//! made over it.
+ghost use Rattle.std.specs.Prelude.{◌≡◌, ◌≢◌, IsSome, Some, None, Ok, true, codes};
+
+use crate::backoff::Waiting;
+use crate::seat::{Seat, settle_one};
+use crate::shared::Shared;
+use crate::steps;
+use crate::steps::{Sent, Tried};
+use kanal_core::error::{SendError, TooMany};
+use kanal_core::internal::{Outcome, Reason};
+use kanal_core::signal;
+use std::alloc::Global;
+use std::fmt;
+use std::sync::{Arc, Wait};
+
+/// A sender of a channel.
+pub struct AsyncSender<T> {
+    shared: Arc<Shared<T>>,
+    alloc: Global,
+}
+
+impl<T: Drop> Drop for AsyncSender<T> {
+    fn drop(self) {
+        let AsyncSender { shared, alloc: _ } = self;
+        shared.drop_sender();
+    }
+}
+
+/// What the end of a sender's wait answers.
+fn answer_of<T: Drop>(outcome: Outcome<T>) -> Result<(), SendError> {
+    match outcome {
+        Outcome::Taken => Ok(()),
+        Outcome::Ended(Reason::ReceiveClosed, _message) => Err(SendError::ReceiveClosed),
+        Outcome::Ended(_reason, _message) => Err(SendError::Closed),
+        Outcome::Given(_message) => Err(SendError::Closed),
+    }
+}
+
+/// What a wait needs: the blocked call's half, and the seat for the core.
+pub(crate) fn wait<T: Drop>(alloc: Global) -> Option<(Waiting<Outcome<T>>, Seat<T>)> {
+    let (end, settler) = signal::new(alloc).ok()?;
+    let waiting = Waiting::new(alloc, end).ok()?;
+    let seat = Seat::new(alloc, settler)?;
+    Some((waiting, seat))
+}
+
+impl<T: Drop> AsyncSender<T> {
+    /// The first sender of the channel.
+    pub(crate) fn new(shared: Arc<Shared<T>>, alloc: Global) -> Self {
+        AsyncSender { shared, alloc }
+    }
+
+    /// What all handles share.
+    pub(crate) fn shared(&self) -> &Shared<T> {
+        &self.shared
+    }
+
+    /// One more sender.
+    pub(crate) fn clone<R: Wait>(&self, rt: &R) -> Result<Self, TooMany> {
+        let Ok(shared) = Arc::try_clone(&self.shared) else {
+            return Err(TooMany);
+        };
+        self.shared.add_sender(rt)?;
+        let alloc = self.alloc;
+        Ok(AsyncSender { shared, alloc })
+    }
+
+    /// Offers the option's message once.
+    pub(crate) fn try_send_option<R: Wait>(
+        &self,
+        rt: &R,
+        option: &mut Option<T>,
+    ) -> Result<bool, SendError>
+        requires { IsSome option.old }
+        ensures sent { result ≡ Ok true → option.new ≡ None }
+        ensures kept { result ≢ Ok true → option.new ≡ option.old }
+    {
+        let (mut guard, noticed) = self.shared.lock(rt);
+        let Tried { answer, settled } = steps::try_send(&mut guard, option);
+        self.shared.release(guard, noticed);
+        settle_one(settled);
+        answer
+    }
+
+    /// Offers the option's message once, where the lock is free.
+    pub(crate) fn try_send_option_realtime(&self, option: &mut Option<T>) -> Result<bool, SendError>
+        requires { IsSome option.old }
+        ensures sent { result ≡ Ok true → option.new ≡ None }
+        ensures kept { result ≢ Ok true → option.new ≡ option.old }
+    {
+        let Some((mut guard, noticed)) = self.shared.try_lock() else {
+            return Ok(false);
+        };
+        let Tried { answer, settled } = steps::try_send(&mut guard, option);
+        self.shared.release(guard, noticed);
+        settle_one(settled);
+        answer
+    }
+
+    /// Sends the message, and waits where there is no place for it.
+    pub(crate) fn send_blocking<R: Wait>(&self, rt: &R, message: T) -> Result<(), SendError> {
+        let mut option = Some(message);
+        if self.try_send_option(rt, &mut option)? {
+            return Ok(());
+        }
+        match option {
+            Some(message) => self.send_waiting(rt, message),
+            None => unreachable!(),
+        }
+    }
+
+    /// Sends the message with what a wait needs in hand.
+    fn send_waiting<R: Wait>(&self, rt: &R, message: T) -> Result<(), SendError> {
+        let Some((waiting, seat)) = wait(self.alloc) else {
+            return Err(SendError::NoMemory);
+        };
+        let (mut guard, noticed) = self.shared.lock(rt);
+        let sent = steps::send(&mut guard, message, seat);
+        self.shared.release(guard, noticed);
+        match sent {
+            Sent::Entered(settled, _seat) => {
+                settle_one(settled);
+                Ok(())
+            },
+            Sent::Waits(_ticket) => answer_of(waiting.outcome(rt)),
+            Sent::Refused(error, _message, _seat) => Err(error),
+        }
+    }
+}
+
+impl<T: Drop> fmt::Debug for AsyncSender<T> {
+    ghost debug_output = { λ _. Some (codes "AsyncSender { .. }") };
+
+    fn fmt<W: fmt::Write>(&self, f: &mut fmt::Formatter<W>) -> fmt::Result {
+        f.write_str("AsyncSender { .. }")
+    }
+}

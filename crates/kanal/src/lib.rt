@@ -1,0 +1,24 @@
+//! kanal: one channel for many producers and many consumers.
+//!
+//! A channel has a buffer of chosen size, of none, or without limit. Handles of its two sides are
+//! cloned, moved to threads and shared by them; a blocked call sleeps until its wait is settled.
+//!
+//! Stands on `kanal_core`, whose errors, cells and core it hands on. Data flows one way: a handle
+//! takes the lock, lends the core to one step, releases the lock, and only then settles or drops
+//! what left the core.
+#![tactic(auto)]
+
+pub use kanal_core::{error, internal, signal};
+
+mod async_receiver;
+mod async_sender;
+mod backoff;
+mod questions;
+mod receiver;
+mod seat;
+mod sender;
+mod shared;
+mod steps;
+
+pub use receiver::{Messages, Receiver};
+pub use sender::{Sender, bounded, unbounded};

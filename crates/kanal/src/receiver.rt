@@ -1,0 +1,261 @@
+//! The receiver of a channel for threads, and the messages that it goes through.
+//!
+//! Stands on the receiving handle that holds the channel; nothing is done here but handing on.
+ghost use Rattle.std.specs.Prelude.{◌≡◌, ◌++◌, List, length, Some, IfOk, IfErr, codes};
+
+use crate::async_receiver::AsyncReceiver;
+use kanal_core::error::{CloseError, ReceiveError, TooMany};
+use std::fmt;
+use std::sync::Wait;
+
+#[cfg(test)]
+mod held;
+
+/// Receives messages of a channel. It may be shared by threads and moved to them.
+///
+/// The channel's receive side is gone when the last receiver was dropped. A drop waits for nobody.
+#[derive(Drop)]
+pub struct Receiver<T> {
+    inner: AsyncReceiver<T>,
+}
+
+impl<T: Drop> Receiver<T> {
+    /// A receiver for threads.
+    pub(crate) fn new(inner: AsyncReceiver<T>) -> Self {
+        Receiver { inner }
+    }
+
+    /// Receives the front message. Where there is none it waits until a message is sent, or the
+    /// channel ends; and it waits for the lock.
+    ///
+    /// # Errors
+    /// `Closed` where the channel was closed or no receiver is left, `SendClosed` where there is no
+    /// message and no sender is left, `NoMemory` where memory for a wait was refused, and `TooMany`
+    /// where the tickets are used up.
+    ///
+    /// # Examples
+    /// ```text
+    /// receiver.recv(&rt)   answers  Ok(7)                            where 7 was sent
+    /// receiver.recv(&rt)   answers  Err(ReceiveError::SendClosed)    after the last sender's drop
+    /// ```
+    pub fn recv<R: Wait>(&self, rt: &R) -> Result<T, ReceiveError> {
+        self.inner.recv_blocking(rt)
+    }
+
+    /// Receives the front message, if there is one. `Ok(None)` says that there is none. It waits for
+    /// the lock.
+    ///
+    /// # Errors
+    /// `Closed` and `SendClosed` as `recv`.
+    ///
+    /// # Examples
+    /// ```text
+    /// receiver.try_recv(&rt)   answers  Ok(None)   in a new channel
+    /// ```
+    pub fn try_recv<R: Wait>(&self, rt: &R) -> Result<Option<T>, ReceiveError> {
+        self.inner.try_recv(rt)
+    }
+
+    /// Receives the front message, if there is one and the lock is free: it waits for nobody.
+    /// `Ok(None)` says that there is none or the lock was held.
+    ///
+    /// # Errors
+    /// As `try_recv`.
+    ///
+    /// # Examples
+    /// ```text
+    /// receiver.try_recv_realtime()   answers  Ok(Some(1))   where 1 was sent
+    /// ```
+    pub fn try_recv_realtime(&self) -> Result<Option<T>, ReceiveError> {
+        self.inner.try_recv_realtime()
+    }
+
+    /// Moves all messages to the vector's end, those of waiting senders too, and answers how many
+    /// they were. What the vector had stays its beginning. It waits for the lock.
+    ///
+    /// # Errors
+    /// `Closed` where no receiver is left, and `NoMemory` where the vector had too little room and
+    /// there was no memory for more. The vector holds what it held then.
+    ///
+    /// # Examples
+    /// ```text
+    /// receiver.drain_into(&rt, &mut messages)   answers  Ok(2)   where two messages were there
+    /// ```
+    pub fn drain_into<R: Wait>(&self, rt: &R, into: &mut Vec<T>) -> Result<usize, ReceiveError>
+        ensures drained { IfOk result (λ n. (more : List T) × (into.new.items ≡ into.old.items ++ more) × (length more ≡ n)) }
+        ensures refused { IfErr result (λ _. into.new.items ≡ into.old.items) }
+    {
+        self.inner.drain_into(rt, into)
+    }
+
+    /// The messages, one `recv` after the other, until one is refused. It keeps the runtime value.
+    ///
+    /// To contracts it has no end, so it is used with a limit.
+    ///
+    /// # Examples
+    /// ```text
+    /// for message in receiver.iter(&rt).take(3) {
+    ///     sum += message;
+    /// }
+    /// ```
+    pub fn iter<'a, R: Wait>(&'a mut self, rt: &'a R) -> Messages<'a, T, R> {
+        Messages { rt, receiver: self }
+    }
+
+    /// One more receiver of the channel. Where no receiver is left it stays so, and the answer is
+    /// still a receiver. It waits for the lock.
+    ///
+    /// # Errors
+    /// `TooMany` where there are `u32::MAX` receivers, or as many handles as may be.
+    ///
+    /// # Examples
+    /// ```text
+    /// let other = receiver.clone(&rt)?;
+    /// receiver.receiver_count(&rt)   answers  2   where it answered 1 before
+    /// ```
+    pub fn clone<R: Wait>(&self, rt: &R) -> Result<Self, TooMany> {
+        let inner = self.inner.clone(rt)?;
+        Ok(Receiver { inner })
+    }
+
+    /// Whether no sender is left. It waits for the lock.
+    ///
+    /// # Examples
+    /// ```text
+    /// receiver.is_disconnected(&rt)   answers  true   after the last sender was dropped
+    /// ```
+    pub fn is_disconnected<R: Wait>(&self, rt: &R) -> bool {
+        self.inner.shared().sender_count(rt) == 0
+    }
+
+    /// Whether no sender is left and the buffer is empty, so that no message will come. It waits for
+    /// the lock.
+    ///
+    /// # Examples
+    /// ```text
+    /// receiver.is_terminated(&rt)   answers  false   while a message is in the buffer
+    /// ```
+    pub fn is_terminated<R: Wait>(&self, rt: &R) -> bool {
+        self.inner.shared().is_terminated(rt)
+    }
+
+    /// How many messages are in the buffer. It waits for the lock.
+    ///
+    /// # Examples
+    /// ```text
+    /// receiver.len(&rt)   answers  1   after one message entered a bounded channel for two
+    /// ```
+    pub fn len<R: Wait>(&self, rt: &R) -> usize {
+        self.inner.shared().len(rt)
+    }
+
+    /// Whether no message is in the buffer, whoever waits. It waits for the lock.
+    ///
+    /// # Examples
+    /// ```text
+    /// receiver.is_empty(&rt)   answers  false   after one message entered
+    /// ```
+    pub fn is_empty<R: Wait>(&self, rt: &R) -> bool {
+        self.inner.shared().is_empty(rt)
+    }
+
+    /// Whether the buffer is at the capacity: always at capacity 0, and never without a limit. It waits for the lock.
+    ///
+    /// # Examples
+    /// ```text
+    /// receiver.is_full(&rt)   answers  true   after one message entered a bounded channel for one
+    /// ```
+    pub fn is_full<R: Wait>(&self, rt: &R) -> bool {
+        self.inner.shared().is_full(rt)
+    }
+
+    /// Whether the channel has a limit. It waits for the lock.
+    ///
+    /// # Examples
+    /// ```text
+    /// receiver.is_bounded(&rt)   answers  true   for a channel that `bounded` made
+    /// ```
+    pub fn is_bounded<R: Wait>(&self, rt: &R) -> bool {
+        self.inner.shared().is_bounded(rt)
+    }
+
+    /// How many messages the buffer may hold, which is `usize::MAX` without a limit. It waits for the lock.
+    ///
+    /// # Examples
+    /// ```text
+    /// receiver.capacity(&rt)   answers  2   for a bounded channel for two
+    /// ```
+    pub fn capacity<R: Wait>(&self, rt: &R) -> usize {
+        self.inner.shared().capacity(rt)
+    }
+
+    /// How many receivers there are. It waits for the lock.
+    ///
+    /// # Examples
+    /// ```text
+    /// receiver.receiver_count(&rt)   answers  1   for a new channel
+    /// ```
+    pub fn receiver_count<R: Wait>(&self, rt: &R) -> u32 {
+        self.inner.shared().receiver_count(rt)
+    }
+
+    /// How many senders there are. It waits for the lock.
+    ///
+    /// # Examples
+    /// ```text
+    /// receiver.sender_count(&rt)   answers  1   for a new channel
+    /// ```
+    pub fn sender_count<R: Wait>(&self, rt: &R) -> u32 {
+        self.inner.shared().sender_count(rt)
+    }
+
+    /// Whether both sides are gone. It waits for the lock.
+    ///
+    /// # Examples
+    /// ```text
+    /// receiver.is_closed(&rt)   answers  true   after a close
+    /// ```
+    pub fn is_closed<R: Wait>(&self, rt: &R) -> bool {
+        self.inner.shared().is_closed(rt)
+    }
+
+    /// Closes the channel for both sides: all waits end with `Closed`, and the buffer's messages are
+    /// dropped after the lock was released. It waits for the lock.
+    ///
+    /// # Errors
+    /// `CloseError` where both sides were gone already.
+    ///
+    /// # Examples
+    /// ```text
+    /// receiver.close(&rt)   answers  Ok(())
+    /// receiver.close(&rt)   answers  Err(CloseError())   after that
+    /// ```
+    pub fn close<R: Wait>(&self, rt: &R) -> Result<(), CloseError> {
+        self.inner.shared().close(rt)
+    }
+}
+
+impl<T: Drop> fmt::Debug for Receiver<T> {
+    ghost debug_output = { λ _. Some (codes "Receiver { .. }") };
+
+    fn fmt<W: fmt::Write>(&self, f: &mut fmt::Formatter<W>) -> fmt::Result {
+        f.write_str("Receiver { .. }")
+    }
+}
+
+/// The messages of a receiver, as `Receiver::iter` answers them.
+#[derive(Drop)]
+pub struct Messages<'a, T, R: Wait> {
+    rt: &'a R,
+    receiver: &'a mut Receiver<T>,
+}
+
+impl<T: Drop, R: Wait> Iterator for Messages<'_, T, R> {
+    type Item = T;
+
+    /// Receives the next message; `None` where that is refused. It waits for the lock, and for a
+    /// message where there is none.
+    fn next(&mut self) -> Option<T> {
+        self.receiver.recv(self.rt).ok()
+    }
+}

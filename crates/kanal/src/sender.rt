@@ -1,0 +1,304 @@
+//! The sender of a channel for threads, and how a channel is made.
+//!
+//! Stands on the sending handle that holds the channel; nothing is done here but handing on. Where a
+//! call is refused its message is dropped, but for the calls that are lent an option.
+ghost use Rattle.std.specs.Prelude.{◌≡◌, ◌≢◌, ◌↔◌, IsSome, IsErrOf, Some, None, Ok, true, codes};
+
+use crate::async_receiver::AsyncReceiver;
+use crate::async_sender::AsyncSender;
+use crate::receiver::Receiver;
+use crate::seat::Core;
+use crate::shared::Shared;
+use kanal_core::error::{CloseError, NewError, SendError, TooMany};
+use kanal_core::internal::ChannelInternal;
+use std::alloc::Global;
+use std::fmt;
+use std::sync::{Arc, Wait};
+
+/// The two first handles over this core.
+fn handles<T: Drop>(alloc: Global, core: Core<T>) -> Result<(Sender<T>, Receiver<T>), NewError>
+    ensures { IsErrOf result NewError.TooLarge → ⊥ }
+{
+    let Ok(shared) = Arc::new(alloc, Shared::new(core)) else {
+        return Err(NewError::NoMemory);
+    };
+    let Ok(other) = Arc::try_clone(&shared) else {
+        return Err(NewError::NoMemory);
+    };
+    let sender = Sender {
+        inner: AsyncSender::new(shared, alloc),
+    };
+    let receiver = Receiver::new(AsyncReceiver::new(other, alloc));
+    Ok((sender, receiver))
+}
+
+/// Makes a channel whose buffer holds so many messages; at 0 each send waits for its receive.
+///
+/// All memory of the buffer is asked for here. It waits for nobody.
+///
+/// # Errors
+/// `TooLarge` exactly for `usize::MAX`, and `NoMemory` where there is no memory for the channel.
+///
+/// # Examples
+/// ```text
+/// let (sender, receiver) = kanal::bounded::<u64>(rt.alloc(), 1)?;
+/// sender.send(&rt, 7)   answers  Ok(())
+/// receiver.recv(&rt)    answers  Ok(7)
+/// ```
+pub fn bounded<T: Drop>(alloc: Global, size: usize) -> Result<(Sender<T>, Receiver<T>), NewError>
+    ensures large { IsErrOf result NewError.TooLarge ↔ (size ≡ 18446744073709551615) }
+{
+    handles(alloc, ChannelInternal::new(alloc, size)?)
+}
+
+/// Makes a channel without limit, whose buffer grows as messages are sent. It waits for nobody.
+///
+/// # Errors
+/// `NoMemory` where there is no memory for the channel.
+///
+/// # Examples
+/// ```text
+/// let (sender, receiver) = kanal::unbounded::<u64>(rt.alloc())?;
+/// sender.send(&rt, 7)   answers  Ok(())
+/// receiver.recv(&rt)    answers  Ok(7)
+/// ```
+pub fn unbounded<T: Drop>(alloc: Global) -> Result<(Sender<T>, Receiver<T>), NewError>
+    ensures large { IsErrOf result NewError.TooLarge → ⊥ }
+{
+    handles(alloc, ChannelInternal::unbounded(alloc))
+}
+
+/// Sends messages to a channel. It may be shared by threads and moved to them.
+///
+/// The channel's send side is gone when the last sender was dropped. A drop waits for nobody.
+#[derive(Drop)]
+pub struct Sender<T> {
+    inner: AsyncSender<T>,
+}
+
+impl<T: Drop> Sender<T> {
+    /// Sends the message. Where the buffer is full it waits until a receiver takes the message, or
+    /// the channel ends; and it waits for the lock.
+    ///
+    /// # Errors
+    /// `Closed` where the channel was closed, `ReceiveClosed` where the last receiver was dropped,
+    /// `NoMemory` where memory was refused, and `TooMany` where the tickets are used up. The message
+    /// is dropped then.
+    ///
+    /// # Examples
+    /// ```text
+    /// sender.send(&rt, 7)   answers  Ok(())                      in a channel with a place
+    /// sender.send(&rt, 7)   answers  Err(SendError::Closed)      after a close
+    /// ```
+    pub fn send<R: Wait>(&self, rt: &R, message: T) -> Result<(), SendError> {
+        self.inner.send_blocking(rt, message)
+    }
+
+    /// Sends the message where there is a place for it. `Ok(false)` says that there is none, and the
+    /// message was dropped. It waits for the lock.
+    ///
+    /// # Errors
+    /// As `send`, but for `TooMany`. The message is dropped then.
+    ///
+    /// # Examples
+    /// ```text
+    /// sender.try_send(&rt, 1)   answers  Ok(true)    in a new bounded channel for one
+    /// sender.try_send(&rt, 2)   answers  Ok(false)   after that
+    /// ```
+    pub fn try_send<R: Wait>(&self, rt: &R, message: T) -> Result<bool, SendError> {
+        let mut option = Some(message);
+        self.inner.try_send_option(rt, &mut option)
+    }
+
+    /// Sends the option's message where there is a place for it, and empties the option exactly
+    /// then. It waits for the lock.
+    ///
+    /// The caller knows that the option holds a message.
+    ///
+    /// # Errors
+    /// As `try_send`. The option holds the same message then.
+    ///
+    /// # Examples
+    /// ```text
+    /// let mut option = Some(1);
+    /// sender.try_send_option(&rt, &mut option)   answers  Ok(false)   at capacity 0
+    /// option                                     is       Some(1)
+    /// ```
+    pub fn try_send_option<R: Wait>(
+        &self,
+        rt: &R,
+        option: &mut Option<T>,
+    ) -> Result<bool, SendError>
+        requires { IsSome option.old }
+        ensures sent { result ≡ Ok true → option.new ≡ None }
+        ensures kept { result ≢ Ok true → option.new ≡ option.old }
+    {
+        self.inner.try_send_option(rt, option)
+    }
+
+    /// Sends the message where there is a place for it and the lock is free: it waits for nobody.
+    /// `Ok(false)` says that there is no place or the lock was held, and the message was dropped.
+    ///
+    /// # Errors
+    /// As `try_send`. The message is dropped then.
+    ///
+    /// # Examples
+    /// ```text
+    /// sender.try_send_realtime(1)   answers  Ok(true)   in a new bounded channel for one
+    /// ```
+    pub fn try_send_realtime(&self, message: T) -> Result<bool, SendError> {
+        let mut option = Some(message);
+        self.inner.try_send_option_realtime(&mut option)
+    }
+
+    /// Sends the option's message where there is a place for it and the lock is free, and empties
+    /// the option exactly then: it waits for nobody.
+    ///
+    /// The caller knows that the option holds a message.
+    ///
+    /// # Errors
+    /// As `try_send`. The option holds the same message then.
+    ///
+    /// # Examples
+    /// ```text
+    /// let mut option = Some(1);
+    /// sender.try_send_option_realtime(&mut option)   answers  Ok(true)   in a new bounded channel
+    /// option                                         is       None
+    /// ```
+    pub fn try_send_option_realtime(&self, option: &mut Option<T>) -> Result<bool, SendError>
+        requires { IsSome option.old }
+        ensures sent { result ≡ Ok true → option.new ≡ None }
+        ensures kept { result ≢ Ok true → option.new ≡ option.old }
+    {
+        self.inner.try_send_option_realtime(option)
+    }
+
+    /// One more sender of the channel. Where no sender is left it stays so, and the answer is still
+    /// a sender. It waits for the lock.
+    ///
+    /// # Errors
+    /// `TooMany` where there are `u32::MAX` senders, or as many handles as may be.
+    ///
+    /// # Examples
+    /// ```text
+    /// let other = sender.clone(&rt)?;
+    /// sender.sender_count(&rt)   answers  2   where it answered 1 before
+    /// ```
+    pub fn clone<R: Wait>(&self, rt: &R) -> Result<Self, TooMany> {
+        let inner = self.inner.clone(rt)?;
+        Ok(Sender { inner })
+    }
+
+    /// Whether no receiver is left. It waits for the lock.
+    ///
+    /// # Examples
+    /// ```text
+    /// sender.is_disconnected(&rt)   answers  true   after the last receiver was dropped
+    /// ```
+    pub fn is_disconnected<R: Wait>(&self, rt: &R) -> bool {
+        self.inner.shared().receiver_count(rt) == 0
+    }
+
+    /// How many messages are in the buffer. It waits for the lock.
+    ///
+    /// # Examples
+    /// ```text
+    /// sender.len(&rt)   answers  1   after one message entered a bounded channel for two
+    /// ```
+    pub fn len<R: Wait>(&self, rt: &R) -> usize {
+        self.inner.shared().len(rt)
+    }
+
+    /// Whether no message is in the buffer, whoever waits. It waits for the lock.
+    ///
+    /// # Examples
+    /// ```text
+    /// sender.is_empty(&rt)   answers  false   after one message entered
+    /// ```
+    pub fn is_empty<R: Wait>(&self, rt: &R) -> bool {
+        self.inner.shared().is_empty(rt)
+    }
+
+    /// Whether the buffer is at the capacity: always at capacity 0, and never without a limit. It waits for the lock.
+    ///
+    /// # Examples
+    /// ```text
+    /// sender.is_full(&rt)   answers  true   after one message entered a bounded channel for one
+    /// ```
+    pub fn is_full<R: Wait>(&self, rt: &R) -> bool {
+        self.inner.shared().is_full(rt)
+    }
+
+    /// Whether the channel has a limit. It waits for the lock.
+    ///
+    /// # Examples
+    /// ```text
+    /// sender.is_bounded(&rt)   answers  true   for a channel that `bounded` made
+    /// ```
+    pub fn is_bounded<R: Wait>(&self, rt: &R) -> bool {
+        self.inner.shared().is_bounded(rt)
+    }
+
+    /// How many messages the buffer may hold, which is `usize::MAX` without a limit. It waits for the lock.
+    ///
+    /// # Examples
+    /// ```text
+    /// sender.capacity(&rt)   answers  2   for a bounded channel for two
+    /// ```
+    pub fn capacity<R: Wait>(&self, rt: &R) -> usize {
+        self.inner.shared().capacity(rt)
+    }
+
+    /// How many receivers there are. It waits for the lock.
+    ///
+    /// # Examples
+    /// ```text
+    /// sender.receiver_count(&rt)   answers  1   for a new channel
+    /// ```
+    pub fn receiver_count<R: Wait>(&self, rt: &R) -> u32 {
+        self.inner.shared().receiver_count(rt)
+    }
+
+    /// How many senders there are. It waits for the lock.
+    ///
+    /// # Examples
+    /// ```text
+    /// sender.sender_count(&rt)   answers  1   for a new channel
+    /// ```
+    pub fn sender_count<R: Wait>(&self, rt: &R) -> u32 {
+        self.inner.shared().sender_count(rt)
+    }
+
+    /// Whether both sides are gone. It waits for the lock.
+    ///
+    /// # Examples
+    /// ```text
+    /// sender.is_closed(&rt)   answers  true   after a close
+    /// ```
+    pub fn is_closed<R: Wait>(&self, rt: &R) -> bool {
+        self.inner.shared().is_closed(rt)
+    }
+
+    /// Closes the channel for both sides: all waits end with `Closed`, and the buffer's messages are
+    /// dropped after the lock was released. It waits for the lock.
+    ///
+    /// # Errors
+    /// `CloseError` where both sides were gone already.
+    ///
+    /// # Examples
+    /// ```text
+    /// sender.close(&rt)   answers  Ok(())
+    /// sender.close(&rt)   answers  Err(CloseError())   after that
+    /// ```
+    pub fn close<R: Wait>(&self, rt: &R) -> Result<(), CloseError> {
+        self.inner.shared().close(rt)
+    }
+}
+
+impl<T: Drop> fmt::Debug for Sender<T> {
+    ghost debug_output = { λ _. Some (codes "Sender { .. }") };
+
+    fn fmt<W: fmt::Write>(&self, f: &mut fmt::Formatter<W>) -> fmt::Result {
+        f.write_str("Sender { .. }")
+    }
+}

@@ -1,0 +1,207 @@
+//! The steps of the handles, each a function that is lent the core.
+//!
+//! Stands on the core's contracts. A step says in the line's terms what it did, and hands out all
+//! that left the core; nothing is settled or let go here, since the lock is held. No other module
+//! changes a core but by the core's own calls.
+ghost use Rattle.std.specs.Prelude.{◌≡◌, ◌≢◌, ◌↔◌, ◌++◌, [], IsSome, Some, None, Ok, true, cond, map, length, IfOk, IfErr, IsErrOf, MatchOption};
+ghost use Rattle.kanal_core.specs.Line.{messages};
+ghost use Rattle.kanal_core.specs.Moves.{drain, drop_receiver, drop_sender};
+ghost use Rattle.kanal_core.specs.Channel.{line_of, settlement, settlements, taken_by};
+ghost use Rattle.kanal_core.specs.Waiters.{sender_first};
+ghost use Rattle.kanal_core.specs.Calls.{IsFull, IsEmpty, MovesTo, OldestLeft};
+ghost use Rattle.kanal.specs.Steps.{TriesToSend, TriesToReceive, Sends, SendSeats, Receives, ReceiveSeats, all_of, times};
+
+use crate::seat::{Core, Room, Seat, keep};
+use kanal_core::error::{DrainError, ReceiveError, SendError, WaitError};
+use kanal_core::internal::{Ended, Offer, Settled, Take, Ticket};
+
+/// What a call that doesn't wait answers, and the wait that its step settled.
+#[derive(Drop)]
+pub(crate) struct Tried<T, A> {
+    pub(crate) answer: A,
+    pub(crate) settled: Option<Settled<T, Seat<T>>>,
+}
+
+/// What a send came to.
+#[derive(Drop)]
+pub(crate) enum Sent<T> {
+    /// The message is in the line or with the receiver of this wait; the seat comes back.
+    Entered(Option<Settled<T, Seat<T>>>, Seat<T>),
+    /// The message waits.
+    Waits(Ticket),
+    /// It was refused; message and seat come back.
+    Refused(SendError, T, Seat<T>),
+}
+
+/// What a receive came to.
+#[derive(Drop)]
+pub(crate) enum Received<T> {
+    /// The front message, and the wait of a sender that was settled; the seat comes back.
+    Got(T, Option<Settled<T, Seat<T>>>, Seat<T>),
+    /// The receiver waits.
+    Waits(Ticket),
+    /// It was refused; the seat comes back.
+    Refused(ReceiveError, Seat<T>),
+}
+
+/// Offers the option's message. The option is empty after it exactly if the message entered.
+pub(crate) fn try_send<T: Drop>(
+    core: &mut Core<T>,
+    option: &mut Option<T>,
+) -> Tried<T, Result<bool, SendError>>
+    requires { IsSome option.old }
+    ensures step { MatchOption option.old ⊥ (λ m. TriesToSend (line_of core.old) m result.answer (settlements result.settled) (line_of core.new)) }
+    ensures waiter { OldestLeft core.old.waiters result.settled core.new.waiters }
+    ensures sent { result.answer ≡ Ok true → option.new ≡ None }
+    ensures kept { result.answer ≢ Ok true → option.new ≡ option.old }
+{
+    let Some(message) = option.take() else {
+        unreachable!()
+    };
+    let (answer, settled, back) = match core.offer(message) {
+        Offer::Entered => (Ok(true), None, None),
+        Offer::Handed(settled) => (Ok(true), Some(settled), None),
+        Offer::Full(back) => (Ok(false), None, Some(back)),
+        Offer::Closed(back) => (Err(SendError::Closed), None, Some(back)),
+        Offer::ReceiveClosed(back) => (Err(SendError::ReceiveClosed), None, Some(back)),
+        Offer::NoMemory(back) => (Err(SendError::NoMemory), None, Some(back)),
+    };
+    *option = back;
+    Tried { answer, settled }
+}
+
+/// Takes the front message, if there is one.
+pub(crate) fn try_recv<T: Drop>(core: &mut Core<T>) -> Tried<T, Result<Option<T>, ReceiveError>>
+    ensures step { TriesToReceive (line_of core.old) result.answer (settlements result.settled) (line_of core.new) }
+    ensures waiter { OldestLeft core.old.waiters result.settled core.new.waiters }
+{
+    let (answer, settled) = match core.take() {
+        Take::Got(message, settled) => (Ok(Some(message)), settled),
+        Take::Empty => (Ok(None), None),
+        Take::Closed => (Err(ReceiveError::Closed), None),
+        Take::SendClosed => (Err(ReceiveError::SendClosed), None),
+    };
+    Tried { answer, settled }
+}
+
+/// Starts the wait of a send that found no place.
+fn wait_send<T: Drop>(core: &mut Core<T>, message: T, seat: Seat<T>) -> Sent<T>
+    requires { IsFull (line_of core.old) }
+    ensures step { Sends (line_of core.old) message result (line_of core.new) }
+    ensures seats { SendSeats core.old.waiters message seat result core.new.waiters }
+{
+    match core.wait_send(message, seat) {
+        Ok(ticket) => Sent::Waits(ticket),
+        Err((WaitError::NoMemory, back, seat)) => Sent::Refused(SendError::NoMemory, back, seat),
+        Err((WaitError::TooMany, back, seat)) => Sent::Refused(SendError::TooMany, back, seat),
+    }
+}
+
+/// Offers the message, and starts its wait where there is no place for it.
+pub(crate) fn send<T: Drop>(core: &mut Core<T>, message: T, seat: Seat<T>) -> Sent<T>
+    ensures step { Sends (line_of core.old) message result (line_of core.new) }
+    ensures seats { SendSeats core.old.waiters message seat result core.new.waiters }
+{
+    match core.offer(message) {
+        Offer::Entered => Sent::Entered(None, seat),
+        Offer::Handed(settled) => Sent::Entered(Some(settled), seat),
+        Offer::Full(back) => wait_send(core, back, seat),
+        Offer::Closed(back) => Sent::Refused(SendError::Closed, back, seat),
+        Offer::ReceiveClosed(back) => Sent::Refused(SendError::ReceiveClosed, back, seat),
+        Offer::NoMemory(back) => Sent::Refused(SendError::NoMemory, back, seat),
+    }
+}
+
+/// Starts the wait of a receive that found no message.
+fn wait_recv<T: Drop>(core: &mut Core<T>, seat: Seat<T>) -> Received<T>
+    requires { IsEmpty (line_of core.old) }
+    ensures step { Receives (line_of core.old) result (line_of core.new) }
+    ensures seats { ReceiveSeats core.old.waiters seat result core.new.waiters }
+{
+    match core.wait_recv(seat) {
+        Ok(ticket) => Received::Waits(ticket),
+        Err((WaitError::NoMemory, seat)) => Received::Refused(ReceiveError::NoMemory, seat),
+        Err((WaitError::TooMany, seat)) => Received::Refused(ReceiveError::TooMany, seat),
+    }
+}
+
+/// Takes the front message, and starts a wait where there is none.
+pub(crate) fn recv<T: Drop>(core: &mut Core<T>, seat: Seat<T>) -> Received<T>
+    ensures step { Receives (line_of core.old) result (line_of core.new) }
+    ensures seats { ReceiveSeats core.old.waiters seat result core.new.waiters }
+{
+    match core.take() {
+        Take::Got(message, settled) => Received::Got(message, settled, seat),
+        Take::Empty => wait_recv(core, seat),
+        Take::Closed => Received::Refused(ReceiveError::Closed, seat),
+        Take::SendClosed => Received::Refused(ReceiveError::SendClosed, seat),
+    }
+}
+
+/// Moves the whole line to the vector's end, and hands out the sends whose messages it took.
+pub(crate) fn drain<T: Drop>(
+    core: &mut Core<T>,
+    into: &mut Vec<T>,
+) -> Result<(usize, Ended<T, Seat<T>>), ReceiveError>
+    ensures step { IfOk result (λ d. MovesTo (drain (line_of core.old)) (map settlement d.1) (line_of core.new)) }
+    ensures moved { IfOk result (λ _. into.new.items ≡ into.old.items ++ messages (line_of core.old).line) }
+    ensures count { IfOk result (λ d. d.0 ≡ length (line_of core.old).line) }
+    ensures taken { IfOk result (λ d. d.1 ≡ cond (sender_first core.old.waiters) (map taken_by core.old.waiters) []) }
+    ensures receiver { IsErrOf result ReceiveError.Closed ↔ (core.old.receivers ≡ 0) }
+    ensures refused { IfErr result (λ _. (core.new ≡ core.old) × (into.new.items ≡ into.old.items)) }
+{
+    match core.drain_into(into) {
+        Ok(drained) => Ok(drained),
+        Err(DrainError::Closed) => Err(ReceiveError::Closed),
+        Err(DrainError::NoMemory) => Err(ReceiveError::NoMemory),
+    }
+}
+
+/// Makes so many drops of senders, and hands out the waits that the last one ended.
+pub(crate) fn drop_senders<T: Drop>(core: &mut Core<T>, count: u64) -> Option<Ended<T, Seat<T>>>
+    ensures step { MovesTo (times drop_sender count (line_of core.old)) (map settlement (all_of result)) (line_of core.new) }
+{
+    let mut left = count;
+    while left > 0 {
+        left -= 1;
+        let is_last = core.sender_count() == 1;
+        let ended = core.drop_sender();
+        if is_last {
+            return Some(ended);
+        }
+    }
+    None
+}
+
+/// Makes so many drops of receivers, and hands out the waits that the last one ended.
+pub(crate) fn drop_receivers<T: Drop>(core: &mut Core<T>, count: u64) -> Option<Ended<T, Seat<T>>>
+    ensures step { MovesTo (times drop_receiver count (line_of core.old)) (map settlement (all_of result)) (line_of core.new) }
+{
+    let mut left = count;
+    while left > 0 {
+        left -= 1;
+        let is_last = core.receiver_count() == 1;
+        let ended = core.drop_receiver();
+        if is_last {
+            return Some(ended);
+        }
+    }
+    None
+}
+
+/// Withdraws all waits that were left, and hands out their entries, each in its own room.
+pub(crate) fn withdraw_left<T: Drop>(core: &mut Core<T>) -> Option<Box<Room<T>>>
+    ensures ticket { core.new.next ≡ core.old.next }
+{
+    let mut gone = None;
+    for _ in 0..u64::MAX {
+        let Some(ticket) = core.first_waiter(|seat| seat.is_left()) else {
+            return gone;
+        };
+        let Some(waiter) = core.withdraw(ticket) else {
+            return gone;
+        };
+        gone = Some(keep(waiter, gone));
+    }
+    gone
+}

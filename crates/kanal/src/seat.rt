@@ -13,32 +13,11 @@ use std::alloc::Global;
 /// The core of a channel whose waiters bring seats.
 pub type Core<T> = ChannelInternal<T, Seat<T>>;
 
-/// A settling end that has not settled.
-#[derive(Drop)]
-pub struct Unspent<P> {
-    end: SettleEnd<P>,
-    ghost unspent: { HasNotSettled (settle_view end) },
-}
-
-impl<P: Drop> Unspent<P> {
-    /// Whether the waiter has left.
-    fn is_left(&self) -> bool {
-        self.end.is_left()
-    }
-
-    /// Hands the outcome over; what comes back, since the waiter has left, is let go.
-    fn settle(self, outcome: P) {
-        let Unspent { mut end } = self;
-        let back = end.settle(outcome);
-        drop(back);
-    }
-}
-
 /// What is kept of an entry that left by notice.
 #[derive(Drop)]
 pub struct Gone<T> {
     message: Option<T>,
-    settler: Unspent<Outcome<T>>,
+    end: SettleEnd<Outcome<T>>,
 }
 
 /// A chain of rooms for entries that left by notice.
@@ -51,8 +30,9 @@ pub struct Room<T> {
 /// A waiter's end of its cell, and the room for its entry.
 #[derive(Drop)]
 pub struct Seat<T> {
-    settler: Unspent<Outcome<T>>,
+    end: SettleEnd<Outcome<T>>,
     room: Box<Room<T>>,
+    ghost unspent: { HasNotSettled (settle_view end) },
 }
 
 impl<T: Drop> Seat<T> {
@@ -65,19 +45,19 @@ impl<T: Drop> Seat<T> {
             next: None,
         };
         let room = Box::new(alloc, empty).ok()?;
-        let settler = Unspent { end };
-        Some(Seat { settler, room })
+        Some(Seat { end, room })
     }
 
     /// Whether the waiter has left.
     pub(crate) fn is_left(&self) -> bool {
-        self.settler.is_left()
+        self.end.is_left()
     }
 
-    /// Hands the outcome over.
+    /// Hands the outcome over; what comes back, since the waiter has left, is let go.
     fn settle(self, outcome: Outcome<T>) {
-        let Seat { settler, room } = self;
-        settler.settle(outcome);
+        let Seat { mut end, room } = self;
+        let back = end.settle(outcome);
+        drop(back);
         drop(room);
     }
 }
@@ -92,8 +72,8 @@ pub(crate) fn keep<T: Drop>(
         message,
         w,
     } = waiter;
-    let Seat { settler, mut room } = w;
-    room.gone = Some(Gone { message, settler });
+    let Seat { end, mut room } = w;
+    room.gone = Some(Gone { message, end });
     room.next = next;
     room
 }

@@ -11,7 +11,7 @@ use std::sync::Wait;
 #[cfg(test)]
 mod held;
 
-/// Receives messages of a channel. It may be shared by threads and moved to them.
+/// Receives messages of a channel.
 ///
 /// The channel's receive side is gone when the last receiver was dropped. A drop waits for nobody.
 #[derive(Drop)]

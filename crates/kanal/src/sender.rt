@@ -68,7 +68,7 @@ pub fn unbounded<T: Drop>(alloc: Global) -> Result<(Sender<T>, Receiver<T>), New
     handles(alloc, ChannelInternal::unbounded(alloc))
 }
 
-/// Sends messages to a channel. It may be shared by threads and moved to them.
+/// Sends messages to a channel.
 ///
 /// The channel's send side is gone when the last sender was dropped. A drop waits for nobody.
 #[derive(Drop)]

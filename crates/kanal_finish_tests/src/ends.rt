@@ -46,7 +46,10 @@ fn three_calls(rt: HostRuntime) -> Result<(), Fail> {
     assert_eq!(rt; a.ask(&rt, &channel, Side::Tx, Ask::Len), Reply::Number(1));
     assert_eq!(rt; b.try_recv(&rt, &channel), Reply::Got(7));
     let journal = finish(rt.alloc(), channel, a, b)?;
-    assert_eq!(rt; parties(rt.alloc(), &journal)?.as_slice(), [0, 0, 1].as_slice());
+    assert_eq!(rt;
+        parties(rt.alloc(), &journal)?.as_slice(),
+        [0, 0, 1].as_slice()
+    );
     Ok(())
 }
 
@@ -58,7 +61,10 @@ fn told_calls_come_later(rt: HostRuntime) -> Result<(), Fail> {
     b.hear(a.tell());
     assert_eq!(rt; b.try_recv(&rt, &channel), Reply::Got(7));
     let journal = finish(rt.alloc(), channel, a, b)?;
-    assert_eq!(rt; parties(rt.alloc(), &journal)?.as_slice(), [1, 0, 1].as_slice());
+    assert_eq!(rt;
+        parties(rt.alloc(), &journal)?.as_slice(),
+        [1, 0, 1].as_slice()
+    );
     Ok(())
 }
 

@@ -72,7 +72,10 @@ fn main(rt: HostRuntime) -> Result<()> {
         return Err(anyhow!("the lists don't agree with the journal"));
     };
     for entry in &journal.entries {
-        println!(rt; "party {}: {:?} -> {:?}", entry.party, entry.event, entry.reply)?;
+        println!(rt;
+            "party {}: {:?} -> {:?}",
+            entry.party, entry.event, entry.reply
+        )?;
     }
     Ok(())
 }

@@ -21,7 +21,10 @@ fn an_option_is_kept_where_there_is_no_place(rt: HostRuntime) -> Result<(), Fail
     assert_eq!(rt; sender.try_send_option(&rt, &mut option), Ok(false));
     assert_eq!(rt; option, Some(1));
     assert_eq!(rt; receiver.close(&rt), Ok(()));
-    assert_eq!(rt; sender.try_send_option(&rt, &mut option), Err(SendError::Closed));
+    assert_eq!(rt;
+        sender.try_send_option(&rt, &mut option),
+        Err(SendError::Closed)
+    );
     assert_eq!(rt; option, Some(1));
     Ok(())
 }

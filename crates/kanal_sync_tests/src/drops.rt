@@ -58,7 +58,10 @@ fn a_send_to_no_receiver_drops_the_message(rt: HostRuntime) -> Result<(), Fail> 
         let message = Counted {
             drops: Arc::try_clone(&drops)?,
         };
-        assert_eq!(rt; sender.try_send(&rt, message), Err(SendError::ReceiveClosed));
+        assert_eq!(rt;
+            sender.try_send(&rt, message),
+            Err(SendError::ReceiveClosed)
+        );
     }
     assert_eq!(rt; drops.load(SeqCst), 10);
     Ok(())

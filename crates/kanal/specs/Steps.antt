@@ -1,5 +1,6 @@
 -- What each step of a handle does to the line, and who leaves or joins those that wait.
-use Rattle.std.specs.Prelude.{◌≡◌, ◌≢◌, ◌⊎◌, ℕ, zero, suc, Bool, true, false, List, [], ◌∷◌, ◌++◌, Option, Some, None, Result, Ok, Err}
+use Rattle.std.specs.Prelude.{◌≡◌, ◌≢◌, ◌⊎◌, ℕ, zero, suc, Bool, true, false, List, [], ◌∷◌, ◌++◌, Option, Some, None, Result, Ok, Err, Box}
+use Rattle.std.specs.declared.alloc.Global.{Global}
 use Rattle.kanal_core.specs.declared.internal.outcome.Outcome.{Outcome}
 use Rattle.kanal_core.specs.declared.internal.outcome.Waiter.{Waiter}
 use Rattle.kanal_core.specs.declared.error.SendError.{SendError}
@@ -15,6 +16,10 @@ use Rattle.kanal.specs.declared.steps.Sent.TheVariants.{Entered, Waits as SendWa
 use Rattle.kanal.specs.declared.steps.Received.{Received}
 use Rattle.kanal.specs.declared.steps.Received.TheVariants.{Got, Waits as ReceiveWaits, Refused as ReceiveRefused}
 use Rattle.kanal.specs.declared.seat.Seat.{Seat}
+
+-- a seat in memory of its own
+abbrev pub Boxed : Type 0 → Type 0
+Boxed T = Box (Seat T) Global
 
 -- a buffer without limit may have found no memory to grow
 abbrev pub MayNotGrow : {T : Type 0} → Line T → Type 0
@@ -86,7 +91,7 @@ module _ {T : Type 0} where
   Sends old m (SendRefused reason back seat) new = RefusesSend old reason × (back ≡ m) × (new ≡ old)
 
   -- who left or joined those that wait by a send, whose seat came back where it doesn't wait
-  abbrev pub SendSeats : List (Waiter T (Seat T)) → T → Seat T → Sent T → List (Waiter T (Seat T)) → Type 0
+  abbrev pub SendSeats : List (Waiter T (Boxed T)) → T → Boxed T → Sent T → List (Waiter T (Boxed T)) → Type 0
   SendSeats old m seat (Entered settled back) new = OldestLeft old settled new × (back ≡ seat)
   SendSeats old m seat (SendWaits ticket) new = new ≡ old ++ record { ticket = ticket; message = Some m; w = seat } ∷ []
   SendSeats old m seat (SendRefused reason message back) new = (new ≡ old) × (back ≡ seat)
@@ -98,7 +103,7 @@ module _ {T : Type 0} where
   Receives old (ReceiveRefused reason seat) new = RefusesReceive old reason × (new ≡ old)
 
   -- who left or joined those that wait by a receive, whose seat came back where it doesn't wait
-  abbrev pub ReceiveSeats : List (Waiter T (Seat T)) → Seat T → Received T → List (Waiter T (Seat T)) → Type 0
+  abbrev pub ReceiveSeats : List (Waiter T (Boxed T)) → Boxed T → Received T → List (Waiter T (Boxed T)) → Type 0
   ReceiveSeats old seat (Got m settled back) new = OldestLeft old settled new × (back ≡ seat)
   ReceiveSeats old seat (ReceiveWaits ticket) new = new ≡ old ++ record { ticket = ticket; message = None; w = seat } ∷ []
   ReceiveSeats old seat (ReceiveRefused reason back) new = (new ≡ old) × (back ≡ seat)

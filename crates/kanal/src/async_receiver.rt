@@ -5,7 +5,6 @@
 ghost use Rattle.std.specs.Prelude.{◌≡◌, ◌++◌, List, length, Some, IfOk, IfErr, codes};
 
 use crate::async_sender::wait;
-use crate::seat::{settle_all, settle_one};
 use crate::shared::Shared;
 use crate::steps;
 use crate::steps::{Received, Tried};
@@ -61,21 +60,19 @@ impl<T: Drop> AsyncReceiver<T> {
 
     /// Takes the front message, if there is one.
     pub(crate) fn try_recv<R: Wait>(&self, rt: &R) -> Result<Option<T>, ReceiveError> {
-        let (mut guard, noticed) = self.shared.lock(rt);
+        let (mut guard, leaving) = self.shared.lock(rt);
         let Tried { answer, settled } = steps::try_recv(&mut guard);
-        self.shared.release(guard, noticed);
-        settle_one(settled);
+        self.shared.release(guard, leaving.with(settled));
         answer
     }
 
     /// Takes the front message, if there is one and the lock is free.
     pub(crate) fn try_recv_realtime(&self) -> Result<Option<T>, ReceiveError> {
-        let Some((mut guard, noticed)) = self.shared.try_lock() else {
+        let Some((mut guard, leaving)) = self.shared.try_lock() else {
             return Ok(None);
         };
         let Tried { answer, settled } = steps::try_recv(&mut guard);
-        self.shared.release(guard, noticed);
-        settle_one(settled);
+        self.shared.release(guard, leaving.with(settled));
         answer
     }
 
@@ -88,12 +85,17 @@ impl<T: Drop> AsyncReceiver<T> {
         ensures drained { IfOk result (λ n. (more : List T) × (into.new.items ≡ into.old.items ++ more) × (length more ≡ n)) }
         ensures refused { IfErr result (λ _. into.new.items ≡ into.old.items) }
     {
-        let (mut guard, noticed) = self.shared.lock(rt);
-        let drained = steps::drain(&mut guard, into);
-        self.shared.release(guard, noticed);
-        let (count, ended) = drained?;
-        settle_all(ended);
-        Ok(count)
+        let (mut guard, leaving) = self.shared.lock(rt);
+        match steps::drain(&mut guard, into) {
+            Ok((count, ended)) => {
+                self.shared.release(guard, leaving.with_all(ended));
+                Ok(count)
+            },
+            Err(error) => {
+                self.shared.release(guard, leaving);
+                Err(error)
+            },
+        }
     }
 
     /// Receives a message, and waits where there is none.
@@ -109,16 +111,20 @@ impl<T: Drop> AsyncReceiver<T> {
         let Some((waiting, seat)) = wait(self.alloc) else {
             return Err(ReceiveError::NoMemory);
         };
-        let (mut guard, noticed) = self.shared.lock(rt);
-        let received = steps::recv(&mut guard, seat);
-        self.shared.release(guard, noticed);
-        match received {
+        let (mut guard, leaving) = self.shared.lock(rt);
+        match steps::recv(&mut guard, seat) {
             Received::Got(message, settled, _seat) => {
-                settle_one(settled);
+                self.shared.release(guard, leaving.with(settled));
                 Ok(message)
             },
-            Received::Waits(_ticket) => answer_of(waiting.outcome(rt)),
-            Received::Refused(error, _seat) => Err(error),
+            Received::Waits(_ticket) => {
+                self.shared.release(guard, leaving);
+                answer_of(waiting.outcome(rt))
+            },
+            Received::Refused(error, _seat) => {
+                self.shared.release(guard, leaving);
+                Err(error)
+            },
         }
     }
 }

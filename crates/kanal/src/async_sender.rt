@@ -5,7 +5,7 @@
 ghost use Rattle.std.specs.Prelude.{◌≡◌, ◌≢◌, IsSome, Some, None, Ok, true, codes};
 
 use crate::backoff::Waiting;
-use crate::seat::{Seat, settle_one};
+use crate::seat::Seat;
 use crate::shared::Shared;
 use crate::steps;
 use crate::steps::{Sent, Tried};
@@ -40,7 +40,7 @@ fn answer_of<T: Drop>(outcome: Outcome<T>) -> Result<(), SendError> {
 }
 
 /// What a wait needs: the blocked call's half, and the seat for the core.
-pub(crate) fn wait<T: Drop>(alloc: Global) -> Option<(Waiting<Outcome<T>>, Seat<T>)> {
+pub(crate) fn wait<T: Drop>(alloc: Global) -> Option<(Waiting<Outcome<T>>, Box<Seat<T>>)> {
     let (end, settler) = signal::new(alloc).ok()?;
     let waiting = Waiting::new(alloc, end).ok()?;
     let seat = Seat::new(alloc, settler)?;
@@ -78,10 +78,9 @@ impl<T: Drop> AsyncSender<T> {
         ensures sent { result ≡ Ok true → option.new ≡ None }
         ensures kept { result ≢ Ok true → option.new ≡ option.old }
     {
-        let (mut guard, noticed) = self.shared.lock(rt);
+        let (mut guard, leaving) = self.shared.lock(rt);
         let Tried { answer, settled } = steps::try_send(&mut guard, option);
-        self.shared.release(guard, noticed);
-        settle_one(settled);
+        self.shared.release(guard, leaving.with(settled));
         answer
     }
 
@@ -91,12 +90,11 @@ impl<T: Drop> AsyncSender<T> {
         ensures sent { result ≡ Ok true → option.new ≡ None }
         ensures kept { result ≢ Ok true → option.new ≡ option.old }
     {
-        let Some((mut guard, noticed)) = self.shared.try_lock() else {
+        let Some((mut guard, leaving)) = self.shared.try_lock() else {
             return Ok(false);
         };
         let Tried { answer, settled } = steps::try_send(&mut guard, option);
-        self.shared.release(guard, noticed);
-        settle_one(settled);
+        self.shared.release(guard, leaving.with(settled));
         answer
     }
 
@@ -117,16 +115,20 @@ impl<T: Drop> AsyncSender<T> {
         let Some((waiting, seat)) = wait(self.alloc) else {
             return Err(SendError::NoMemory);
         };
-        let (mut guard, noticed) = self.shared.lock(rt);
-        let sent = steps::send(&mut guard, message, seat);
-        self.shared.release(guard, noticed);
-        match sent {
+        let (mut guard, leaving) = self.shared.lock(rt);
+        match steps::send(&mut guard, message, seat) {
             Sent::Entered(settled, _seat) => {
-                settle_one(settled);
+                self.shared.release(guard, leaving.with(settled));
                 Ok(())
             },
-            Sent::Waits(_ticket) => answer_of(waiting.outcome(rt)),
-            Sent::Refused(error, _message, _seat) => Err(error),
+            Sent::Waits(_ticket) => {
+                self.shared.release(guard, leaving);
+                answer_of(waiting.outcome(rt))
+            },
+            Sent::Refused(error, _message, _seat) => {
+                self.shared.release(guard, leaving);
+                Err(error)
+            },
         }
     }
 }

@@ -1,5 +1,5 @@
-//! What a waiter brings to the core: the end that settles its wait, and the room in which its entry
-//! is kept when it leaves by notice.
+//! What a waiter brings to the core: the end that settles its wait, in memory of its own, in which
+//! its entry is kept when it leaves by notice.
 //!
 //! Stands on the cell. What leaves the core is settled or let go here, and only after the lock was
 //! released.
@@ -11,107 +11,107 @@ use kanal_core::signal::SettleEnd;
 use std::alloc::Global;
 
 /// The core of a channel whose waiters bring seats.
-pub type Core<T> = ChannelInternal<T, Seat<T>>;
+///
+/// A seat is brought as its box and not in a struct of its own: each struct more makes it dearer to
+/// find that a handle may go to another thread.
+pub type Core<T> = ChannelInternal<T, Box<Seat<T>>>;
 
-/// What is kept of an entry that left by notice.
+/// The end of a cell that has not settled yet.
 #[derive(Drop)]
-pub struct Gone<T> {
-    message: Option<T>,
+pub struct Settler<T> {
     end: SettleEnd<Outcome<T>>,
-}
-
-/// A chain of rooms for entries that left by notice.
-#[derive(Drop)]
-pub struct Room<T> {
-    gone: Option<Gone<T>>,
-    next: Option<Box<Room<T>>>,
-}
-
-/// A waiter's end of its cell, and the room for its entry.
-#[derive(Drop)]
-pub struct Seat<T> {
-    end: SettleEnd<Outcome<T>>,
-    room: Box<Room<T>>,
     ghost unspent: { HasNotSettled (settle_view end) },
 }
 
+/// A waiter's end of its cell, with the place for its message and for the seats that left before
+/// it, when it leaves by notice.
+#[derive(Drop)]
+pub struct Seat<T> {
+    settler: Settler<T>,
+    message: Option<T>,
+    next: Option<Box<Seat<T>>>,
+}
+
+impl<T: Drop> Settler<T> {
+    /// Hands the outcome over; what comes back, since the waiter has left, is let go.
+    fn settle(self, outcome: Outcome<T>) {
+        let Settler { mut end } = self;
+        let back = end.settle(outcome);
+        drop(back);
+    }
+}
+
 impl<T: Drop> Seat<T> {
-    /// A seat over a fresh end; `None` where there is no memory for its room.
-    pub(crate) fn new(alloc: Global, end: SettleEnd<Outcome<T>>) -> Option<Self>
+    /// A seat over a fresh end; `None` where there is no memory for it.
+    pub(crate) fn new(alloc: Global, end: SettleEnd<Outcome<T>>) -> Option<Box<Self>>
         requires { HasNotSettled (settle_view end) }
     {
-        let empty = Room {
-            gone: None,
+        let seat = Seat {
+            settler: Settler { end },
+            message: None,
             next: None,
         };
-        let room = Box::new(alloc, empty).ok()?;
-        Some(Seat { end, room })
+        Box::new(alloc, seat).ok()
     }
 
     /// Whether the waiter has left.
     pub(crate) fn is_left(&self) -> bool {
-        self.end.is_left()
-    }
-
-    /// Hands the outcome over; what comes back, since the waiter has left, is let go.
-    fn settle(self, outcome: Outcome<T>) {
-        let Seat { mut end, room } = self;
-        let back = end.settle(outcome);
-        drop(back);
-        drop(room);
+        self.settler.end.is_left()
     }
 }
 
-/// Puts the entry into its own room, in front of the chain.
+/// Puts the entry's message into its own seat, in front of the chain.
 pub(crate) fn keep<T: Drop>(
-    waiter: Waiter<T, Seat<T>>,
-    next: Option<Box<Room<T>>>,
-) -> Box<Room<T>> {
+    waiter: Waiter<T, Box<Seat<T>>>,
+    next: Option<Box<Seat<T>>>,
+) -> Box<Seat<T>> {
     let Waiter {
         ticket: _,
         message,
         w,
     } = waiter;
-    let Seat { end, mut room } = w;
-    room.gone = Some(Gone { message, end });
-    room.next = next;
-    room
+    let mut seat = w;
+    seat.message = message;
+    seat.next = next;
+    seat
 }
 
 /// Settles a wait that left the core.
-pub(crate) fn settle<T: Drop>(settled: Settled<T, Seat<T>>) {
+pub(crate) fn settle<T: Drop>(settled: Settled<T, Box<Seat<T>>>) {
     let Settled {
         ticket: _,
         w,
         outcome,
     } = settled;
-    w.settle(outcome);
-}
-
-/// Settles the wait, if one left the core.
-pub(crate) fn settle_one<T: Drop>(settled: Option<Settled<T, Seat<T>>>) {
-    if let Some(settled) = settled {
-        settle(settled);
-    }
+    let Seat {
+        settler,
+        message,
+        next,
+    } = Box::into_inner(w);
+    settler.settle(outcome);
+    drop(message);
+    drop(next);
 }
 
 /// Settles all waits that a step ended, oldest first.
-pub(crate) fn settle_all<T: Drop>(ended: Ended<T, Seat<T>>) {
+pub(crate) fn settle_all<T: Drop>(ended: Ended<T, Box<Seat<T>>>) {
     let mut ended = ended;
     while let Some(settled) = ended.next() {
         settle(settled);
     }
 }
 
-/// Lets the entries of the chain go, one after the other.
-pub(crate) fn let_go<T: Drop>(chain: Option<Box<Room<T>>>) {
+/// Lets the seats of the chain go, one after the other.
+pub(crate) fn let_go<T: Drop>(chain: Option<Box<Seat<T>>>) {
     let mut chain = chain;
-    for _ in 0..u64::MAX {
-        let Some(room) = chain else {
-            return;
-        };
-        let Room { gone, next } = Box::into_inner(room);
-        drop(gone);
+    while let Some(seat) = chain {
+        let Seat {
+            settler,
+            message,
+            next,
+        } = Box::into_inner(seat);
+        drop(settler);
+        drop(message);
         chain = next;
     }
 }

@@ -2,11 +2,11 @@
 //! not wait for the lock.
 //!
 //! Stands on the lock, the steps and the seats. Whoever gets the lock applies all notices before its
-//! own step; whoever releases it settles what they ended, and then looks for new ones. No other
+//! own step; whoever releases it settles what left the core, and then looks for new ones. No other
 //! module takes the lock or touches a notice's counter.
-use crate::seat::{Core, Room, Seat, let_go, settle_all};
+use crate::seat::{Core, Seat, let_go, settle, settle_all};
 use crate::steps;
-use kanal_core::internal::Ended;
+use kanal_core::internal::{Ended, Settled};
 use kanal_core::mutex::Mutex;
 use std::sync::atomic::AtomicU64;
 use std::sync::atomic::Ordering::SeqCst;
@@ -24,27 +24,51 @@ pub struct Shared<T> {
     receivers: AtomicU64,
 }
 
-/// What applying the notices took out of the core.
+/// What left the core while the lock was held: by the notices, and by the call's own step.
 #[derive(Drop)]
-pub(crate) struct Noticed<T> {
-    gone: Option<Box<Room<T>>>,
-    senders: Option<Ended<T, Seat<T>>>,
-    receivers: Option<Ended<T, Seat<T>>>,
+pub(crate) struct Leaving<T> {
+    gone: Option<Box<Seat<T>>>,
+    senders: Option<Ended<T, Box<Seat<T>>>>,
+    receivers: Option<Ended<T, Box<Seat<T>>>>,
+    settled: Option<Settled<T, Box<Seat<T>>>>,
+    ended: Option<Ended<T, Box<Seat<T>>>>,
 }
 
-impl<T: Drop> Noticed<T> {
+impl<T: Drop> Leaving<T> {
+    /// The same, and the wait that the call's step settled.
+    pub(crate) fn with(self, settled: Option<Settled<T, Box<Seat<T>>>>) -> Self {
+        let mut leaving = self;
+        leaving.settled = settled;
+        leaving
+    }
+
+    /// The same, and the waits that the call's step ended.
+    pub(crate) fn with_all(self, ended: Ended<T, Box<Seat<T>>>) -> Self {
+        let mut leaving = self;
+        leaving.ended = Some(ended);
+        leaving
+    }
+
     /// Lets go of what left, and settles what ended. The lock is released.
     fn settle(self) {
-        let Noticed {
+        let Leaving {
             gone,
             senders,
             receivers,
+            settled,
+            ended,
         } = self;
         let_go(gone);
         if let Some(ended) = senders {
             settle_all(ended);
         }
         if let Some(ended) = receivers {
+            settle_all(ended);
+        }
+        if let Some(one) = settled {
+            settle(one);
+        }
+        if let Some(ended) = ended {
             settle_all(ended);
         }
     }
@@ -70,21 +94,21 @@ impl<T: Drop> Shared<T> {
     }
 
     /// Waits for the lock, and applies the notices.
-    pub(crate) fn lock<R: Wait>(&self, rt: &R) -> (MutexGuard<'_, Core<T>>, Noticed<T>) {
+    pub(crate) fn lock<R: Wait>(&self, rt: &R) -> (MutexGuard<'_, Core<T>>, Leaving<T>) {
         let mut guard = self.core.lock(rt);
-        let noticed = self.apply(&mut guard);
-        (guard, noticed)
+        let leaving = self.apply(&mut guard);
+        (guard, leaving)
     }
 
     /// Tries once to get the lock, and applies the notices.
-    pub(crate) fn try_lock(&self) -> Option<(MutexGuard<'_, Core<T>>, Noticed<T>)> {
+    pub(crate) fn try_lock(&self) -> Option<(MutexGuard<'_, Core<T>>, Leaving<T>)> {
         let mut guard = self.core.try_lock()?;
-        let noticed = self.apply(&mut guard);
-        Some((guard, noticed))
+        let leaving = self.apply(&mut guard);
+        Some((guard, leaving))
     }
 
     /// Applies all notices: first those of left waits, then the senders', then the receivers'.
-    fn apply(&self, core: &mut Core<T>) -> Noticed<T> {
+    fn apply(&self, core: &mut Core<T>) -> Leaving<T> {
         let gone = if emptied(&self.left) == 0 {
             None
         } else {
@@ -92,17 +116,19 @@ impl<T: Drop> Shared<T> {
         };
         let senders = steps::drop_senders(core, emptied(&self.senders));
         let receivers = steps::drop_receivers(core, emptied(&self.receivers));
-        Noticed {
+        Leaving {
             gone,
             senders,
             receivers,
+            settled: None,
+            ended: None,
         }
     }
 
-    /// Releases the lock, settles what the notices ended, and looks for new ones.
-    pub(crate) fn release(&self, guard: MutexGuard<'_, Core<T>>, noticed: Noticed<T>) {
+    /// Releases the lock, settles what left the core, and then looks for new notices.
+    pub(crate) fn release(&self, guard: MutexGuard<'_, Core<T>>, leaving: Leaving<T>) {
         drop(guard);
-        noticed.settle();
+        leaving.settle();
         self.look();
     }
 
@@ -119,21 +145,20 @@ impl<T: Drop> Shared<T> {
             if self.is_quiet() {
                 return;
             }
-            let Some((guard, noticed)) = self.try_lock() else {
+            let Some((guard, leaving)) = self.try_lock() else {
                 return;
             };
             drop(guard);
-            noticed.settle();
+            leaving.settle();
         }
     }
 
     /// A sender goes away: it waits for nobody.
     pub(crate) fn drop_sender(&self) {
         match self.try_lock() {
-            Some((mut guard, noticed)) => {
+            Some((mut guard, leaving)) => {
                 let ended = guard.drop_sender();
-                self.release(guard, noticed);
-                settle_all(ended);
+                self.release(guard, leaving.with_all(ended));
             },
             None => {
                 self.senders.fetch_add(1, SeqCst);
@@ -145,10 +170,9 @@ impl<T: Drop> Shared<T> {
     /// A receiver goes away: it waits for nobody.
     pub(crate) fn drop_receiver(&self) {
         match self.try_lock() {
-            Some((mut guard, noticed)) => {
+            Some((mut guard, leaving)) => {
                 let ended = guard.drop_receiver();
-                self.release(guard, noticed);
-                settle_all(ended);
+                self.release(guard, leaving.with_all(ended));
             },
             None => {
                 self.receivers.fetch_add(1, SeqCst);

@@ -11,7 +11,7 @@ ghost use Rattle.kanal_core.specs.Waiters.{sender_first};
 ghost use Rattle.kanal_core.specs.Calls.{IsFull, IsEmpty, MovesTo, OldestLeft};
 ghost use Rattle.kanal.specs.Steps.{TriesToSend, TriesToReceive, Sends, SendSeats, Receives, ReceiveSeats, all_of, times};
 
-use crate::seat::{Core, Room, Seat, keep};
+use crate::seat::{Core, Seat, keep};
 use kanal_core::error::{DrainError, ReceiveError, SendError, WaitError};
 use kanal_core::internal::{Ended, Offer, Settled, Take, Ticket};
 
@@ -19,29 +19,29 @@ use kanal_core::internal::{Ended, Offer, Settled, Take, Ticket};
 #[derive(Drop)]
 pub(crate) struct Tried<T, A> {
     pub(crate) answer: A,
-    pub(crate) settled: Option<Settled<T, Seat<T>>>,
+    pub(crate) settled: Option<Settled<T, Box<Seat<T>>>>,
 }
 
 /// What a send came to.
 #[derive(Drop)]
 pub(crate) enum Sent<T> {
     /// The message is in the line or with the receiver of this wait; the seat comes back.
-    Entered(Option<Settled<T, Seat<T>>>, Seat<T>),
+    Entered(Option<Settled<T, Box<Seat<T>>>>, Box<Seat<T>>),
     /// The message waits.
     Waits(Ticket),
     /// It was refused; message and seat come back.
-    Refused(SendError, T, Seat<T>),
+    Refused(SendError, T, Box<Seat<T>>),
 }
 
 /// What a receive came to.
 #[derive(Drop)]
 pub(crate) enum Received<T> {
     /// The front message, and the wait of a sender that was settled; the seat comes back.
-    Got(T, Option<Settled<T, Seat<T>>>, Seat<T>),
+    Got(T, Option<Settled<T, Box<Seat<T>>>>, Box<Seat<T>>),
     /// The receiver waits.
     Waits(Ticket),
     /// It was refused; the seat comes back.
-    Refused(ReceiveError, Seat<T>),
+    Refused(ReceiveError, Box<Seat<T>>),
 }
 
 /// Offers the option's message. The option is empty after it exactly if the message entered.
@@ -85,7 +85,7 @@ pub(crate) fn try_recv<T: Drop>(core: &mut Core<T>) -> Tried<T, Result<Option<T>
 }
 
 /// Starts the wait of a send that found no place.
-fn wait_send<T: Drop>(core: &mut Core<T>, message: T, seat: Seat<T>) -> Sent<T>
+fn wait_send<T: Drop>(core: &mut Core<T>, message: T, seat: Box<Seat<T>>) -> Sent<T>
     requires { IsFull (line_of core.old) }
     ensures step { Sends (line_of core.old) message result (line_of core.new) }
     ensures seats { SendSeats core.old.waiters message seat result core.new.waiters }
@@ -98,7 +98,7 @@ fn wait_send<T: Drop>(core: &mut Core<T>, message: T, seat: Seat<T>) -> Sent<T>
 }
 
 /// Offers the message, and starts its wait where there is no place for it.
-pub(crate) fn send<T: Drop>(core: &mut Core<T>, message: T, seat: Seat<T>) -> Sent<T>
+pub(crate) fn send<T: Drop>(core: &mut Core<T>, message: T, seat: Box<Seat<T>>) -> Sent<T>
     ensures step { Sends (line_of core.old) message result (line_of core.new) }
     ensures seats { SendSeats core.old.waiters message seat result core.new.waiters }
 {
@@ -113,7 +113,7 @@ pub(crate) fn send<T: Drop>(core: &mut Core<T>, message: T, seat: Seat<T>) -> Se
 }
 
 /// Starts the wait of a receive that found no message.
-fn wait_recv<T: Drop>(core: &mut Core<T>, seat: Seat<T>) -> Received<T>
+fn wait_recv<T: Drop>(core: &mut Core<T>, seat: Box<Seat<T>>) -> Received<T>
     requires { IsEmpty (line_of core.old) }
     ensures step { Receives (line_of core.old) result (line_of core.new) }
     ensures seats { ReceiveSeats core.old.waiters seat result core.new.waiters }
@@ -126,7 +126,7 @@ fn wait_recv<T: Drop>(core: &mut Core<T>, seat: Seat<T>) -> Received<T>
 }
 
 /// Takes the front message, and starts a wait where there is none.
-pub(crate) fn recv<T: Drop>(core: &mut Core<T>, seat: Seat<T>) -> Received<T>
+pub(crate) fn recv<T: Drop>(core: &mut Core<T>, seat: Box<Seat<T>>) -> Received<T>
     ensures step { Receives (line_of core.old) result (line_of core.new) }
     ensures seats { ReceiveSeats core.old.waiters seat result core.new.waiters }
 {
@@ -142,7 +142,7 @@ pub(crate) fn recv<T: Drop>(core: &mut Core<T>, seat: Seat<T>) -> Received<T>
 pub(crate) fn drain<T: Drop>(
     core: &mut Core<T>,
     into: &mut Vec<T>,
-) -> Result<(usize, Ended<T, Seat<T>>), ReceiveError>
+) -> Result<(usize, Ended<T, Box<Seat<T>>>), ReceiveError>
     ensures step { IfOk result (λ d. MovesTo (drain (line_of core.old)) (map settlement d.1) (line_of core.new)) }
     ensures moved { IfOk result (λ _. into.new.items ≡ into.old.items ++ messages (line_of core.old).line) }
     ensures count { IfOk result (λ d. d.0 ≡ length (line_of core.old).line) }
@@ -158,7 +158,7 @@ pub(crate) fn drain<T: Drop>(
 }
 
 /// Makes so many drops of senders, and hands out the waits that the last one ended.
-pub(crate) fn drop_senders<T: Drop>(core: &mut Core<T>, count: u64) -> Option<Ended<T, Seat<T>>>
+pub(crate) fn drop_senders<T: Drop>(core: &mut Core<T>, count: u64) -> Option<Ended<T, Box<Seat<T>>>>
     ensures step { MovesTo (times drop_sender count (line_of core.old)) (map settlement (all_of result)) (line_of core.new) }
 {
     let mut left = count;
@@ -174,7 +174,7 @@ pub(crate) fn drop_senders<T: Drop>(core: &mut Core<T>, count: u64) -> Option<En
 }
 
 /// Makes so many drops of receivers, and hands out the waits that the last one ended.
-pub(crate) fn drop_receivers<T: Drop>(core: &mut Core<T>, count: u64) -> Option<Ended<T, Seat<T>>>
+pub(crate) fn drop_receivers<T: Drop>(core: &mut Core<T>, count: u64) -> Option<Ended<T, Box<Seat<T>>>>
     ensures step { MovesTo (times drop_receiver count (line_of core.old)) (map settlement (all_of result)) (line_of core.new) }
 {
     let mut left = count;
@@ -190,7 +190,7 @@ pub(crate) fn drop_receivers<T: Drop>(core: &mut Core<T>, count: u64) -> Option<
 }
 
 /// Withdraws all waits that were left, and hands out their entries, each in its own room.
-pub(crate) fn withdraw_left<T: Drop>(core: &mut Core<T>) -> Option<Box<Room<T>>>
+pub(crate) fn withdraw_left<T: Drop>(core: &mut Core<T>) -> Option<Box<Seat<T>>>
     ensures ticket { core.new.next ≡ core.old.next }
 {
     let mut gone = None;

@@ -5,6 +5,7 @@
 //! four receive). CAPACITY is a number, or `u` for a channel without limit. Each of k senders sends
 //! the numbers 0, 1, .. below COUNT / k. It joins all threads before it prints.
 #![tactic(auto)]
+ghost use Rattle.std.specs.Prelude.{◌<◌};
 
 use anyhow::{Result, anyhow, bail};
 use kanal::{Receiver, Sender};
@@ -17,9 +18,11 @@ use std::{env, thread};
 type Ends = (Sender<u64>, Receiver<u64>);
 
 /// How many threads send, and how many receive.
+#[derive(Copy, Clone)]
 struct Crowd {
     senders: u64,
     receivers: u64,
+    ghost some: { 0 < senders },
 }
 
 /// Sends the numbers below the count, until the channel ends.

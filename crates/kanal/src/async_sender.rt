@@ -6,7 +6,7 @@ ghost use Rattle.std.specs.Prelude.{◌≡◌, ◌≢◌, IsSome, Some, None, Ok
 
 use crate::backoff::Waiting;
 use crate::seat::Seat;
-use crate::shared::Shared;
+use crate::shared::{Leaving, Shared};
 use crate::steps;
 use crate::steps::{Sent, Tried};
 use kanal_core::error::{SendError, TooMany};
@@ -78,9 +78,11 @@ impl<T: Drop> AsyncSender<T> {
         ensures sent { result ≡ Ok true → option.new ≡ None }
         ensures kept { result ≢ Ok true → option.new ≡ option.old }
     {
-        let (mut guard, leaving) = self.shared.lock(rt);
+        let mut leaving = Leaving::nothing();
+        let mut guard = self.shared.lock(rt, &mut leaving);
         let Tried { answer, settled } = steps::try_send(&mut guard, option);
-        self.shared.release(guard, leaving.with(settled));
+        leaving.settled = settled;
+        self.shared.release(guard, &mut leaving);
         answer
     }
 
@@ -90,11 +92,13 @@ impl<T: Drop> AsyncSender<T> {
         ensures sent { result ≡ Ok true → option.new ≡ None }
         ensures kept { result ≢ Ok true → option.new ≡ option.old }
     {
-        let Some((mut guard, leaving)) = self.shared.try_lock() else {
+        let mut leaving = Leaving::nothing();
+        let Some(mut guard) = self.shared.try_lock(&mut leaving) else {
             return Ok(false);
         };
         let Tried { answer, settled } = steps::try_send(&mut guard, option);
-        self.shared.release(guard, leaving.with(settled));
+        leaving.settled = settled;
+        self.shared.release(guard, &mut leaving);
         answer
     }
 
@@ -115,18 +119,20 @@ impl<T: Drop> AsyncSender<T> {
         let Some((waiting, seat)) = wait(self.alloc) else {
             return Err(SendError::NoMemory);
         };
-        let (mut guard, leaving) = self.shared.lock(rt);
+        let mut leaving = Leaving::nothing();
+        let mut guard = self.shared.lock(rt, &mut leaving);
         match steps::send(&mut guard, message, seat) {
             Sent::Entered(settled, _seat) => {
-                self.shared.release(guard, leaving.with(settled));
+                leaving.settled = settled;
+                self.shared.release(guard, &mut leaving);
                 Ok(())
             },
             Sent::Waits(_ticket) => {
-                self.shared.release(guard, leaving);
+                self.shared.release(guard, &mut leaving);
                 answer_of(waiting.outcome(rt))
             },
             Sent::Refused(error, _message, _seat) => {
-                self.shared.release(guard, leaving);
+                self.shared.release(guard, &mut leaving);
                 Err(error)
             },
         }

@@ -30,56 +30,46 @@ pub(crate) struct Leaving<T> {
     gone: Option<Box<Seat<T>>>,
     senders: Option<Ended<T, Box<Seat<T>>>>,
     receivers: Option<Ended<T, Box<Seat<T>>>>,
-    settled: Option<Settled<T, Box<Seat<T>>>>,
-    ended: Option<Ended<T, Box<Seat<T>>>>,
+    /// The wait that the call's step settled.
+    pub(crate) settled: Option<Settled<T, Box<Seat<T>>>>,
+    /// The waits that the call's step ended.
+    pub(crate) ended: Option<Ended<T, Box<Seat<T>>>>,
 }
 
 impl<T: Drop> Leaving<T> {
-    /// The same, and the wait that the call's step settled.
-    pub(crate) fn with(self, settled: Option<Settled<T, Box<Seat<T>>>>) -> Self {
-        let mut leaving = self;
-        leaving.settled = settled;
-        leaving
+    /// Nothing has left yet.
+    pub(crate) fn nothing() -> Self {
+        Leaving {
+            gone: None,
+            senders: None,
+            receivers: None,
+            settled: None,
+            ended: None,
+        }
     }
 
-    /// The same, and the waits that the call's step ended.
-    pub(crate) fn with_all(self, ended: Ended<T, Box<Seat<T>>>) -> Self {
-        let mut leaving = self;
-        leaving.ended = Some(ended);
-        leaving
+    /// Whether nothing has left.
+    fn is_nothing(&self) -> bool {
+        self.settled.is_none()
+            && self.ended.is_none()
+            && self.gone.is_none()
+            && self.senders.is_none()
+            && self.receivers.is_none()
     }
 
     /// Lets go of what left, and settles what ended. The lock is released.
-    fn settle(self) {
-        let Leaving {
-            gone,
-            senders,
-            receivers,
-            settled,
-            ended,
-        } = self;
-        let_go(gone);
-        if let Some(ended) = senders {
-            settle_all(ended);
+    fn settle(&mut self) {
+        if self.is_nothing() {
+            return;
         }
-        if let Some(ended) = receivers {
-            settle_all(ended);
+        let_go(self.gone.take());
+        settle_all(self.senders.take());
+        settle_all(self.receivers.take());
+        if let Some(settled) = self.settled.take() {
+            settle(settled);
         }
-        if let Some(one) = settled {
-            settle(one);
-        }
-        if let Some(ended) = ended {
-            settle_all(ended);
-        }
+        settle_all(self.ended.take());
     }
-}
-
-/// Empties the counter, which is only written where it is not empty.
-fn emptied(counter: &AtomicU64) -> u64 {
-    if counter.load(SeqCst) == 0 {
-        return 0;
-    }
-    counter.swap(0, SeqCst)
 }
 
 impl<T: Drop> Shared<T> {
@@ -94,42 +84,44 @@ impl<T: Drop> Shared<T> {
     }
 
     /// Waits for the lock, and applies the notices.
-    pub(crate) fn lock<R: Wait>(&self, rt: &R) -> (MutexGuard<'_, Core<T>>, Leaving<T>) {
+    pub(crate) fn lock<R: Wait>(
+        &self,
+        rt: &R,
+        leaving: &mut Leaving<T>,
+    ) -> MutexGuard<'_, Core<T>> {
         let mut guard = self.core.lock(rt);
-        let leaving = self.apply(&mut guard);
-        (guard, leaving)
+        self.apply(&mut guard, leaving);
+        guard
     }
 
     /// Tries once to get the lock, and applies the notices.
-    pub(crate) fn try_lock(&self) -> Option<(MutexGuard<'_, Core<T>>, Leaving<T>)> {
+    pub(crate) fn try_lock(&self, leaving: &mut Leaving<T>) -> Option<MutexGuard<'_, Core<T>>> {
         let mut guard = self.core.try_lock()?;
-        let leaving = self.apply(&mut guard);
-        Some((guard, leaving))
+        self.apply(&mut guard, leaving);
+        Some(guard)
     }
 
     /// Applies all notices: first those of left waits, then the senders', then the receivers'.
-    fn apply(&self, core: &mut Core<T>) -> Leaving<T> {
-        let gone = if emptied(&self.left) == 0 {
-            None
-        } else {
-            steps::withdraw_left(core)
-        };
-        let senders = steps::drop_senders(core, emptied(&self.senders));
-        let receivers = steps::drop_receivers(core, emptied(&self.receivers));
-        Leaving {
-            gone,
-            senders,
-            receivers,
-            settled: None,
-            ended: None,
+    fn apply(&self, core: &mut Core<T>, leaving: &mut Leaving<T>) {
+        if self.left.load(SeqCst) != 0 {
+            self.left.store(0, SeqCst);
+            leaving.gone = steps::withdraw_left(core);
+        }
+        if self.senders.load(SeqCst) != 0 {
+            leaving.senders = steps::drop_senders(core, self.senders.swap(0, SeqCst));
+        }
+        if self.receivers.load(SeqCst) != 0 {
+            leaving.receivers = steps::drop_receivers(core, self.receivers.swap(0, SeqCst));
         }
     }
 
     /// Releases the lock, settles what left the core, and then looks for new notices.
-    pub(crate) fn release(&self, guard: MutexGuard<'_, Core<T>>, leaving: Leaving<T>) {
+    pub(crate) fn release(&self, guard: MutexGuard<'_, Core<T>>, leaving: &mut Leaving<T>) {
         drop(guard);
         leaving.settle();
-        self.look();
+        if !self.is_quiet() {
+            self.look();
+        }
     }
 
     /// Whether there are no notices.
@@ -145,7 +137,8 @@ impl<T: Drop> Shared<T> {
             if self.is_quiet() {
                 return;
             }
-            let Some((guard, leaving)) = self.try_lock() else {
+            let mut leaving = Leaving::nothing();
+            let Some(guard) = self.try_lock(&mut leaving) else {
                 return;
             };
             drop(guard);
@@ -155,10 +148,11 @@ impl<T: Drop> Shared<T> {
 
     /// A sender goes away: it waits for nobody.
     pub(crate) fn drop_sender(&self) {
-        match self.try_lock() {
-            Some((mut guard, leaving)) => {
-                let ended = guard.drop_sender();
-                self.release(guard, leaving.with_all(ended));
+        let mut leaving = Leaving::nothing();
+        match self.try_lock(&mut leaving) {
+            Some(mut guard) => {
+                leaving.ended = Some(guard.drop_sender());
+                self.release(guard, &mut leaving);
             },
             None => {
                 self.senders.fetch_add(1, SeqCst);
@@ -169,10 +163,11 @@ impl<T: Drop> Shared<T> {
 
     /// A receiver goes away: it waits for nobody.
     pub(crate) fn drop_receiver(&self) {
-        match self.try_lock() {
-            Some((mut guard, leaving)) => {
-                let ended = guard.drop_receiver();
-                self.release(guard, leaving.with_all(ended));
+        let mut leaving = Leaving::nothing();
+        match self.try_lock(&mut leaving) {
+            Some(mut guard) => {
+                leaving.ended = Some(guard.drop_receiver());
+                self.release(guard, &mut leaving);
             },
             None => {
                 self.receivers.fetch_add(1, SeqCst);

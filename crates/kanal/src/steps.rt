@@ -158,7 +158,10 @@ pub(crate) fn drain<T: Drop>(
 }
 
 /// Makes so many drops of senders, and hands out the waits that the last one ended.
-pub(crate) fn drop_senders<T: Drop>(core: &mut Core<T>, count: u64) -> Option<Ended<T, Box<Seat<T>>>>
+pub(crate) fn drop_senders<T: Drop>(
+    core: &mut Core<T>,
+    count: u64,
+) -> Option<Ended<T, Box<Seat<T>>>>
     ensures step { MovesTo (times drop_sender count (line_of core.old)) (map settlement (all_of result)) (line_of core.new) }
 {
     let mut left = count;
@@ -174,7 +177,10 @@ pub(crate) fn drop_senders<T: Drop>(core: &mut Core<T>, count: u64) -> Option<En
 }
 
 /// Makes so many drops of receivers, and hands out the waits that the last one ended.
-pub(crate) fn drop_receivers<T: Drop>(core: &mut Core<T>, count: u64) -> Option<Ended<T, Box<Seat<T>>>>
+pub(crate) fn drop_receivers<T: Drop>(
+    core: &mut Core<T>,
+    count: u64,
+) -> Option<Ended<T, Box<Seat<T>>>>
     ensures step { MovesTo (times drop_receiver count (line_of core.old)) (map settlement (all_of result)) (line_of core.new) }
 {
     let mut left = count;

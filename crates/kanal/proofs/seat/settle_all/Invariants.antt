@@ -3,4 +3,4 @@ use Rattle.kanal.proofs.seat.settle_all.Given as goal
 
 -- each round settles one
 abbrev pub decreases-loop-settled : goal.decreases-loop-settled
-decreases-loop-settled g l = length l.ended
+decreases-loop-settled g l = length l.waits

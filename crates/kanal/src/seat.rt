@@ -6,7 +6,7 @@
 ghost use Rattle.kanal_core.specs.CellRule.{HasNotSettled};
 ghost use Rattle.kanal_core.specs.CellEnds.{settle_view};
 
-use kanal_core::internal::{ChannelInternal, Ended, Outcome, Settled, Waiter};
+use kanal_core::internal::{ChannelInternal, Ended, Outcome, Settled};
 use kanal_core::signal::SettleEnd;
 use std::alloc::Global;
 
@@ -28,8 +28,8 @@ pub struct Settler<T> {
 #[derive(Drop)]
 pub struct Seat<T> {
     settler: Settler<T>,
-    message: Option<T>,
-    next: Option<Box<Seat<T>>>,
+    pub(crate) message: Option<T>,
+    pub(crate) next: Option<Box<Seat<T>>>,
 }
 
 impl<T: Drop> Settler<T> {
@@ -58,22 +58,6 @@ impl<T: Drop> Seat<T> {
     pub(crate) fn is_left(&self) -> bool {
         self.settler.end.is_left()
     }
-}
-
-/// Puts the entry's message into its own seat, in front of the chain.
-pub(crate) fn keep<T: Drop>(
-    waiter: Waiter<T, Box<Seat<T>>>,
-    next: Option<Box<Seat<T>>>,
-) -> Box<Seat<T>> {
-    let Waiter {
-        ticket: _,
-        message,
-        w,
-    } = waiter;
-    let mut seat = w;
-    seat.message = message;
-    seat.next = next;
-    seat
 }
 
 /// Settles a wait that left the core.

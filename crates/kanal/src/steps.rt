@@ -3,17 +3,19 @@
 //! Stands on the core's contracts. A step says in the line's terms what it did, and hands out all
 //! that left the core; nothing is settled or let go here, since the lock is held. No other module
 //! changes a core but by the core's own calls.
-ghost use Rattle.std.specs.Prelude.{◌≡◌, ◌≢◌, ◌↔◌, ◌++◌, [], IsSome, Some, None, Ok, true, cond, map, length, IfOk, IfErr, IsErrOf, MatchOption};
+ghost use Rattle.std.specs.Prelude.{◌≡◌, ◌≢◌, ◌↔◌, ◌++◌, List, [], ◌∷◌, IsSome, Some, None, Ok, true, cond, map, length, IfOk, IfErr, IsErrOf, MatchOption};
 ghost use Rattle.kanal_core.specs.Line.{messages};
 ghost use Rattle.kanal_core.specs.Moves.{drain, drop_receiver, drop_sender};
 ghost use Rattle.kanal_core.specs.Channel.{line_of, settlement, settlements, taken_by};
 ghost use Rattle.kanal_core.specs.Waiters.{sender_first};
 ghost use Rattle.kanal_core.specs.Calls.{IsFull, IsEmpty, MovesTo, OldestLeft};
-ghost use Rattle.kanal.specs.Steps.{TriesToSend, TriesToReceive, Sends, SendSeats, Receives, ReceiveSeats, all_of, times};
+ghost use Rattle.kanal_core.specs.declared.internal.outcome.Waiter.{Waiter};
+ghost use Rattle.kanal.specs.Leaving.{LeaveInTurn, entry_of, kept_by, kept_from};
+ghost use Rattle.kanal.specs.Steps.{Boxed, TriesToSend, TriesToReceive, Sends, SendSeats, Receives, ReceiveSeats, all_of, times};
 
-use crate::seat::{Core, Seat, keep};
+use crate::seat::{Core, Seat};
 use kanal_core::error::{DrainError, ReceiveError, SendError, WaitError};
-use kanal_core::internal::{Ended, Offer, Settled, Take, Ticket};
+use kanal_core::internal::{Ended, Offer, Settled, Take, Ticket, Waiter};
 
 /// What a call that doesn't wait answers, and the wait that its step settled.
 #[derive(Drop)]
@@ -195,19 +197,34 @@ pub(crate) fn drop_receivers<T: Drop>(
     None
 }
 
-/// Withdraws all waits that were left, and hands out their entries, each in its own room.
-pub(crate) fn withdraw_left<T: Drop>(core: &mut Core<T>) -> Option<Box<Seat<T>>>
-    ensures ticket { core.new.next ≡ core.old.next }
+/// Puts the entry's message into its own seat, in front of the chain.
+fn keep<T: Drop>(waiter: Waiter<T, Box<Seat<T>>>, next: Option<Box<Seat<T>>>) -> Box<Seat<T>>
+    ensures kept { kept_from result.value ≡ entry_of waiter ∷ kept_by next }
 {
-    let mut gone = None;
+    let Waiter {
+        ticket: _,
+        message,
+        w,
+    } = waiter;
+    let mut seat = w;
+    seat.message = message;
+    seat.next = next;
+    seat
+}
+
+/// Withdraws all waits that were left, and hands out their entries, each in its own seat.
+pub(crate) fn withdraw_left<T: Drop>(core: &mut Core<T>) -> Option<Box<Seat<T>>>
+    ensures withdrawn { (gone : List (Waiter T (Boxed T))) × LeaveInTurn core.old gone core.new × (kept_by result ≡ map entry_of gone) }
+{
+    let mut chain = None;
     for _ in 0..u64::MAX {
         let Some(ticket) = core.first_waiter(|seat| seat.is_left()) else {
-            return gone;
+            return chain;
         };
         let Some(waiter) = core.withdraw(ticket) else {
-            return gone;
+            return chain;
         };
-        gone = Some(keep(waiter, gone));
+        chain = Some(keep(waiter, chain));
     }
-    gone
+    chain
 }

@@ -5,6 +5,7 @@
 //! four receive). CAPACITY is a number, or `u` for a channel without limit. Each of k senders sends
 //! the numbers 0, 1, .. below COUNT / k. It joins all threads before it prints.
 #![tactic(auto)]
+
 ghost use Rattle.std.specs.Prelude.{◌<◌};
 
 use anyhow::{Result, anyhow, bail};

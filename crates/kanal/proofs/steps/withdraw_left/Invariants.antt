@@ -1,6 +1,9 @@
-use Rattle.std.proofs.Common.{◌≡◌}
+use Rattle.std.proofs.Common.{◌≡◌, List, map}
+use Rattle.kanal_core.specs.declared.internal.outcome.Waiter.{Waiter}
+use Rattle.kanal.specs.Leaving.{LeaveInTurn, entry_of, kept_by}
+use Rattle.kanal.specs.Steps.{Boxed}
 use Rattle.kanal.proofs.steps.withdraw_left.Given as goal
 
--- no ticket was given
+-- the chain keeps what has left so far
 abbrev pub invariant-loop : goal.invariant-loop
-invariant-loop g l = l.core.next ≡ l.fn.core.next
+invariant-loop g l = (gone : List (Waiter _ (Boxed _))) × LeaveInTurn l.fn.core gone l.core × (kept_by l.chain ≡ map entry_of gone)

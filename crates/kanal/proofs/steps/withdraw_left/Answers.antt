@@ -1,0 +1,18 @@
+use Rattle.std.proofs.Common.{◌∷◌, sym, ap, ◌∙◌}
+use Rattle.kanal.specs.Leaving.{entry_of}
+use Rattle.kanal.proofs.Withdrawing.{leave-to, without-none}
+use Rattle.kanal.proofs.steps.withdraw_left.Goals as goal
+
+pub returns-in_default-withdraw : goal.returns-in_default-withdraw
+returns-in_default-withdraw g c =
+    let left = c.loop.invariant in
+    let same = c.withdraw.ensures.others ∙ without-none c.in-Some.ticket c.loop.core.waiters (sym c.withdraw.ensures.waiter ∙ c.in_default-withdraw.is) in
+    record { withdrawn = (left.0, leave-to _ c.loop.core c.withdraw.new.self left.0 left.1 same c.in_default-withdraw.ensures.step.2, left.2) }
+
+pub loop-preserved : goal.loop-preserved
+loop-preserved g c =
+    let left = c.loop.invariant in (
+      c.in-Some-withdraw.waiter ∷ left.0,
+      (c.loop.core, c.in-Some.ticket, left.1, sym c.withdraw.ensures.waiter ∙ c.in-Some-withdraw.is, c.withdraw.ensures.others, c.in-Some-withdraw.ensures.step),
+      c.keep.ensures.kept ∙ ap (λ xs. entry_of c.in-Some-withdraw.waiter ∷ xs) left.2,
+    )

@@ -63,7 +63,7 @@ impl<T: Drop> AsyncReceiver<T> {
         let mut leaving = Leaving::nothing();
         let mut guard = self.shared.lock(rt, &mut leaving);
         let Tried { answer, settled } = steps::try_recv(&mut guard);
-        leaving.settled = settled;
+        leaving.keep(settled);
         self.shared.release(guard, &mut leaving);
         answer
     }
@@ -75,7 +75,7 @@ impl<T: Drop> AsyncReceiver<T> {
             return Ok(None);
         };
         let Tried { answer, settled } = steps::try_recv(&mut guard);
-        leaving.settled = settled;
+        leaving.keep(settled);
         self.shared.release(guard, &mut leaving);
         answer
     }
@@ -121,7 +121,7 @@ impl<T: Drop> AsyncReceiver<T> {
         let mut guard = self.shared.lock(rt, &mut leaving);
         match steps::recv(&mut guard, seat) {
             Received::Got(message, settled, _seat) => {
-                leaving.settled = settled;
+                leaving.keep(settled);
                 self.shared.release(guard, &mut leaving);
                 Ok(message)
             },

@@ -81,7 +81,7 @@ impl<T: Drop> AsyncSender<T> {
         let mut leaving = Leaving::nothing();
         let mut guard = self.shared.lock(rt, &mut leaving);
         let Tried { answer, settled } = steps::try_send(&mut guard, option);
-        leaving.settled = settled;
+        leaving.keep(settled);
         self.shared.release(guard, &mut leaving);
         answer
     }
@@ -97,7 +97,7 @@ impl<T: Drop> AsyncSender<T> {
             return Ok(false);
         };
         let Tried { answer, settled } = steps::try_send(&mut guard, option);
-        leaving.settled = settled;
+        leaving.keep(settled);
         self.shared.release(guard, &mut leaving);
         answer
     }
@@ -123,7 +123,7 @@ impl<T: Drop> AsyncSender<T> {
         let mut guard = self.shared.lock(rt, &mut leaving);
         match steps::send(&mut guard, message, seat) {
             Sent::Entered(settled, _seat) => {
-                leaving.settled = settled;
+                leaving.keep(settled);
                 self.shared.release(guard, &mut leaving);
                 Ok(())
             },

@@ -30,13 +30,19 @@ pub(crate) struct Leaving<T> {
     gone: Option<Box<Seat<T>>>,
     senders: Option<Ended<T, Box<Seat<T>>>>,
     receivers: Option<Ended<T, Box<Seat<T>>>>,
-    /// The wait that the call's step settled.
-    pub(crate) settled: Option<Settled<T, Box<Seat<T>>>>,
+    settled: Option<Settled<T, Box<Seat<T>>>>,
     /// The waits that the call's step ended.
     pub(crate) ended: Option<Ended<T, Box<Seat<T>>>>,
 }
 
 impl<T: Drop> Leaving<T> {
+    /// Keeps the wait that the call's step settled, if it settled one, until the lock is released.
+    pub(crate) fn keep(&mut self, settled: Option<Settled<T, Box<Seat<T>>>>) {
+        if let Some(one) = settled {
+            self.settled = Some(one);
+        }
+    }
+
     /// Nothing has left yet.
     pub(crate) fn nothing() -> Self {
         Leaving {
@@ -59,9 +65,6 @@ impl<T: Drop> Leaving<T> {
 
     /// Lets go of what left, and settles what ended. The lock is released.
     fn settle(&mut self) {
-        if self.is_nothing() {
-            return;
-        }
         let_go(self.gone.take());
         settle_all(self.senders.take());
         settle_all(self.receivers.take());
@@ -90,14 +93,18 @@ impl<T: Drop> Shared<T> {
         leaving: &mut Leaving<T>,
     ) -> MutexGuard<'_, Core<T>> {
         let mut guard = self.core.lock(rt);
-        self.apply(&mut guard, leaving);
+        if !self.is_quiet() {
+            self.apply(&mut guard, leaving);
+        }
         guard
     }
 
     /// Tries once to get the lock, and applies the notices.
     pub(crate) fn try_lock(&self, leaving: &mut Leaving<T>) -> Option<MutexGuard<'_, Core<T>>> {
         let mut guard = self.core.try_lock()?;
-        self.apply(&mut guard, leaving);
+        if !self.is_quiet() {
+            self.apply(&mut guard, leaving);
+        }
         Some(guard)
     }
 
@@ -118,7 +125,9 @@ impl<T: Drop> Shared<T> {
     /// Releases the lock, settles what left the core, and then looks for new notices.
     pub(crate) fn release(&self, guard: MutexGuard<'_, Core<T>>, leaving: &mut Leaving<T>) {
         drop(guard);
-        leaving.settle();
+        if !leaving.is_nothing() {
+            leaving.settle();
+        }
         if !self.is_quiet() {
             self.look();
         }

@@ -24,6 +24,18 @@ pub(crate) struct Tried<T, A> {
     pub(crate) settled: Option<Settled<T, Box<Seat<T>>>>,
 }
 
+impl<T: Drop, A> Tried<T, A> {
+    /// An answer of a step that settled no wait.
+    fn of(answer: A) -> Self
+        ensures { (result.answer ≡ answer) × (result.settled ≡ None) }
+    {
+        Tried {
+            answer,
+            settled: None,
+        }
+    }
+}
+
 /// What a send came to.
 #[derive(Drop)]
 pub(crate) enum Sent<T> {
@@ -60,16 +72,21 @@ pub(crate) fn try_send<T: Drop>(
     let Some(message) = option.take() else {
         unreachable!()
     };
-    let (answer, settled, back) = match core.offer(message) {
-        Offer::Entered => (Ok(true), None, None),
-        Offer::Handed(settled) => (Ok(true), Some(settled), None),
-        Offer::Full(back) => (Ok(false), None, Some(back)),
-        Offer::Closed(back) => (Err(SendError::Closed), None, Some(back)),
-        Offer::ReceiveClosed(back) => (Err(SendError::ReceiveClosed), None, Some(back)),
-        Offer::NoMemory(back) => (Err(SendError::NoMemory), None, Some(back)),
+    let (answer, back) = match core.offer(message) {
+        Offer::Entered => return Tried::of(Ok(true)),
+        Offer::Handed(settled) => {
+            return Tried {
+                answer: Ok(true),
+                settled: Some(settled),
+            };
+        },
+        Offer::Full(back) => (Ok(false), back),
+        Offer::Closed(back) => (Err(SendError::Closed), back),
+        Offer::ReceiveClosed(back) => (Err(SendError::ReceiveClosed), back),
+        Offer::NoMemory(back) => (Err(SendError::NoMemory), back),
     };
-    *option = back;
-    Tried { answer, settled }
+    *option = Some(back);
+    Tried::of(answer)
 }
 
 /// Takes the front message, if there is one.
@@ -77,13 +94,15 @@ pub(crate) fn try_recv<T: Drop>(core: &mut Core<T>) -> Tried<T, Result<Option<T>
     ensures step { TriesToReceive (line_of core.old) result.answer (settlements result.settled) (line_of core.new) }
     ensures waiter { OldestLeft core.old.waiters result.settled core.new.waiters }
 {
-    let (answer, settled) = match core.take() {
-        Take::Got(message, settled) => (Ok(Some(message)), settled),
-        Take::Empty => (Ok(None), None),
-        Take::Closed => (Err(ReceiveError::Closed), None),
-        Take::SendClosed => (Err(ReceiveError::SendClosed), None),
-    };
-    Tried { answer, settled }
+    match core.take() {
+        Take::Got(message, settled) => Tried {
+            answer: Ok(Some(message)),
+            settled,
+        },
+        Take::Empty => Tried::of(Ok(None)),
+        Take::Closed => Tried::of(Err(ReceiveError::Closed)),
+        Take::SendClosed => Tried::of(Err(ReceiveError::SendClosed)),
+    }
 }
 
 /// Starts the wait of a send that found no place.

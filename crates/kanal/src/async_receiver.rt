@@ -5,7 +5,7 @@
 ghost use Rattle.std.specs.Prelude.{◌≡◌, ◌++◌, List, length, Some, IfOk, IfErr, codes};
 
 use crate::async_sender::wait;
-use crate::shared::{Leaving, Shared};
+use crate::shared::Shared;
 use crate::steps;
 use crate::steps::{Received, Tried};
 use kanal_core::error::{ReceiveError, TooMany};
@@ -60,23 +60,19 @@ impl<T: Drop> AsyncReceiver<T> {
 
     /// Takes the front message, if there is one.
     pub(crate) fn try_recv<R: Wait>(&self, rt: &R) -> Result<Option<T>, ReceiveError> {
-        let mut leaving = Leaving::nothing();
-        let mut guard = self.shared.lock(rt, &mut leaving);
+        let mut guard = self.shared.lock(rt);
         let Tried { answer, settled } = steps::try_recv(&mut guard);
-        leaving.keep(settled);
-        self.shared.release(guard, &mut leaving);
+        self.shared.release(guard, settled);
         answer
     }
 
     /// Takes the front message, if there is one and the lock is free.
     pub(crate) fn try_recv_realtime(&self) -> Result<Option<T>, ReceiveError> {
-        let mut leaving = Leaving::nothing();
-        let Some(mut guard) = self.shared.try_lock(&mut leaving) else {
+        let Some(mut guard) = self.shared.try_lock() else {
             return Ok(None);
         };
         let Tried { answer, settled } = steps::try_recv(&mut guard);
-        leaving.keep(settled);
-        self.shared.release(guard, &mut leaving);
+        self.shared.release(guard, settled);
         answer
     }
 
@@ -89,16 +85,14 @@ impl<T: Drop> AsyncReceiver<T> {
         ensures drained { IfOk result (λ n. (more : List T) × (into.new.items ≡ into.old.items ++ more) × (length more ≡ n)) }
         ensures refused { IfErr result (λ _. into.new.items ≡ into.old.items) }
     {
-        let mut leaving = Leaving::nothing();
-        let mut guard = self.shared.lock(rt, &mut leaving);
+        let mut guard = self.shared.lock(rt);
         match steps::drain(&mut guard, into) {
             Ok((count, ended)) => {
-                leaving.ended = Some(ended);
-                self.shared.release(guard, &mut leaving);
+                self.shared.release_all(guard, ended);
                 Ok(count)
             },
             Err(error) => {
-                self.shared.release(guard, &mut leaving);
+                self.shared.unlock(guard);
                 Err(error)
             },
         }
@@ -117,20 +111,18 @@ impl<T: Drop> AsyncReceiver<T> {
         let Some((waiting, seat)) = wait(self.alloc) else {
             return Err(ReceiveError::NoMemory);
         };
-        let mut leaving = Leaving::nothing();
-        let mut guard = self.shared.lock(rt, &mut leaving);
+        let mut guard = self.shared.lock(rt);
         match steps::recv(&mut guard, seat) {
             Received::Got(message, settled, _seat) => {
-                leaving.keep(settled);
-                self.shared.release(guard, &mut leaving);
+                self.shared.release(guard, settled);
                 Ok(message)
             },
             Received::Waits(_ticket) => {
-                self.shared.release(guard, &mut leaving);
+                self.shared.unlock(guard);
                 answer_of(waiting.outcome(rt))
             },
             Received::Refused(error, _seat) => {
-                self.shared.release(guard, &mut leaving);
+                self.shared.unlock(guard);
                 Err(error)
             },
         }

@@ -6,7 +6,7 @@ ghost use Rattle.std.specs.Prelude.{◌≡◌, ◌≢◌, IsSome, Some, None, Ok
 
 use crate::backoff::Waiting;
 use crate::seat::Seat;
-use crate::shared::{Leaving, Shared};
+use crate::shared::Shared;
 use crate::steps;
 use crate::steps::{Sent, Tried};
 use kanal_core::error::{SendError, TooMany};
@@ -78,11 +78,9 @@ impl<T: Drop> AsyncSender<T> {
         ensures sent { result ≡ Ok true → option.new ≡ None }
         ensures kept { result ≢ Ok true → option.new ≡ option.old }
     {
-        let mut leaving = Leaving::nothing();
-        let mut guard = self.shared.lock(rt, &mut leaving);
+        let mut guard = self.shared.lock(rt);
         let Tried { answer, settled } = steps::try_send(&mut guard, option);
-        leaving.keep(settled);
-        self.shared.release(guard, &mut leaving);
+        self.shared.release(guard, settled);
         answer
     }
 
@@ -92,13 +90,11 @@ impl<T: Drop> AsyncSender<T> {
         ensures sent { result ≡ Ok true → option.new ≡ None }
         ensures kept { result ≢ Ok true → option.new ≡ option.old }
     {
-        let mut leaving = Leaving::nothing();
-        let Some(mut guard) = self.shared.try_lock(&mut leaving) else {
+        let Some(mut guard) = self.shared.try_lock() else {
             return Ok(false);
         };
         let Tried { answer, settled } = steps::try_send(&mut guard, option);
-        leaving.keep(settled);
-        self.shared.release(guard, &mut leaving);
+        self.shared.release(guard, settled);
         answer
     }
 
@@ -119,20 +115,18 @@ impl<T: Drop> AsyncSender<T> {
         let Some((waiting, seat)) = wait(self.alloc) else {
             return Err(SendError::NoMemory);
         };
-        let mut leaving = Leaving::nothing();
-        let mut guard = self.shared.lock(rt, &mut leaving);
+        let mut guard = self.shared.lock(rt);
         match steps::send(&mut guard, message, seat) {
             Sent::Entered(settled, _seat) => {
-                leaving.keep(settled);
-                self.shared.release(guard, &mut leaving);
+                self.shared.release(guard, settled);
                 Ok(())
             },
             Sent::Waits(_ticket) => {
-                self.shared.release(guard, &mut leaving);
+                self.shared.unlock(guard);
                 answer_of(waiting.outcome(rt))
             },
             Sent::Refused(error, _message, _seat) => {
-                self.shared.release(guard, &mut leaving);
+                self.shared.unlock(guard);
                 Err(error)
             },
         }

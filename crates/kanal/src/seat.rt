@@ -77,11 +77,9 @@ pub(crate) fn settle<T: Drop>(settled: Settled<T, Box<Seat<T>>>) {
     drop(next);
 }
 
-/// Settles all waits that a step ended, if it ended some, oldest first.
-pub(crate) fn settle_all<T: Drop>(ended: Option<Ended<T, Box<Seat<T>>>>) {
-    let Some(mut waits) = ended else {
-        return;
-    };
+/// Settles all waits that a step ended, oldest first.
+pub(crate) fn settle_all<T: Drop>(ended: Ended<T, Box<Seat<T>>>) {
+    let mut waits = ended;
     while let Some(settled) = waits.next() {
         settle(settled);
     }

@@ -2,7 +2,8 @@
 //! not wait for the lock.
 //!
 //! Stands on the lock, the steps and the seats. Whoever gets the lock applies all notices before its
-//! own step; whoever releases it settles what left the core, and then looks for new ones. No other
+//! own step, and settles with the lock released what they took out; whoever releases it settles what
+//! its own step settled, and then looks for new ones. No other
 //! module takes the lock or touches a notice's counter.
 use crate::seat::{Core, Seat, let_go, settle, settle_all};
 use crate::steps;
@@ -24,55 +25,43 @@ pub struct Shared<T> {
     receivers: AtomicU64,
 }
 
-/// What left the core while the lock was held: by the notices, and by the call's own step.
+/// What applying the notices took out of the core.
 #[derive(Drop)]
-pub(crate) struct Leaving<T> {
+struct Leaving<T> {
     gone: Option<Box<Seat<T>>>,
     senders: Option<Ended<T, Box<Seat<T>>>>,
     receivers: Option<Ended<T, Box<Seat<T>>>>,
-    settled: Option<Settled<T, Box<Seat<T>>>>,
-    /// The waits that the call's step ended.
-    pub(crate) ended: Option<Ended<T, Box<Seat<T>>>>,
 }
 
 impl<T: Drop> Leaving<T> {
-    /// Keeps the wait that the call's step settled, if it settled one, until the lock is released.
-    pub(crate) fn keep(&mut self, settled: Option<Settled<T, Box<Seat<T>>>>) {
-        if let Some(one) = settled {
-            self.settled = Some(one);
-        }
-    }
-
-    /// Nothing has left yet.
-    pub(crate) fn nothing() -> Self {
-        Leaving {
-            gone: None,
-            senders: None,
-            receivers: None,
-            settled: None,
-            ended: None,
-        }
-    }
-
-    /// Whether nothing has left.
+    /// Whether nothing left.
     fn is_nothing(&self) -> bool {
-        self.settled.is_none()
-            && self.ended.is_none()
-            && self.gone.is_none()
-            && self.senders.is_none()
-            && self.receivers.is_none()
+        self.gone.is_none() && self.senders.is_none() && self.receivers.is_none()
     }
 
     /// Lets go of what left, and settles what ended. The lock is released.
-    fn settle(&mut self) {
-        let_go(self.gone.take());
-        settle_all(self.senders.take());
-        settle_all(self.receivers.take());
-        if let Some(settled) = self.settled.take() {
-            settle(settled);
+    fn settle(self) {
+        let Leaving {
+            gone,
+            senders,
+            receivers,
+        } = self;
+        let_go(gone);
+        if let Some(ended) = senders {
+            settle_all(ended);
         }
-        settle_all(self.ended.take());
+        if let Some(ended) = receivers {
+            settle_all(ended);
+        }
     }
+}
+
+/// Empties the counter, which is only written where it is not empty.
+fn emptied(counter: &AtomicU64) -> u64 {
+    if counter.load(SeqCst) == 0 {
+        return 0;
+    }
+    counter.swap(0, SeqCst)
 }
 
 impl<T: Drop> Shared<T> {
@@ -86,51 +75,88 @@ impl<T: Drop> Shared<T> {
         }
     }
 
-    /// Waits for the lock, and applies the notices.
-    pub(crate) fn lock<R: Wait>(
-        &self,
-        rt: &R,
-        leaving: &mut Leaving<T>,
-    ) -> MutexGuard<'_, Core<T>> {
-        let mut guard = self.core.lock(rt);
-        if !self.is_quiet() {
-            self.apply(&mut guard, leaving);
+    /// Waits for the lock, with no notice left to apply.
+    pub(crate) fn lock<R: Wait>(&self, rt: &R) -> MutexGuard<'_, Core<T>> {
+        for _ in rt.forever() {
+            let mut guard = self.core.lock(rt);
+            if self.is_quiet() {
+                return guard;
+            }
+            let leaving = self.apply(&mut guard);
+            if leaving.is_nothing() {
+                return guard;
+            }
+            drop(guard);
+            leaving.settle();
         }
-        guard
+        unreachable!()
     }
 
-    /// Tries once to get the lock, and applies the notices.
-    pub(crate) fn try_lock(&self, leaving: &mut Leaving<T>) -> Option<MutexGuard<'_, Core<T>>> {
-        let mut guard = self.core.try_lock()?;
-        if !self.is_quiet() {
-            self.apply(&mut guard, leaving);
+    /// Tries to get the lock, with no notice left to apply; `None` where it is held.
+    pub(crate) fn try_lock(&self) -> Option<MutexGuard<'_, Core<T>>> {
+        for _ in 0..LOOKS {
+            let mut guard = self.core.try_lock()?;
+            if self.is_quiet() {
+                return Some(guard);
+            }
+            let leaving = self.apply(&mut guard);
+            if leaving.is_nothing() {
+                return Some(guard);
+            }
+            drop(guard);
+            leaving.settle();
         }
-        Some(guard)
+        None
     }
 
     /// Applies all notices: first those of left waits, then the senders', then the receivers'.
-    fn apply(&self, core: &mut Core<T>, leaving: &mut Leaving<T>) {
-        if self.left.load(SeqCst) != 0 {
-            self.left.store(0, SeqCst);
-            leaving.gone = steps::withdraw_left(core);
-        }
-        if self.senders.load(SeqCst) != 0 {
-            leaving.senders = steps::drop_senders(core, self.senders.swap(0, SeqCst));
-        }
-        if self.receivers.load(SeqCst) != 0 {
-            leaving.receivers = steps::drop_receivers(core, self.receivers.swap(0, SeqCst));
+    fn apply(&self, core: &mut Core<T>) -> Leaving<T> {
+        let gone = if emptied(&self.left) == 0 {
+            None
+        } else {
+            steps::withdraw_left(core)
+        };
+        let senders = steps::drop_senders(core, emptied(&self.senders));
+        let receivers = steps::drop_receivers(core, emptied(&self.receivers));
+        Leaving {
+            gone,
+            senders,
+            receivers,
         }
     }
 
-    /// Releases the lock, settles what left the core, and then looks for new notices.
-    pub(crate) fn release(&self, guard: MutexGuard<'_, Core<T>>, leaving: &mut Leaving<T>) {
+    /// Releases the lock, and looks for new notices.
+    pub(crate) fn unlock(&self, guard: MutexGuard<'_, Core<T>>) {
         drop(guard);
-        if !leaving.is_nothing() {
-            leaving.settle();
+        if !self.is_quiet() {
+            self.look();
+        }
+    }
+
+    /// Releases the lock, settles the wait that the call's step settled, and looks for new notices.
+    pub(crate) fn release(
+        &self,
+        guard: MutexGuard<'_, Core<T>>,
+        settled: Option<Settled<T, Box<Seat<T>>>>,
+    ) {
+        drop(guard);
+        if let Some(one) = settled {
+            settle(one);
         }
         if !self.is_quiet() {
             self.look();
         }
+    }
+
+    /// Releases the lock, settles the waits that the call's step ended, and looks for new notices.
+    pub(crate) fn release_all(
+        &self,
+        guard: MutexGuard<'_, Core<T>>,
+        ended: Ended<T, Box<Seat<T>>>,
+    ) {
+        drop(guard);
+        settle_all(ended);
+        self.look();
     }
 
     /// Whether there are no notices.
@@ -146,10 +172,10 @@ impl<T: Drop> Shared<T> {
             if self.is_quiet() {
                 return;
             }
-            let mut leaving = Leaving::nothing();
-            let Some(guard) = self.try_lock(&mut leaving) else {
+            let Some(mut guard) = self.core.try_lock() else {
                 return;
             };
+            let leaving = self.apply(&mut guard);
             drop(guard);
             leaving.settle();
         }
@@ -157,11 +183,10 @@ impl<T: Drop> Shared<T> {
 
     /// A sender goes away: it waits for nobody.
     pub(crate) fn drop_sender(&self) {
-        let mut leaving = Leaving::nothing();
-        match self.try_lock(&mut leaving) {
+        match self.try_lock() {
             Some(mut guard) => {
-                leaving.ended = Some(guard.drop_sender());
-                self.release(guard, &mut leaving);
+                let ended = guard.drop_sender();
+                self.release_all(guard, ended);
             },
             None => {
                 self.senders.fetch_add(1, SeqCst);
@@ -172,11 +197,10 @@ impl<T: Drop> Shared<T> {
 
     /// A receiver goes away: it waits for nobody.
     pub(crate) fn drop_receiver(&self) {
-        let mut leaving = Leaving::nothing();
-        match self.try_lock(&mut leaving) {
+        match self.try_lock() {
             Some(mut guard) => {
-                leaving.ended = Some(guard.drop_receiver());
-                self.release(guard, &mut leaving);
+                let ended = guard.drop_receiver();
+                self.release_all(guard, ended);
             },
             None => {
                 self.receivers.fetch_add(1, SeqCst);

@@ -1,11 +1,9 @@
-//! First in, first out: one thread sends and another receives.
+//! First in, first out: one thread sends and this one receives.
 use crate::threads::start_numbers;
 use kanal::{Receiver, Sender, bounded};
-use std::alloc::AllocError;
 use std::sync::Wait;
 use std::test::Fail;
-use std::thread;
-use std::thread::{JoinHandle, Threads};
+use std::thread::Threads;
 
 /// How many numbers are sent.
 const NUMBERS: u64 = 500;
@@ -23,25 +21,17 @@ fn receive_in_order<R: Wait>(rt: &R, receiver: &Receiver<u64>) -> Option<u64> {
     Some(next)
 }
 
-/// Receives in a thread of its own.
-fn start_receive_in_order<R: Threads + Wait + Copy + Send + 'static>(
-    rt: R,
-    receiver: Receiver<u64>,
-) -> Result<JoinHandle<Option<u64>>, AllocError> {
-    let thread = thread::spawn(&rt, move || receive_in_order(&rt, &receiver))?;
-    Ok(thread)
-}
-
-/// Sends in one thread and receives in another.
+/// Sends in a thread of its own, and receives.
 fn pass_on<R: Threads + Wait + Copy + Send + 'static>(
     rt: R,
     ends: (Sender<u64>, Receiver<u64>),
 ) -> Result<Option<u64>, Fail> {
     let (sender, receiver) = ends;
-    let receiving = start_receive_in_order(rt, receiver)?;
-    let sending = start_numbers(rt, sender, 0, NUMBERS)?;
-    sending.join(&rt)?;
-    Ok(receiving.join(&rt))
+    let thread = start_numbers(rt, sender, 0, NUMBERS)?;
+    let came = receive_in_order(&rt, &receiver);
+    drop(receiver);
+    thread.join(&rt)?;
+    Ok(came)
 }
 
 #[test]

@@ -8,7 +8,7 @@ use std::sync::Wait;
 use std::thread;
 use std::thread::{JoinHandle, Threads};
 
-/// What a thread that sends one message answers.
+/// What a thread that sends answers.
 pub type Sent = Result<(), SendError>;
 
 /// What a thread that receives one message answers.
@@ -20,6 +20,9 @@ pub struct Tally {
     pub count: u64,
     pub sum: u64,
 }
+
+/// How long a test puts off what ends a wait, in turns that other threads get.
+pub const TURNS: [u32; 6] = [0, 1, 10, 100, 1000, 5000];
 
 /// Lets other threads run, so many times.
 pub fn pass_turns(turns: u32) {
@@ -47,16 +50,6 @@ pub fn receive_all<R: Wait>(rt: &R, receiver: &Receiver<u64>) -> Tally {
         tally.sum = tally.sum.wrapping_add(number);
     }
     tally
-}
-
-/// Sends one number.
-pub fn start_send<R: Threads + Wait + Copy + Send + 'static>(
-    rt: R,
-    sender: Sender<u64>,
-    message: u64,
-) -> Result<JoinHandle<Sent>, AllocError> {
-    let thread = thread::spawn(&rt, move || sender.send(&rt, message))?;
-    Ok(thread)
 }
 
 /// Receives one number.

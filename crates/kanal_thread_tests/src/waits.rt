@@ -1,5 +1,5 @@
 //! A send and a receive that wait, and what ends the wait well: the other side's call.
-use crate::threads::{pass_turns, start_receive, start_send};
+use crate::threads::{pass_turns, start_numbers, start_receive};
 use kanal::{Receiver, Sender, bounded};
 use std::sync::Wait;
 use std::test::Fail;
@@ -34,7 +34,7 @@ fn receive_from_a_waiter<R: Wait>(rt: &R, receiver: &Receiver<u64>) -> Option<u6
 fn a_send_waits_for_a_place(rt: HostRuntime) -> Result<(), Fail> {
     let (sender, receiver) = bounded::<u64>(rt.alloc(), 1)?;
     assert_eq!(rt; sender.send(&rt, 1), Ok(()));
-    let thread = start_send(rt, sender, 2)?;
+    let thread = start_numbers(rt, sender, 2, 3)?;
     pass_turns(1000);
     assert_eq!(rt; receiver.recv(&rt), Ok(1));
     assert_eq!(rt; receiver.recv(&rt), Ok(2));
@@ -66,7 +66,7 @@ fn a_waiting_receiver_is_handed_the_message(rt: HostRuntime) -> Result<(), Fail>
 #[test]
 fn a_waiting_sender_hands_over_its_message(rt: HostRuntime) -> Result<(), Fail> {
     let (sender, receiver) = bounded::<u64>(rt.alloc(), 0)?;
-    let thread = start_send(rt, sender, 7)?;
+    let thread = start_numbers(rt, sender, 7, 8)?;
     assert_eq!(rt; receive_from_a_waiter(&rt, &receiver), Some(7));
     assert_eq!(rt; thread.join(&rt), Ok(()));
     Ok(())

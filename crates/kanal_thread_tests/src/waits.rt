@@ -30,6 +30,17 @@ fn receive_from_a_waiter<R: Wait>(rt: &R, receiver: &Receiver<u64>) -> Option<u6
     None
 }
 
+/// Drains as soon as a sender waits at a channel with no buffer; how many messages came.
+fn drain_a_waiter<R: Wait>(rt: &R, receiver: &Receiver<u64>, into: &mut Vec<u64>) -> usize {
+    for _ in 0..LOOKS {
+        match receiver.drain_into(rt, into) {
+            Ok(0) | Err(_) => thread::yield_now(),
+            Ok(count) => return count,
+        }
+    }
+    0
+}
+
 #[test]
 fn a_send_waits_for_a_place(rt: HostRuntime) -> Result<(), Fail> {
     let (sender, receiver) = bounded::<u64>(rt.alloc(), 1)?;
@@ -68,6 +79,18 @@ fn a_waiting_sender_hands_over_its_message(rt: HostRuntime) -> Result<(), Fail> 
     let (sender, receiver) = bounded::<u64>(rt.alloc(), 0)?;
     let thread = start_numbers(rt, sender, 7, 8)?;
     assert_eq!(rt; receive_from_a_waiter(&rt, &receiver), Some(7));
+    assert_eq!(rt; thread.join(&rt), Ok(()));
+    Ok(())
+}
+
+/// A drain takes the messages of waiting senders, too.
+#[test]
+fn a_drain_takes_a_waiting_senders_message(rt: HostRuntime) -> Result<(), Fail> {
+    let (sender, receiver) = bounded::<u64>(rt.alloc(), 0)?;
+    let mut messages = Vec::new(rt.alloc());
+    let thread = start_numbers(rt, sender, 7, 8)?;
+    assert_eq!(rt; drain_a_waiter(&rt, &receiver, &mut messages), 1);
+    assert_eq!(rt; messages.as_slice(), [7].as_slice());
     assert_eq!(rt; thread.join(&rt), Ok(()));
     Ok(())
 }

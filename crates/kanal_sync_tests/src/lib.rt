@@ -7,3 +7,5 @@ mod calls;
 mod drops;
 #[cfg(test)]
 mod questions;
+#[cfg(test)]
+mod texts;

@@ -78,16 +78,13 @@ impl<T: Drop> Shared<T> {
     /// Waits for the lock, with no notice left to apply.
     pub(crate) fn lock<R: Wait>(&self, rt: &R) -> MutexGuard<'_, Core<T>> {
         for _ in rt.forever() {
-            let mut guard = self.core.lock(rt);
+            let guard = self.core.lock(rt);
             if self.is_quiet() {
                 return guard;
             }
-            let leaving = self.apply(&mut guard);
-            if leaving.is_nothing() {
+            if let Some(guard) = self.catch_up(guard) {
                 return guard;
             }
-            drop(guard);
-            leaving.settle();
         }
         unreachable!()
     }
@@ -95,17 +92,26 @@ impl<T: Drop> Shared<T> {
     /// Tries to get the lock, with no notice left to apply; `None` where it is held.
     pub(crate) fn try_lock(&self) -> Option<MutexGuard<'_, Core<T>>> {
         for _ in 0..LOOKS {
-            let mut guard = self.core.try_lock()?;
+            let guard = self.core.try_lock()?;
             if self.is_quiet() {
                 return Some(guard);
             }
-            let leaving = self.apply(&mut guard);
-            if leaving.is_nothing() {
+            if let Some(guard) = self.catch_up(guard) {
                 return Some(guard);
             }
-            drop(guard);
-            leaving.settle();
         }
+        None
+    }
+
+    /// Applies the notices. Where they take something out, the lock is released, and that is settled.
+    fn catch_up<'a>(&self, guard: MutexGuard<'a, Core<T>>) -> Option<MutexGuard<'a, Core<T>>> {
+        let mut guard = guard;
+        let leaving = self.apply(&mut guard);
+        if leaving.is_nothing() {
+            return Some(guard);
+        }
+        drop(guard);
+        leaving.settle();
         None
     }
 
@@ -172,12 +178,11 @@ impl<T: Drop> Shared<T> {
             if self.is_quiet() {
                 return;
             }
-            let Some(mut guard) = self.core.try_lock() else {
+            let Some(guard) = self.core.try_lock() else {
                 return;
             };
-            let leaving = self.apply(&mut guard);
-            drop(guard);
-            leaving.settle();
+            let held = self.catch_up(guard);
+            drop(held);
         }
     }
 

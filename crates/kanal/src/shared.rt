@@ -76,6 +76,7 @@ impl<T: Drop> Shared<T> {
     }
 
     /// Waits for the lock, with no notice left to apply.
+    #[inline]
     pub(crate) fn lock<R: Wait>(&self, rt: &R) -> MutexGuard<'_, Core<T>> {
         for _ in rt.forever() {
             let guard = self.core.lock(rt);
@@ -104,6 +105,7 @@ impl<T: Drop> Shared<T> {
     }
 
     /// Applies the notices. Where they take something out, the lock is released, and that is settled.
+    #[cold]
     fn catch_up<'a>(&self, guard: MutexGuard<'a, Core<T>>) -> Option<MutexGuard<'a, Core<T>>> {
         let mut guard = guard;
         let leaving = self.apply(&mut guard);
@@ -132,6 +134,7 @@ impl<T: Drop> Shared<T> {
     }
 
     /// Releases the lock, and looks for new notices.
+    #[inline]
     pub(crate) fn unlock(&self, guard: MutexGuard<'_, Core<T>>) {
         drop(guard);
         if !self.is_quiet() {
@@ -140,6 +143,7 @@ impl<T: Drop> Shared<T> {
     }
 
     /// Releases the lock, settles the wait that the call's step settled, and looks for new notices.
+    #[inline]
     pub(crate) fn release(
         &self,
         guard: MutexGuard<'_, Core<T>>,
@@ -173,6 +177,7 @@ impl<T: Drop> Shared<T> {
     }
 
     /// Applies notices while there are some and the lock is free, and looks at most 64 times.
+    #[cold]
     fn look(&self) {
         for _ in 0..LOOKS {
             if self.is_quiet() {

@@ -7,6 +7,8 @@ use Rattle.kanal_core.specs.declared.error.SendError.{SendError}
 use Rattle.kanal_core.specs.declared.error.SendError.TheVariants.{Closed as SendToClosed, ReceiveClosed, NoMemory as SendNoMemory, TooMany as SendTooMany, Finished as SendFinished}
 use Rattle.kanal_core.specs.declared.error.ReceiveError.{ReceiveError}
 use Rattle.kanal_core.specs.declared.error.ReceiveError.TheVariants.{Closed as ReceiveFromClosed, SendClosed, NoMemory as ReceiveNoMemory, TooMany as ReceiveTooMany, Finished as ReceiveFinished}
+use Rattle.kanal_core.specs.declared.error.ReceiveErrorTimeout.{ReceiveErrorTimeout}
+use Rattle.kanal_core.specs.declared.error.ReceiveErrorTimeout.TheVariants.{Closed as LateClosed, SendClosed as LateSendClosed, Timeout as LateTimeout, NoMemory as LateNoMemory, TooMany as LateTooMany, DeadlineOutOfRange as LateOutOfRange}
 use Rattle.kanal_core.specs.Line.{Line, has_place, last_word}
 use Rattle.kanal_core.specs.Moves.{Moved, quiet, wait_send, wait_recv}
 use Rattle.kanal_core.specs.Channel.{settlements}
@@ -49,6 +51,15 @@ RefusesTake old ReceiveNoMemory = ⊥
 RefusesTake old ReceiveTooMany = ⊥
 RefusesTake old ReceiveFinished = ⊥
 
+-- why a receive whose deadline had passed is refused
+abbrev pub RefusesLate : {T : Type 0} → Line T → ReceiveErrorTimeout → Type 0
+RefusesLate old LateClosed = old.receivers ≡ 0
+RefusesLate old LateTimeout = (old.receivers ≢ 0) × (old.line ≡ [])
+RefusesLate old LateSendClosed = ⊥
+RefusesLate old LateNoMemory = ⊥
+RefusesLate old LateTooMany = ⊥
+RefusesLate old LateOutOfRange = ⊥
+
 -- why a receive that may wait is refused
 abbrev pub RefusesReceive : {T : Type 0} → Line T → ReceiveError → Type 0
 RefusesReceive old ReceiveFromClosed = old.receivers ≡ 0
@@ -83,6 +94,11 @@ module _ {T : Type 0} where
   TriesToReceive old (Ok (Some m)) settled new = TakesFront old m settled new
   TriesToReceive old (Ok None) settled new = Stays old new × (old.line ≡ []) × (old.senders ≢ 0) × (settled ≡ [])
   TriesToReceive old (Err reason) settled new = RefusesTake old reason × (new ≡ old) × (settled ≡ [])
+
+  -- a message was asked for by a call whose deadline had passed: it got the front, it was late, or its side is gone
+  abbrev pub ReceivesLate : Line T → Result T ReceiveErrorTimeout → List (ℕ × Outcome T) → Line T → Type 0
+  ReceivesLate old (Ok m) settled new = TakesFront old m settled new
+  ReceivesLate old (Err reason) settled new = RefusesLate old reason × (new ≡ old) × (settled ≡ [])
 
   -- a message was sent: it entered, it waits, or it was refused and came back
   abbrev pub Sends : Line T → T → Sent T → Line T → Type 0

@@ -13,6 +13,7 @@ pub use kanal_core::{error, internal, signal};
 mod async_receiver;
 mod async_sender;
 mod backoff;
+mod clock;
 mod questions;
 mod receiver;
 mod seat;
@@ -20,5 +21,6 @@ mod sender;
 mod shared;
 mod steps;
 
+pub use clock::{Clock, SystemClock};
 pub use receiver::{Messages, Receiver};
 pub use sender::{Sender, bounded, unbounded};

@@ -4,9 +4,11 @@
 ghost use Rattle.std.specs.Prelude.{◌≡◌, ◌++◌, List, length, Some, IfOk, IfErr, codes};
 
 use crate::async_receiver::AsyncReceiver;
-use kanal_core::error::{CloseError, ReceiveError, TooMany};
-use std::fmt;
+use crate::clock::Clock;
+use kanal_core::error::{CloseError, ReceiveError, ReceiveErrorTimeout, TooMany};
 use std::sync::Wait;
+use std::time::Duration;
+use std::{fmt, time};
 
 #[cfg(test)]
 mod held;
@@ -68,6 +70,29 @@ impl<T: Drop> Receiver<T> {
     /// ```
     pub fn try_recv_realtime(&self) -> Result<Option<T>, ReceiveError> {
         self.inner.try_recv_realtime()
+    }
+
+    /// Receives the front message. Where there is none it waits until a message is sent, the channel
+    /// ends, or the clock reaches the deadline, which is its moment now and the duration together; and
+    /// it waits for the lock. It reads the clock once more before it looks at the channel: a call that
+    /// is late by then takes a message that is there, and is otherwise answered `Timeout`.
+    ///
+    /// # Errors
+    /// As `recv`, and `Timeout` where the deadline came first, and `DeadlineOutOfRange` where no moment
+    /// is so late; the channel was not looked at then.
+    ///
+    /// # Examples
+    /// ```text
+    /// receiver.recv_timeout(&rt, Duration::from_millis(50), &SystemClock::new(&rt))
+    ///     answers  Err(ReceiveErrorTimeout::Timeout)   where nothing was sent within 50 ms
+    /// ```
+    pub fn recv_timeout<R: Wait + time::Clock, C: Clock>(
+        &self,
+        rt: &R,
+        duration: Duration,
+        clock: &C,
+    ) -> Result<T, ReceiveErrorTimeout> {
+        self.inner.recv_timeout(rt, duration, clock)
     }
 
     /// Moves all messages to the vector's end, those of waiting senders too, and answers how many

@@ -2,18 +2,21 @@
 //!
 //! Stands on the sending handle that holds the channel; nothing is done here but handing on. Where a
 //! call is refused its message is dropped, but for the calls that are lent an option.
-ghost use Rattle.std.specs.Prelude.{◌≡◌, ◌≢◌, ◌↔◌, IsSome, IsErrOf, Some, None, Ok, true, codes};
+ghost use Rattle.std.specs.Prelude.{◌≡◌, ◌≢◌, ◌↔◌, IsSome, IsErrOf, Some, None, Ok, true, codes, IfErr};
+ghost use Rattle.kanal.specs.Timed.{StartedNoWait};
 
 use crate::async_receiver::AsyncReceiver;
 use crate::async_sender::AsyncSender;
+use crate::clock::Clock;
 use crate::receiver::Receiver;
 use crate::seat::Core;
 use crate::shared::Shared;
-use kanal_core::error::{CloseError, NewError, SendError, TooMany};
+use kanal_core::error::{CloseError, NewError, SendError, SendErrorTimeout, TooMany};
 use kanal_core::internal::ChannelInternal;
 use std::alloc::Global;
-use std::fmt;
 use std::sync::{Arc, Wait};
+use std::time::Duration;
+use std::{fmt, time};
 
 /// The two first handles over this core.
 fn handles<T: Drop>(alloc: Global, core: Core<T>) -> Result<(Sender<T>, Receiver<T>), NewError>
@@ -171,6 +174,59 @@ impl<T: Drop> Sender<T> {
         ensures kept { result ≢ Ok true → option.new ≡ option.old }
     {
         self.inner.try_send_option_realtime(option)
+    }
+
+    /// Sends the message. Where the buffer is full it waits until a receiver takes the message, the
+    /// channel ends, or the clock reaches the deadline, which is its moment now and the duration
+    /// together; and it waits for the lock.
+    ///
+    /// # Errors
+    /// As `send`, and `Timeout` where the deadline came first, and `DeadlineOutOfRange` where no moment
+    /// is so late; the channel was not looked at then. The message is dropped then.
+    ///
+    /// # Examples
+    /// ```text
+    /// sender.send_timeout(&rt, 7, Duration::from_millis(50), &SystemClock::new(&rt))
+    ///     answers  Err(SendErrorTimeout::Timeout)   where no place came within 50 ms
+    /// ```
+    pub fn send_timeout<R: Wait + time::Clock, C: Clock>(
+        &self,
+        rt: &R,
+        message: T,
+        duration: Duration,
+        clock: &C,
+    ) -> Result<(), SendErrorTimeout> {
+        let mut option = Some(message);
+        self.inner
+            .send_option_timeout(rt, &mut option, duration, clock)
+    }
+
+    /// Sends the option's message as `send_timeout`, and empties the option exactly where it was sent.
+    ///
+    /// The caller knows that the option holds a message.
+    ///
+    /// # Errors
+    /// As `send_timeout`. The option holds the message then.
+    ///
+    /// # Examples
+    /// ```text
+    /// let mut option = Some(7);
+    /// sender.send_option_timeout(&rt, &mut option, Duration::from_nanos(1), &clock)
+    ///     answers  Err(SendErrorTimeout::Timeout)   in a full channel
+    /// option   is  Some(7)
+    /// ```
+    pub fn send_option_timeout<R: Wait + time::Clock, C: Clock>(
+        &self,
+        rt: &R,
+        option: &mut Option<T>,
+        duration: Duration,
+        clock: &C,
+    ) -> Result<(), SendErrorTimeout>
+        requires { IsSome option.old }
+        ensures sent { result ≡ Ok tt → option.new ≡ None }
+        ensures kept { IfErr result (λ e. StartedNoWait e → option.new ≡ option.old) }
+    {
+        self.inner.send_option_timeout(rt, option, duration, clock)
     }
 
     /// One more sender of the channel. Where no sender is left it stays so, and the answer is still

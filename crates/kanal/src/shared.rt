@@ -7,7 +7,8 @@
 //! module takes the lock or touches a notice's counter.
 use crate::seat::{Core, Seat, let_go, settle, settle_all};
 use crate::steps;
-use kanal_core::internal::{Ended, Settled};
+use crossbeam_utils::Backoff;
+use kanal_core::internal::{Ended, Settled, Ticket, Waiter};
 use kanal_core::mutex::Mutex;
 use std::sync::atomic::AtomicU64;
 use std::sync::atomic::Ordering::SeqCst;
@@ -15,6 +16,9 @@ use std::sync::{MutexGuard, Wait};
 
 /// How often a call looks for notices after it released the lock.
 const LOOKS: u32 = 64;
+
+/// How often a call tries a lock that is held before it sleeps.
+const TRIES: u32 = 64;
 
 /// The lock round the core, and how many notices there are of each kind.
 #[derive(Drop)]
@@ -79,7 +83,10 @@ impl<T: Drop> Shared<T> {
     #[inline]
     pub(crate) fn lock<R: Wait>(&self, rt: &R) -> MutexGuard<'_, Core<T>> {
         for _ in rt.forever() {
-            let guard = self.core.lock(rt);
+            let guard = match self.core.try_lock() {
+                Some(guard) => guard,
+                None => self.contend(rt),
+            };
             if self.is_quiet() {
                 return guard;
             }
@@ -88,6 +95,20 @@ impl<T: Drop> Shared<T> {
             }
         }
         unreachable!()
+    }
+
+    /// Waits for a lock that was held: with growing pauses and then yields between the tries, and then
+    /// asleep.
+    #[cold]
+    fn contend<R: Wait>(&self, rt: &R) -> MutexGuard<'_, Core<T>> {
+        let backoff = Backoff::new();
+        for _ in 0..TRIES {
+            backoff.snooze();
+            if let Some(guard) = self.core.try_lock() {
+                return guard;
+            }
+        }
+        self.core.lock(rt)
     }
 
     /// Tries to get the lock, with no notice left to apply; `None` where it is held.
@@ -189,6 +210,20 @@ impl<T: Drop> Shared<T> {
             let held = self.catch_up(guard);
             drop(held);
         }
+    }
+
+    /// Withdraws the wait with the ticket; its message, if it had one, and `None` if it doesn't wait.
+    pub(crate) fn withdraw<R: Wait>(&self, rt: &R, ticket: Ticket) -> Option<Option<T>> {
+        let mut guard = self.lock(rt);
+        let found = guard.withdraw(ticket);
+        self.unlock(guard);
+        let Waiter {
+            ticket: _,
+            message,
+            w,
+        } = found?;
+        drop(w);
+        Some(message)
     }
 
     /// A sender goes away: it waits for nobody.

@@ -11,10 +11,10 @@ ghost use Rattle.kanal_core.specs.Waiters.{sender_first};
 ghost use Rattle.kanal_core.specs.Calls.{IsFull, IsEmpty, MovesTo, OldestLeft};
 ghost use Rattle.kanal_core.specs.declared.internal.outcome.Waiter.{Waiter};
 ghost use Rattle.kanal.specs.Leaving.{LeaveInTurn, entry_of, kept_by, kept_from};
-ghost use Rattle.kanal.specs.Steps.{Boxed, TriesToSend, TriesToReceive, Sends, SendSeats, Receives, ReceiveSeats, all_of, times};
+ghost use Rattle.kanal.specs.Steps.{Boxed, TriesToSend, TriesToReceive, Sends, SendSeats, ReceivesLate, Receives, ReceiveSeats, all_of, times};
 
 use crate::seat::{Core, Seat};
-use kanal_core::error::{DrainError, ReceiveError, SendError, WaitError};
+use kanal_core::error::{DrainError, ReceiveError, ReceiveErrorTimeout, SendError, WaitError};
 use kanal_core::internal::{Ended, Offer, Settled, Take, Ticket, Waiter};
 
 /// What a call that doesn't wait answers, and the wait that its step settled.
@@ -102,6 +102,22 @@ pub(crate) fn try_recv<T: Drop>(core: &mut Core<T>) -> Tried<T, Result<Option<T>
         Take::Empty => Tried::of(Ok(None)),
         Take::Closed => Tried::of(Err(ReceiveError::Closed)),
         Take::SendClosed => Tried::of(Err(ReceiveError::SendClosed)),
+    }
+}
+
+/// Takes the front message for a call whose deadline has passed.
+pub(crate) fn recv_late<T: Drop>(core: &mut Core<T>) -> Tried<T, Result<T, ReceiveErrorTimeout>>
+    ensures step { ReceivesLate (line_of core.old) result.answer (settlements result.settled) (line_of core.new) }
+    ensures waiter { OldestLeft core.old.waiters result.settled core.new.waiters }
+{
+    match core.take() {
+        Take::Got(message, settled) => Tried {
+            answer: Ok(message),
+            settled,
+        },
+        Take::Closed => Tried::of(Err(ReceiveErrorTimeout::Closed)),
+        Take::Empty => Tried::of(Err(ReceiveErrorTimeout::Timeout)),
+        Take::SendClosed => Tried::of(Err(ReceiveErrorTimeout::Timeout)),
     }
 }
 

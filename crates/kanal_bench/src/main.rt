@@ -2,18 +2,21 @@
 //!
 //! `kanal_bench SCENARIO CAPACITY COUNT`: SCENARIO is `seq` (one thread sends and receives in turn),
 //! `spsc` (one thread sends, one receives), `mpsc` (four send, one receives) or `mpmc` (four send,
-//! four receive). CAPACITY is a number, or `u` for a channel without limit. Each of k senders sends
+//! four receive). A further one, `wait`, waits for a message that nobody sends, for COUNT milliseconds of
+//! the system's clock, and prints how that ended. CAPACITY is a number, or `u` for a channel without limit. Each of k senders sends
 //! the numbers 0, 1, .. below COUNT / k. It joins all threads before it prints.
 #![tactic(auto)]
 
 ghost use Rattle.std.specs.Prelude.{◌<◌};
 
 use anyhow::{Result, anyhow, bail};
-use kanal::{Receiver, Sender};
+use kanal::error::ReceiveErrorTimeout;
+use kanal::{Receiver, Sender, SystemClock};
 use std::alloc::Global;
 use std::sync::Wait;
 use std::thread::{JoinHandle, Threads};
-use std::{env, thread};
+use std::time::Duration;
+use std::{env, thread, time};
 
 /// The two ends of the channel that is measured.
 type Ends = (Sender<u64>, Receiver<u64>);
@@ -56,6 +59,19 @@ fn in_turn<R: Wait>(rt: &R, ends: Ends, count: u64) -> Result<u64> {
         sum = sum.wrapping_add(receiver.recv(rt)?);
     }
     Ok(sum)
+}
+
+/// Waits for a message that nobody sends, and tells how that ended.
+fn wait<R: Wait + time::Clock>(rt: &R, ends: Ends, milliseconds: u64) -> &'static str {
+    let (sender, receiver) = ends;
+    let clock = SystemClock::new(rt);
+    let got = receiver.recv_timeout(rt, Duration::from_millis(milliseconds), &clock);
+    drop(sender);
+    match got {
+        Err(ReceiveErrorTimeout::Timeout) => "timeout",
+        Err(ReceiveErrorTimeout::DeadlineOutOfRange) => "deadline out of range",
+        _ => "no timeout",
+    }
 }
 
 /// Starts so many threads that send, each through a clone.
@@ -130,7 +146,7 @@ fn main(rt: HostRuntime) -> Result<()> {
     let _program = args.next();
     let (Some(scenario), Some(capacity), Some(count)) = (args.next(), args.next(), args.next())
     else {
-        bail!("usage: kanal_bench seq|spsc|mpsc|mpmc CAPACITY|u COUNT");
+        bail!("usage: kanal_bench seq|spsc|mpsc|mpmc|wait CAPACITY|u COUNT");
     };
     let Ok(count) = count.parse::<u64>() else {
         bail!("the count is a number");
@@ -139,10 +155,11 @@ fn main(rt: HostRuntime) -> Result<()> {
     let (senders, receivers) = match scenario.as_str() {
         "seq" if capacity.as_str() == "0" => bail!("seq wants a capacity above 0"),
         "seq" => return Ok(println!(rt; "{}", in_turn(&rt, ends, count)?)?),
+        "wait" => return Ok(println!(rt; "{}", wait(&rt, ends, count))?),
         "spsc" => (1, 1),
         "mpsc" => (4, 1),
         "mpmc" => (4, 4),
-        _ => bail!("the scenario is seq, spsc, mpsc or mpmc"),
+        _ => bail!("the scenario is seq, spsc, mpsc, mpmc or wait"),
     };
     let crowd = Crowd { senders, receivers };
     println!(rt; "{}", in_threads(rt, alloc, ends, crowd, count)?)?;

@@ -1,0 +1,61 @@
+//! Clocks for timed calls: the trait by which one is handed in, and the system's.
+//!
+//! Stands on nothing of the channel. A timed call reads its clock with the lock released.
+use std::time;
+use std::time::{Duration, Instant};
+
+/// Tells the moments by which a timed call measures its deadline.
+///
+/// # Examples
+/// ```text
+/// struct Still;
+/// impl Clock for Still {
+///     fn now(&self) -> u64 { 0 }
+/// }
+/// sender.send_timeout(&rt, 7, Duration::from_nanos(1), &Still)
+/// ```
+pub trait Clock {
+    /// The moment now, in nanoseconds from a start of the clock's own choice.
+    fn now(&self) -> u64;
+}
+
+/// The system's monotonic clock. Its moments are the nanoseconds since it was made.
+///
+/// Where the system's clock can't be read the moment is `u64::MAX`, so that waits end.
+///
+/// # Examples
+/// ```text
+/// let clock = SystemClock::new(&rt);
+/// receiver.recv_timeout(&rt, Duration::from_millis(50), &clock)
+/// ```
+#[derive(Drop)]
+pub struct SystemClock<'a, R: time::Clock> {
+    rt: &'a R,
+    start: Option<Instant>,
+}
+
+impl<'a, R: time::Clock> SystemClock<'a, R> {
+    /// A clock that begins now.
+    pub fn new(rt: &'a R) -> Self {
+        let start = Instant::now(rt).ok();
+        SystemClock { rt, start }
+    }
+}
+
+impl<R: time::Clock> Clock for SystemClock<'_, R> {
+    fn now(&self) -> u64 {
+        let Some(start) = self.start else {
+            return u64::MAX;
+        };
+        match start.elapsed(self.rt) {
+            Ok(passed) => u64::try_from(passed.as_nanos()).unwrap_or(u64::MAX),
+            Err(_) => u64::MAX,
+        }
+    }
+}
+
+/// The moment at which a wait of this duration ends; `None` where no moment is so late.
+pub(crate) fn deadline<C: Clock>(clock: &C, duration: Duration) -> Option<u64> {
+    let nanos = u64::try_from(duration.as_nanos()).ok()?;
+    clock.now().checked_add(nanos)
+}

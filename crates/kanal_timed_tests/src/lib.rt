@@ -1,0 +1,12 @@
+//! Tests of timed calls: rows with clocks of their own, a deadline that meets a receiver, and the
+//! system's clock.
+#![tactic(auto)]
+
+#[cfg(test)]
+mod clocks;
+#[cfg(test)]
+mod meets;
+#[cfg(test)]
+mod receives;
+#[cfg(test)]
+mod sends;

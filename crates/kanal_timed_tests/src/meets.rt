@@ -1,0 +1,112 @@
+//! A deadline that meets a receiver: each message is received once or given up once.
+use kanal::error::SendErrorTimeout;
+use kanal::{Clock, Sender, bounded};
+use std::alloc::{AllocError, Global};
+use std::cell::Cell;
+use std::sync::atomic::AtomicU64;
+use std::sync::atomic::Ordering::SeqCst;
+use std::sync::{Arc, Wait};
+use std::test::Fail;
+use std::thread::{JoinHandle, Threads};
+use std::time::Duration;
+use std::{thread, time};
+
+/// How many messages are sent.
+const ROUNDS: u64 = 10_000;
+
+/// How often the receiver looks for a message at most.
+const TURNS: u64 = 1_000_000_000;
+
+/// A message that counts its drops.
+struct Counted {
+    drops: Arc<AtomicU64, Global>,
+}
+
+impl Drop for Counted {
+    fn drop(self) {
+        let Counted { drops } = self;
+        drops.fetch_add(1, SeqCst);
+    }
+}
+
+/// A clock that stands at 0 for so many reads, and then at 1.
+#[derive(Drop)]
+struct Crossing {
+    reads: Cell<u64>,
+}
+
+impl Clock for Crossing {
+    fn now(&self) -> u64 {
+        let left = self.reads.get();
+        self.reads.set(left.saturating_sub(1));
+        if left == 0 { 1 } else { 0 }
+    }
+}
+
+/// How often the clock of a round is read before it crosses the deadline. In the first round nobody
+/// receives yet, so it times out; the clock of the second never crosses, so it is received.
+fn reads_of(round: u64) -> u64 {
+    match round {
+        0 => 1,
+        1 => u64::MAX,
+        _ => 1 + round % 97,
+    }
+}
+
+/// Sends the messages, each by a deadline; answers how many were given up.
+fn send_all<R: Wait + time::Clock>(
+    rt: &R,
+    sender: &Sender<Counted>,
+    drops: &Arc<AtomicU64, Global>,
+) -> u64 {
+    let mut given_up = 0u64;
+    for round in 0..ROUNDS {
+        let Ok(drops) = Arc::try_clone(drops) else {
+            return given_up;
+        };
+        let clock = Crossing {
+            reads: Cell::new(reads_of(round)),
+        };
+        let message = Counted { drops };
+        let sent = sender.send_timeout(rt, message, Duration::from_nanos(1), &clock);
+        if sent == Err(SendErrorTimeout::Timeout) {
+            given_up = given_up.wrapping_add(1);
+        }
+    }
+    given_up
+}
+
+fn start<R: Threads + Wait + time::Clock + Copy + Send + 'static>(
+    rt: R,
+    sender: Sender<Counted>,
+    drops: Arc<AtomicU64, Global>,
+) -> Result<JoinHandle<u64>, AllocError> {
+    let thread = thread::spawn(&rt, move || send_all(&rt, &sender, &drops))?;
+    Ok(thread)
+}
+
+#[test]
+fn a_deadline_meets_a_receiver(rt: HostRuntime) -> Result<(), Fail> {
+    let drops = Arc::new(rt.alloc(), AtomicU64::new(0))?;
+    let (sender, receiver) = bounded::<Counted>(rt.alloc(), 0)?;
+    let thread = start(rt, sender, Arc::try_clone(&drops)?)?;
+    for _ in 0..TURNS {
+        if drops.load(SeqCst) == 1 {
+            break;
+        }
+    }
+    let mut received = 0u64;
+    for _ in 0..TURNS {
+        match receiver.try_recv(&rt) {
+            Ok(Some(_message)) => received = received.wrapping_add(1),
+            Ok(None) => {},
+            Err(_) => break,
+        }
+    }
+    let given_up = thread.join(&rt);
+    assert!(rt; received > 0);
+    assert!(rt; given_up > 0);
+    assert_eq!(rt; received.wrapping_add(given_up), ROUNDS);
+    assert_eq!(rt; drops.load(SeqCst), ROUNDS);
+    Ok(())
+}

@@ -73,19 +73,19 @@ impl<T: Drop> AsyncReceiver<T> {
 
     /// Takes the front message, if there is one.
     pub(crate) fn try_recv<R: Wait>(&self, rt: &R) -> Result<Option<T>, ReceiveError> {
-        let mut guard = self.shared.lock(rt);
-        let Tried { answer, settled } = steps::try_recv(&mut guard);
-        self.shared.release(guard, settled);
+        let mut held = self.shared.lock(rt);
+        let Tried { answer, settled } = steps::try_recv(&mut held.core);
+        self.shared.release(held, settled);
         answer
     }
 
     /// Takes the front message, if there is one and the lock is free.
     pub(crate) fn try_recv_realtime(&self) -> Result<Option<T>, ReceiveError> {
-        let Some(mut guard) = self.shared.try_lock() else {
+        let Some(mut held) = self.shared.try_lock() else {
             return Ok(None);
         };
-        let Tried { answer, settled } = steps::try_recv(&mut guard);
-        self.shared.release(guard, settled);
+        let Tried { answer, settled } = steps::try_recv(&mut held.core);
+        self.shared.release(held, settled);
         answer
     }
 
@@ -98,14 +98,14 @@ impl<T: Drop> AsyncReceiver<T> {
         ensures drained { IfOk result (λ n. (more : List T) × (into.new.items ≡ into.old.items ++ more) × (length more ≡ n)) }
         ensures refused { IfErr result (λ _. into.new.items ≡ into.old.items) }
     {
-        let mut guard = self.shared.lock(rt);
-        match steps::drain(&mut guard, into) {
+        let mut held = self.shared.lock(rt);
+        match steps::drain(&mut held.core, into) {
             Ok((count, ended)) => {
-                self.shared.release_all(guard, ended);
+                self.shared.release_all(held, ended);
                 Ok(count)
             },
             Err(error) => {
-                self.shared.unlock(guard);
+                self.shared.unlock(held);
                 Err(error)
             },
         }
@@ -124,18 +124,18 @@ impl<T: Drop> AsyncReceiver<T> {
         let Some((waiting, seat)) = wait(self.alloc) else {
             return Err(ReceiveError::NoMemory);
         };
-        let mut guard = self.shared.lock(rt);
-        match steps::recv(&mut guard, seat) {
+        let mut held = self.shared.lock(rt);
+        match steps::recv(&mut held.core, seat) {
             Received::Got(message, settled, _seat) => {
-                self.shared.release(guard, settled);
+                self.shared.release(held, settled);
                 Ok(message)
             },
             Received::Waits(_ticket) => {
-                self.shared.unlock(guard);
+                self.shared.unlock(held);
                 answer_of(waiting.outcome(rt))
             },
             Received::Refused(error, _seat) => {
-                self.shared.unlock(guard);
+                self.shared.unlock(held);
                 Err(error)
             },
         }
@@ -165,9 +165,9 @@ impl<T: Drop> AsyncReceiver<T> {
 
     /// Takes the front message after the deadline.
     fn recv_late<R: Wait>(&self, rt: &R) -> Result<T, ReceiveErrorTimeout> {
-        let mut guard = self.shared.lock(rt);
-        let Tried { answer, settled } = steps::recv_late(&mut guard);
-        self.shared.release(guard, settled);
+        let mut held = self.shared.lock(rt);
+        let Tried { answer, settled } = steps::recv_late(&mut held.core);
+        self.shared.release(held, settled);
         answer
     }
 
@@ -181,19 +181,19 @@ impl<T: Drop> AsyncReceiver<T> {
         let Some((waiting, seat)) = wait(self.alloc) else {
             return Err(ReceiveErrorTimeout::NoMemory);
         };
-        let mut guard = self.shared.lock(rt);
-        match steps::recv(&mut guard, seat) {
+        let mut held = self.shared.lock(rt);
+        match steps::recv(&mut held.core, seat) {
             Received::Got(message, settled, _seat) => {
-                self.shared.release(guard, settled);
+                self.shared.release(held, settled);
                 Ok(message)
             },
             Received::Waits(ticket) => {
-                self.shared.unlock(guard);
+                self.shared.unlock(held);
                 let looked = waiting.outcome_until(rt, clock, deadline);
                 self.end_wait(rt, ticket, looked)
             },
             Received::Refused(error, _seat) => {
-                self.shared.unlock(guard);
+                self.shared.unlock(held);
                 Err(timed(error))
             },
         }

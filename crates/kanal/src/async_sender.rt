@@ -113,9 +113,9 @@ impl<T: Drop> AsyncSender<T> {
         ensures sent { result ≡ Ok true → option.new ≡ None }
         ensures kept { result ≢ Ok true → option.new ≡ option.old }
     {
-        let mut guard = self.shared.lock(rt);
-        let Tried { answer, settled } = steps::try_send(&mut guard, option);
-        self.shared.release(guard, settled);
+        let mut held = self.shared.lock(rt);
+        let Tried { answer, settled } = steps::try_send(&mut held.core, option);
+        self.shared.release(held, settled);
         answer
     }
 
@@ -125,11 +125,11 @@ impl<T: Drop> AsyncSender<T> {
         ensures sent { result ≡ Ok true → option.new ≡ None }
         ensures kept { result ≢ Ok true → option.new ≡ option.old }
     {
-        let Some(mut guard) = self.shared.try_lock() else {
+        let Some(mut held) = self.shared.try_lock() else {
             return Ok(false);
         };
-        let Tried { answer, settled } = steps::try_send(&mut guard, option);
-        self.shared.release(guard, settled);
+        let Tried { answer, settled } = steps::try_send(&mut held.core, option);
+        self.shared.release(held, settled);
         answer
     }
 
@@ -150,18 +150,18 @@ impl<T: Drop> AsyncSender<T> {
         let Some((waiting, seat)) = wait(self.alloc) else {
             return Err(SendError::NoMemory);
         };
-        let mut guard = self.shared.lock(rt);
-        match steps::send(&mut guard, message, seat) {
+        let mut held = self.shared.lock(rt);
+        match steps::send(&mut held.core, message, seat) {
             Sent::Entered(settled, _seat) => {
-                self.shared.release(guard, settled);
+                self.shared.release(held, settled);
                 Ok(())
             },
             Sent::Waits(_ticket) => {
-                self.shared.unlock(guard);
+                self.shared.unlock(held);
                 answer_of(waiting.outcome(rt))
             },
             Sent::Refused(error, _message, _seat) => {
-                self.shared.unlock(guard);
+                self.shared.unlock(held);
                 Err(error)
             },
         }
@@ -209,19 +209,19 @@ impl<T: Drop> AsyncSender<T> {
         let Some(message) = option.take() else {
             unreachable!()
         };
-        let mut guard = self.shared.lock(rt);
-        match steps::send(&mut guard, message, seat) {
+        let mut held = self.shared.lock(rt);
+        match steps::send(&mut held.core, message, seat) {
             Sent::Entered(settled, _seat) => {
-                self.shared.release(guard, settled);
+                self.shared.release(held, settled);
                 Ok(())
             },
             Sent::Waits(ticket) => {
-                self.shared.unlock(guard);
+                self.shared.unlock(held);
                 let looked = waiting.outcome_until(rt, clock, deadline);
                 self.end_wait(rt, ticket, looked, option)
             },
             Sent::Refused(error, back, _seat) => {
-                self.shared.unlock(guard);
+                self.shared.unlock(held);
                 *option = Some(back);
                 Err(timed(error))
             },

@@ -11,6 +11,8 @@ use std::time::Duration;
 use std::{fmt, time};
 
 #[cfg(test)]
+mod ended;
+#[cfg(test)]
 mod held;
 
 /// Receives messages of a channel.

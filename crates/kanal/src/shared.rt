@@ -2,9 +2,8 @@
 //! not wait for the lock.
 //!
 //! Stands on the lock, the steps and the seats. Whoever gets the lock applies all notices before its
-//! own step, and settles with the lock released what they took out; whoever releases it settles what
-//! its own step settled, and then looks for new ones. No other
-//! module takes the lock or touches a notice's counter.
+//! own step; whoever releases it settles what they took out and then what its own step settled, and
+//! looks for new ones. No other module takes the lock or touches a notice's counter.
 use crate::seat::{Core, Seat, let_go, settle, settle_all};
 use crate::steps;
 use crossbeam_utils::Backoff;
@@ -29,7 +28,14 @@ pub struct Shared<T> {
     receivers: AtomicU64,
 }
 
-/// What applying the notices took out of the core.
+/// The lock, held, and what applying the notices took out of the core.
+#[derive(Drop)]
+pub(crate) struct Held<'a, T> {
+    pub(crate) core: MutexGuard<'a, Core<T>>,
+    leaving: Option<Leaving<T>>,
+}
+
+/// What applying the notices took out of the core: entries that left, and waits that ended.
 #[derive(Drop)]
 struct Leaving<T> {
     gone: Option<Box<Seat<T>>>,
@@ -38,12 +44,8 @@ struct Leaving<T> {
 }
 
 impl<T: Drop> Leaving<T> {
-    /// Whether nothing left.
-    fn is_nothing(&self) -> bool {
-        self.gone.is_none() && self.senders.is_none() && self.receivers.is_none()
-    }
-
     /// Lets go of what left, and settles what ended. The lock is released.
+    #[cold]
     fn settle(self) {
         let Leaving {
             gone,
@@ -56,6 +58,18 @@ impl<T: Drop> Leaving<T> {
         }
         if let Some(ended) = receivers {
             settle_all(ended);
+        }
+    }
+}
+
+impl<T: Drop> Held<'_, T> {
+    /// Releases the lock, and settles what the notices took out.
+    #[inline]
+    fn free(self) {
+        let Held { core, leaving } = self;
+        drop(core);
+        if let Some(leaving) = leaving {
+            leaving.settle();
         }
     }
 }
@@ -79,22 +93,13 @@ impl<T: Drop> Shared<T> {
         }
     }
 
-    /// Waits for the lock, with no notice left to apply.
+    /// Waits for the lock, and applies the notices.
     #[inline]
-    pub(crate) fn lock<R: Wait>(&self, rt: &R) -> MutexGuard<'_, Core<T>> {
-        for _ in rt.forever() {
-            let guard = match self.core.try_lock() {
-                Some(guard) => guard,
-                None => self.contend(rt),
-            };
-            if self.is_quiet() {
-                return guard;
-            }
-            if let Some(guard) = self.catch_up(guard) {
-                return guard;
-            }
+    pub(crate) fn lock<R: Wait>(&self, rt: &R) -> Held<'_, T> {
+        match self.core.try_lock() {
+            Some(core) => self.hold(core),
+            None => self.hold(self.contend(rt)),
         }
-        unreachable!()
     }
 
     /// Waits for a lock that was held: with growing pauses and then yields between the tries, and then
@@ -111,34 +116,27 @@ impl<T: Drop> Shared<T> {
         self.core.lock(rt)
     }
 
-    /// Tries to get the lock, with no notice left to apply; `None` where it is held.
-    pub(crate) fn try_lock(&self) -> Option<MutexGuard<'_, Core<T>>> {
-        for _ in 0..LOOKS {
-            let guard = self.core.try_lock()?;
-            if self.is_quiet() {
-                return Some(guard);
-            }
-            if let Some(guard) = self.catch_up(guard) {
-                return Some(guard);
-            }
-        }
-        None
+    /// Tries once to get the lock, and applies the notices; `None` where it is held.
+    #[inline]
+    pub(crate) fn try_lock(&self) -> Option<Held<'_, T>> {
+        let core = self.core.try_lock()?;
+        Some(self.hold(core))
     }
 
-    /// Applies the notices. Where they take something out, the lock is released, and that is settled.
-    #[cold]
-    fn catch_up<'a>(&self, guard: MutexGuard<'a, Core<T>>) -> Option<MutexGuard<'a, Core<T>>> {
-        let mut guard = guard;
-        let leaving = self.apply(&mut guard);
-        if leaving.is_nothing() {
-            return Some(guard);
+    /// The lock with no notice left to apply.
+    #[inline]
+    fn hold<'a>(&self, core: MutexGuard<'a, Core<T>>) -> Held<'a, T> {
+        if self.is_quiet() {
+            let leaving = None;
+            return Held { core, leaving };
         }
-        drop(guard);
-        leaving.settle();
-        None
+        let mut core = core;
+        let leaving = Some(self.apply(&mut core));
+        Held { core, leaving }
     }
 
     /// Applies all notices: first those of left waits, then the senders', then the receivers'.
+    #[cold]
     fn apply(&self, core: &mut Core<T>) -> Leaving<T> {
         let gone = if emptied(&self.left) == 0 {
             None
@@ -156,8 +154,8 @@ impl<T: Drop> Shared<T> {
 
     /// Releases the lock, and looks for new notices.
     #[inline]
-    pub(crate) fn unlock(&self, guard: MutexGuard<'_, Core<T>>) {
-        drop(guard);
+    pub(crate) fn unlock(&self, held: Held<'_, T>) {
+        held.free();
         if !self.is_quiet() {
             self.look();
         }
@@ -167,10 +165,10 @@ impl<T: Drop> Shared<T> {
     #[inline]
     pub(crate) fn release(
         &self,
-        guard: MutexGuard<'_, Core<T>>,
+        held: Held<'_, T>,
         settled: Option<Settled<T, Box<Seat<T>>>>,
     ) {
-        drop(guard);
+        held.free();
         if let Some(one) = settled {
             settle(one);
         }
@@ -182,10 +180,10 @@ impl<T: Drop> Shared<T> {
     /// Releases the lock, settles the waits that the call's step ended, and looks for new notices.
     pub(crate) fn release_all(
         &self,
-        guard: MutexGuard<'_, Core<T>>,
+        held: Held<'_, T>,
         ended: Ended<T, Box<Seat<T>>>,
     ) {
-        drop(guard);
+        held.free();
         settle_all(ended);
         self.look();
     }
@@ -204,19 +202,18 @@ impl<T: Drop> Shared<T> {
             if self.is_quiet() {
                 return;
             }
-            let Some(guard) = self.core.try_lock() else {
+            let Some(held) = self.try_lock() else {
                 return;
             };
-            let held = self.catch_up(guard);
-            drop(held);
+            held.free();
         }
     }
 
     /// Withdraws the wait with the ticket; its message, if it had one, and `None` if it doesn't wait.
     pub(crate) fn withdraw<R: Wait>(&self, rt: &R, ticket: Ticket) -> Option<Option<T>> {
-        let mut guard = self.lock(rt);
-        let found = guard.withdraw(ticket);
-        self.unlock(guard);
+        let mut held = self.lock(rt);
+        let found = held.core.withdraw(ticket);
+        self.unlock(held);
         let Waiter {
             ticket: _,
             message,
@@ -229,9 +226,9 @@ impl<T: Drop> Shared<T> {
     /// A sender goes away: it waits for nobody.
     pub(crate) fn drop_sender(&self) {
         match self.try_lock() {
-            Some(mut guard) => {
-                let ended = guard.drop_sender();
-                self.release_all(guard, ended);
+            Some(mut held) => {
+                let ended = held.core.drop_sender();
+                self.release_all(held, ended);
             },
             None => {
                 self.senders.fetch_add(1, SeqCst);
@@ -243,9 +240,9 @@ impl<T: Drop> Shared<T> {
     /// A receiver goes away: it waits for nobody.
     pub(crate) fn drop_receiver(&self) {
         match self.try_lock() {
-            Some(mut guard) => {
-                let ended = guard.drop_receiver();
-                self.release_all(guard, ended);
+            Some(mut held) => {
+                let ended = held.core.drop_receiver();
+                self.release_all(held, ended);
             },
             None => {
                 self.receivers.fetch_add(1, SeqCst);

@@ -2,7 +2,7 @@
 //!
 //! Each call answers as with ample memory, or with a want of memory that left things as they were;
 //! then it is made again. The status is 0 where that is so of every call, and else 1.
-//! `scripts/refuse-core-requests` runs it with one request after another refused.
+//! `scripts/refuse-call-requests kanal_refusals` runs it with one request after another refused.
 #![tactic(auto)]
 
 mod calls;

@@ -5,6 +5,8 @@
 #[cfg(test)]
 mod clocks;
 #[cfg(test)]
+mod counted;
+#[cfg(test)]
 mod meets;
 #[cfg(test)]
 mod receives;

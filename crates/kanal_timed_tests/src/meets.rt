@@ -1,4 +1,5 @@
 //! A deadline that meets a receiver: each message is received once or given up once.
+use crate::counted::Counted;
 use kanal::error::SendErrorTimeout;
 use kanal::{Clock, Sender, bounded};
 use std::alloc::{AllocError, Global};
@@ -16,18 +17,6 @@ const ROUNDS: u64 = 10_000;
 
 /// How often the receiver looks for a message at most.
 const TURNS: u64 = 1_000_000_000;
-
-/// A message that counts its drops.
-struct Counted {
-    drops: Arc<AtomicU64, Global>,
-}
-
-impl Drop for Counted {
-    fn drop(self) {
-        let Counted { drops } = self;
-        drops.fetch_add(1, SeqCst);
-    }
-}
 
 /// A clock that stands at 0 for so many reads, and then at 1.
 #[derive(Drop)]
@@ -67,8 +56,7 @@ fn send_all<R: Wait + time::Clock>(
         let clock = Crossing {
             reads: Cell::new(reads_of(round)),
         };
-        let message = Counted { drops };
-        let sent = sender.send_timeout(rt, message, Duration::from_nanos(1), &clock);
+        let sent = sender.send_timeout(rt, Counted::new(drops), Duration::from_nanos(1), &clock);
         if sent == Err(SendErrorTimeout::Timeout) {
             given_up = given_up.wrapping_add(1);
         }

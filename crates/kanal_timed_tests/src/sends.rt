@@ -1,7 +1,11 @@
 //! Timed sends.
 use crate::clocks::{Dropping, Still};
+use crate::counted::Counted;
 use kanal::bounded;
 use kanal::error::SendErrorTimeout;
+use std::sync::Arc;
+use std::sync::atomic::AtomicU64;
+use std::sync::atomic::Ordering::SeqCst;
 use std::test::Fail;
 use std::time::Duration;
 
@@ -74,6 +78,22 @@ fn a_send_to_a_full_channel_times_out(rt: HostRuntime) -> Result<(), Fail> {
         sender.send_timeout(&rt, 8, Duration::from_nanos(0), &Still(0)),
         Err(SendErrorTimeout::Timeout)
     );
+    assert_eq!(rt; sender.len(&rt), 1);
+    Ok(())
+}
+
+#[test]
+fn a_message_is_dropped_once_at_its_deadline(rt: HostRuntime) -> Result<(), Fail> {
+    let drops = Arc::new(rt.alloc(), AtomicU64::new(0))?;
+    let kept = Counted::new(Arc::new(rt.alloc(), AtomicU64::new(0))?);
+    let (sender, _receiver) = bounded::<Counted>(rt.alloc(), 1)?;
+    assert_eq!(rt; sender.send(&rt, kept), Ok(()));
+    let late = Counted::new(Arc::try_clone(&drops)?);
+    assert_eq!(rt;
+        sender.send_timeout(&rt, late, Duration::from_nanos(0), &Still(0)),
+        Err(SendErrorTimeout::Timeout)
+    );
+    assert_eq!(rt; drops.load(SeqCst), 1);
     assert_eq!(rt; sender.len(&rt), 1);
     Ok(())
 }

@@ -73,9 +73,9 @@ impl<T: Drop> AsyncReceiver<T> {
 
     /// Takes the front message, if there is one.
     pub(crate) fn try_recv<R: Wait>(&self, rt: &R) -> Result<Option<T>, ReceiveError> {
-        let mut held = self.shared.lock(rt);
-        let Tried { answer, settled } = steps::try_recv(&mut held.core);
-        self.shared.release(held, settled);
+        let mut guard = self.shared.lock(rt);
+        let Tried { answer, settled } = steps::try_recv(&mut guard);
+        self.shared.release(guard, settled);
         answer
     }
 
@@ -85,7 +85,7 @@ impl<T: Drop> AsyncReceiver<T> {
             return Ok(None);
         };
         let Tried { answer, settled } = steps::try_recv(&mut held.core);
-        self.shared.release(held, settled);
+        self.shared.release_held(held, settled);
         answer
     }
 
@@ -98,14 +98,14 @@ impl<T: Drop> AsyncReceiver<T> {
         ensures drained { IfOk result (λ n. (more : List T) × (into.new.items ≡ into.old.items ++ more) × (length more ≡ n)) }
         ensures refused { IfErr result (λ _. into.new.items ≡ into.old.items) }
     {
-        let mut held = self.shared.lock(rt);
-        match steps::drain(&mut held.core, into) {
+        let mut guard = self.shared.lock(rt);
+        match steps::drain(&mut guard, into) {
             Ok((count, ended)) => {
-                self.shared.release_all(held, ended);
+                self.shared.release_all(guard, ended);
                 Ok(count)
             },
             Err(error) => {
-                self.shared.unlock(held);
+                self.shared.unlock(guard);
                 Err(error)
             },
         }
@@ -124,18 +124,18 @@ impl<T: Drop> AsyncReceiver<T> {
         let Some((waiting, seat)) = wait(self.alloc) else {
             return Err(ReceiveError::NoMemory);
         };
-        let mut held = self.shared.lock(rt);
-        match steps::recv(&mut held.core, seat) {
+        let mut guard = self.shared.lock(rt);
+        match steps::recv(&mut guard, seat) {
             Received::Got(message, settled, _seat) => {
-                self.shared.release(held, settled);
+                self.shared.release(guard, settled);
                 Ok(message)
             },
             Received::Waits(_ticket) => {
-                self.shared.unlock(held);
+                self.shared.unlock(guard);
                 answer_of(waiting.outcome(rt))
             },
             Received::Refused(error, _seat) => {
-                self.shared.unlock(held);
+                self.shared.unlock(guard);
                 Err(error)
             },
         }
@@ -165,9 +165,9 @@ impl<T: Drop> AsyncReceiver<T> {
 
     /// Takes the front message after the deadline.
     fn recv_late<R: Wait>(&self, rt: &R) -> Result<T, ReceiveErrorTimeout> {
-        let mut held = self.shared.lock(rt);
-        let Tried { answer, settled } = steps::recv_late(&mut held.core);
-        self.shared.release(held, settled);
+        let mut guard = self.shared.lock(rt);
+        let Tried { answer, settled } = steps::recv_late(&mut guard);
+        self.shared.release(guard, settled);
         answer
     }
 
@@ -181,19 +181,19 @@ impl<T: Drop> AsyncReceiver<T> {
         let Some((waiting, seat)) = wait(self.alloc) else {
             return Err(ReceiveErrorTimeout::NoMemory);
         };
-        let mut held = self.shared.lock(rt);
-        match steps::recv(&mut held.core, seat) {
+        let mut guard = self.shared.lock(rt);
+        match steps::recv(&mut guard, seat) {
             Received::Got(message, settled, _seat) => {
-                self.shared.release(held, settled);
+                self.shared.release(guard, settled);
                 Ok(message)
             },
             Received::Waits(ticket) => {
-                self.shared.unlock(held);
+                self.shared.unlock(guard);
                 let looked = waiting.outcome_until(rt, clock, deadline);
                 self.end_wait(rt, ticket, looked)
             },
             Received::Refused(error, _seat) => {
-                self.shared.unlock(held);
+                self.shared.unlock(guard);
                 Err(timed(error))
             },
         }

@@ -113,9 +113,9 @@ impl<T: Drop> AsyncSender<T> {
         ensures sent { result ≡ Ok true → option.new ≡ None }
         ensures kept { result ≢ Ok true → option.new ≡ option.old }
     {
-        let mut held = self.shared.lock(rt);
-        let Tried { answer, settled } = steps::try_send(&mut held.core, option);
-        self.shared.release(held, settled);
+        let mut guard = self.shared.lock(rt);
+        let Tried { answer, settled } = steps::try_send(&mut guard, option);
+        self.shared.release(guard, settled);
         answer
     }
 
@@ -129,7 +129,7 @@ impl<T: Drop> AsyncSender<T> {
             return Ok(false);
         };
         let Tried { answer, settled } = steps::try_send(&mut held.core, option);
-        self.shared.release(held, settled);
+        self.shared.release_held(held, settled);
         answer
     }
 
@@ -150,18 +150,18 @@ impl<T: Drop> AsyncSender<T> {
         let Some((waiting, seat)) = wait(self.alloc) else {
             return Err(SendError::NoMemory);
         };
-        let mut held = self.shared.lock(rt);
-        match steps::send(&mut held.core, message, seat) {
+        let mut guard = self.shared.lock(rt);
+        match steps::send(&mut guard, message, seat) {
             Sent::Entered(settled, _seat) => {
-                self.shared.release(held, settled);
+                self.shared.release(guard, settled);
                 Ok(())
             },
             Sent::Waits(_ticket) => {
-                self.shared.unlock(held);
+                self.shared.unlock(guard);
                 answer_of(waiting.outcome(rt))
             },
             Sent::Refused(error, _message, _seat) => {
-                self.shared.unlock(held);
+                self.shared.unlock(guard);
                 Err(error)
             },
         }
@@ -209,19 +209,19 @@ impl<T: Drop> AsyncSender<T> {
         let Some(message) = option.take() else {
             unreachable!()
         };
-        let mut held = self.shared.lock(rt);
-        match steps::send(&mut held.core, message, seat) {
+        let mut guard = self.shared.lock(rt);
+        match steps::send(&mut guard, message, seat) {
             Sent::Entered(settled, _seat) => {
-                self.shared.release(held, settled);
+                self.shared.release(guard, settled);
                 Ok(())
             },
             Sent::Waits(ticket) => {
-                self.shared.unlock(held);
+                self.shared.unlock(guard);
                 let looked = waiting.outcome_until(rt, clock, deadline);
                 self.end_wait(rt, ticket, looked, option)
             },
             Sent::Refused(error, back, _seat) => {
-                self.shared.unlock(held);
+                self.shared.unlock(guard);
                 *option = Some(back);
                 Err(timed(error))
             },

@@ -8,79 +8,79 @@ use std::sync::Wait;
 
 impl<T: Drop> Shared<T> {
     pub(crate) fn len<R: Wait>(&self, rt: &R) -> usize {
-        let held = self.lock(rt);
-        let answer = held.core.len();
-        self.unlock(held);
+        let guard = self.lock(rt);
+        let answer = guard.len();
+        self.unlock(guard);
         answer
     }
 
     pub(crate) fn is_empty<R: Wait>(&self, rt: &R) -> bool {
-        let held = self.lock(rt);
-        let answer = held.core.is_empty();
-        self.unlock(held);
+        let guard = self.lock(rt);
+        let answer = guard.is_empty();
+        self.unlock(guard);
         answer
     }
 
     pub(crate) fn is_full<R: Wait>(&self, rt: &R) -> bool {
-        let held = self.lock(rt);
-        let answer = held.core.is_full();
-        self.unlock(held);
+        let guard = self.lock(rt);
+        let answer = guard.is_full();
+        self.unlock(guard);
         answer
     }
 
     pub(crate) fn is_bounded<R: Wait>(&self, rt: &R) -> bool {
-        let held = self.lock(rt);
-        let answer = held.core.is_bounded();
-        self.unlock(held);
+        let guard = self.lock(rt);
+        let answer = guard.is_bounded();
+        self.unlock(guard);
         answer
     }
 
     pub(crate) fn capacity<R: Wait>(&self, rt: &R) -> usize {
-        let held = self.lock(rt);
-        let answer = held.core.capacity();
-        self.unlock(held);
+        let guard = self.lock(rt);
+        let answer = guard.capacity();
+        self.unlock(guard);
         answer
     }
 
     pub(crate) fn sender_count<R: Wait>(&self, rt: &R) -> u32 {
-        let held = self.lock(rt);
-        let answer = held.core.sender_count();
-        self.unlock(held);
+        let guard = self.lock(rt);
+        let answer = guard.sender_count();
+        self.unlock(guard);
         answer
     }
 
     pub(crate) fn receiver_count<R: Wait>(&self, rt: &R) -> u32 {
-        let held = self.lock(rt);
-        let answer = held.core.receiver_count();
-        self.unlock(held);
+        let guard = self.lock(rt);
+        let answer = guard.receiver_count();
+        self.unlock(guard);
         answer
     }
 
     pub(crate) fn is_closed<R: Wait>(&self, rt: &R) -> bool {
-        let held = self.lock(rt);
-        let answer = held.core.is_closed();
-        self.unlock(held);
+        let guard = self.lock(rt);
+        let answer = guard.is_closed();
+        self.unlock(guard);
         answer
     }
 
     pub(crate) fn is_terminated<R: Wait>(&self, rt: &R) -> bool {
-        let held = self.lock(rt);
-        let answer = held.core.is_terminated();
-        self.unlock(held);
+        let guard = self.lock(rt);
+        let answer = guard.is_terminated();
+        self.unlock(guard);
         answer
     }
 
     /// Closes both sides; what that ended and cleared is settled and dropped after the release.
     pub(crate) fn close<R: Wait>(&self, rt: &R) -> Result<(), CloseError> {
-        let mut held = self.lock(rt);
-        match held.core.close() {
+        let mut guard = self.lock(rt);
+        match guard.close() {
             Ok(Closing { cleared, ended }) => {
-                self.release_all(held, ended);
+                self.release_all(guard, ended);
                 drop(cleared);
                 Ok(())
             },
             Err(error) => {
-                self.unlock(held);
+                self.unlock(guard);
                 Err(error)
             },
         }
@@ -88,17 +88,17 @@ impl<T: Drop> Shared<T> {
 
     /// Counts one more sender.
     pub(crate) fn add_sender<R: Wait>(&self, rt: &R) -> Result<(), TooMany> {
-        let mut held = self.lock(rt);
-        let added = held.core.add_sender();
-        self.unlock(held);
+        let mut guard = self.lock(rt);
+        let added = guard.add_sender();
+        self.unlock(guard);
         added
     }
 
     /// Counts one more receiver.
     pub(crate) fn add_receiver<R: Wait>(&self, rt: &R) -> Result<(), TooMany> {
-        let mut held = self.lock(rt);
-        let added = held.core.add_receiver();
-        self.unlock(held);
+        let mut guard = self.lock(rt);
+        let added = guard.add_receiver();
+        self.unlock(guard);
         added
     }
 }

@@ -2,8 +2,10 @@
 //! not wait for the lock.
 //!
 //! Stands on the lock, the steps and the seats. Whoever gets the lock applies all notices before its
-//! own step; whoever releases it settles what they took out and then what its own step settled, and
-//! looks for new ones. No other module takes the lock or touches a notice's counter.
+//! own step. A call that may wait for the lock then releases it where they took something out,
+//! settles that, and waits for the lock anew; one that may not makes its step at once, and settles
+//! both after its release. Whoever releases the lock settles first and then looks for new notices. No
+//! other module takes the lock or touches a notice's counter.
 use crate::seat::{Core, Seat, let_go, settle, settle_all};
 use crate::steps;
 use crossbeam_utils::Backoff;
@@ -28,14 +30,14 @@ pub struct Shared<T> {
     receivers: AtomicU64,
 }
 
-/// The lock, held, and what applying the notices took out of the core.
+/// A lock that one try got, with what the notices took out of the core.
 #[derive(Drop)]
 pub(crate) struct Held<'a, T> {
     pub(crate) core: MutexGuard<'a, Core<T>>,
-    leaving: Option<Leaving<T>>,
+    leaving: Leaving<T>,
 }
 
-/// What applying the notices took out of the core: entries that left, and waits that ended.
+/// What applying the notices took out of the core.
 #[derive(Drop)]
 struct Leaving<T> {
     gone: Option<Box<Seat<T>>>,
@@ -44,8 +46,21 @@ struct Leaving<T> {
 }
 
 impl<T: Drop> Leaving<T> {
+    /// Nothing left.
+    fn nothing() -> Self {
+        Leaving {
+            gone: None,
+            senders: None,
+            receivers: None,
+        }
+    }
+
+    /// Whether nothing left.
+    fn is_nothing(&self) -> bool {
+        self.gone.is_none() && self.senders.is_none() && self.receivers.is_none()
+    }
+
     /// Lets go of what left, and settles what ended. The lock is released.
-    #[cold]
     fn settle(self) {
         let Leaving {
             gone,
@@ -62,24 +77,21 @@ impl<T: Drop> Leaving<T> {
     }
 }
 
-impl<T: Drop> Held<'_, T> {
-    /// Releases the lock, and settles what the notices took out.
-    #[inline]
-    fn free(self) {
-        let Held { core, leaving } = self;
-        drop(core);
-        if let Some(leaving) = leaving {
-            leaving.settle();
-        }
-    }
-}
-
 /// Empties the counter, which is only written where it is not empty.
 fn emptied(counter: &AtomicU64) -> u64 {
     if counter.load(SeqCst) == 0 {
         return 0;
     }
     counter.swap(0, SeqCst)
+}
+
+impl<T: Drop> Held<'_, T> {
+    /// Releases the lock, and settles what the notices took out.
+    fn free(self) {
+        let Held { core, leaving } = self;
+        drop(core);
+        leaving.settle();
+    }
 }
 
 impl<T: Drop> Shared<T> {
@@ -93,13 +105,22 @@ impl<T: Drop> Shared<T> {
         }
     }
 
-    /// Waits for the lock, and applies the notices.
+    /// Waits for the lock, with no notice left to apply.
     #[inline]
-    pub(crate) fn lock<R: Wait>(&self, rt: &R) -> Held<'_, T> {
-        match self.core.try_lock() {
-            Some(core) => self.hold(core),
-            None => self.hold(self.contend(rt)),
+    pub(crate) fn lock<R: Wait>(&self, rt: &R) -> MutexGuard<'_, Core<T>> {
+        for _ in rt.forever() {
+            let guard = match self.core.try_lock() {
+                Some(guard) => guard,
+                None => self.contend(rt),
+            };
+            if self.is_quiet() {
+                return guard;
+            }
+            if let Some(guard) = self.catch_up(guard) {
+                return guard;
+            }
         }
+        unreachable!()
     }
 
     /// Waits for a lock that was held: with growing pauses and then yields between the tries, and then
@@ -117,26 +138,30 @@ impl<T: Drop> Shared<T> {
     }
 
     /// Tries once to get the lock, and applies the notices; `None` where it is held.
-    #[inline]
     pub(crate) fn try_lock(&self) -> Option<Held<'_, T>> {
-        let core = self.core.try_lock()?;
-        Some(self.hold(core))
+        let mut core = self.core.try_lock()?;
+        let leaving = if self.is_quiet() {
+            Leaving::nothing()
+        } else {
+            self.apply(&mut core)
+        };
+        Some(Held { core, leaving })
     }
 
-    /// The lock with no notice left to apply.
-    #[inline]
-    fn hold<'a>(&self, core: MutexGuard<'a, Core<T>>) -> Held<'a, T> {
-        if self.is_quiet() {
-            let leaving = None;
-            return Held { core, leaving };
+    /// Applies the notices. Where they take something out, the lock is released, and that is settled.
+    #[cold]
+    fn catch_up<'a>(&self, guard: MutexGuard<'a, Core<T>>) -> Option<MutexGuard<'a, Core<T>>> {
+        let mut guard = guard;
+        let leaving = self.apply(&mut guard);
+        if leaving.is_nothing() {
+            return Some(guard);
         }
-        let mut core = core;
-        let leaving = Some(self.apply(&mut core));
-        Held { core, leaving }
+        drop(guard);
+        leaving.settle();
+        None
     }
 
     /// Applies all notices: first those of left waits, then the senders', then the receivers'.
-    #[cold]
     fn apply(&self, core: &mut Core<T>) -> Leaving<T> {
         let gone = if emptied(&self.left) == 0 {
             None
@@ -154,8 +179,8 @@ impl<T: Drop> Shared<T> {
 
     /// Releases the lock, and looks for new notices.
     #[inline]
-    pub(crate) fn unlock(&self, held: Held<'_, T>) {
-        held.free();
+    pub(crate) fn unlock(&self, guard: MutexGuard<'_, Core<T>>) {
+        drop(guard);
         if !self.is_quiet() {
             self.look();
         }
@@ -165,10 +190,10 @@ impl<T: Drop> Shared<T> {
     #[inline]
     pub(crate) fn release(
         &self,
-        held: Held<'_, T>,
+        guard: MutexGuard<'_, Core<T>>,
         settled: Option<Settled<T, Box<Seat<T>>>>,
     ) {
-        held.free();
+        drop(guard);
         if let Some(one) = settled {
             settle(one);
         }
@@ -177,13 +202,27 @@ impl<T: Drop> Shared<T> {
         }
     }
 
+    /// Releases a lock that one try got, settles what the notices took out and then the wait that the
+    /// call's step settled, and looks for new notices.
+    pub(crate) fn release_held(
+        &self,
+        held: Held<'_, T>,
+        settled: Option<Settled<T, Box<Seat<T>>>>,
+    ) {
+        held.free();
+        if let Some(one) = settled {
+            settle(one);
+        }
+        self.look();
+    }
+
     /// Releases the lock, settles the waits that the call's step ended, and looks for new notices.
     pub(crate) fn release_all(
         &self,
-        held: Held<'_, T>,
+        guard: MutexGuard<'_, Core<T>>,
         ended: Ended<T, Box<Seat<T>>>,
     ) {
-        held.free();
+        drop(guard);
         settle_all(ended);
         self.look();
     }
@@ -211,9 +250,9 @@ impl<T: Drop> Shared<T> {
 
     /// Withdraws the wait with the ticket; its message, if it had one, and `None` if it doesn't wait.
     pub(crate) fn withdraw<R: Wait>(&self, rt: &R, ticket: Ticket) -> Option<Option<T>> {
-        let mut held = self.lock(rt);
-        let found = held.core.withdraw(ticket);
-        self.unlock(held);
+        let mut guard = self.lock(rt);
+        let found = guard.withdraw(ticket);
+        self.unlock(guard);
         let Waiter {
             ticket: _,
             message,
@@ -228,7 +267,9 @@ impl<T: Drop> Shared<T> {
         match self.try_lock() {
             Some(mut held) => {
                 let ended = held.core.drop_sender();
-                self.release_all(held, ended);
+                held.free();
+                settle_all(ended);
+                self.look();
             },
             None => {
                 self.senders.fetch_add(1, SeqCst);
@@ -242,7 +283,9 @@ impl<T: Drop> Shared<T> {
         match self.try_lock() {
             Some(mut held) => {
                 let ended = held.core.drop_receiver();
-                self.release_all(held, ended);
+                held.free();
+                settle_all(ended);
+                self.look();
             },
             None => {
                 self.receivers.fetch_add(1, SeqCst);

@@ -33,9 +33,9 @@ type Answer<T, E> = JoinHandle<Result<T, E>>;
 /// Whether a wait begins.
 fn begins<T: Drop, R: Wait>(rt: &R, shared: &Shared<T>) -> bool {
     for _ in 0..LOOKS {
-        let held = shared.lock(rt);
-        let waits = held.core.first_waiter(|_| true).is_some();
-        shared.unlock(held);
+        let guard = shared.lock(rt);
+        let waits = guard.first_waiter(|_| true).is_some();
+        shared.unlock(guard);
         if waits {
             return true;
         }

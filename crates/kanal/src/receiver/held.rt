@@ -9,14 +9,14 @@ fn handles_are_dropped_while_the_lock_is_held(rt: HostRuntime) -> Result<(), Fai
     let second = sender.clone(&rt)?;
     let third = sender.clone(&rt)?;
     let shared = receiver.inner.shared();
-    let held = shared.lock(&rt);
+    let guard = shared.lock(&rt);
     drop(sender);
     drop(first);
     drop(second);
     drop(third);
-    let counted = held.core.sender_count();
-    shared.unlock(held);
-    assert_eq!(rt; counted, 4);
+    let held = guard.sender_count();
+    shared.unlock(guard);
+    assert_eq!(rt; held, 4);
     assert_eq!(rt; receiver.sender_count(&rt), 0);
     assert!(rt; receiver.is_terminated(&rt));
     Ok(())
@@ -27,10 +27,10 @@ fn realtime_forms_while_the_lock_is_held(rt: HostRuntime) -> Result<(), Fail> {
     let (sender, receiver) = bounded::<u64>(rt.alloc(), 1)?;
     assert_eq!(rt; receiver.close(&rt), Ok(()));
     let shared = receiver.inner.shared();
-    let held = shared.lock(&rt);
+    let guard = shared.lock(&rt);
     let sent = sender.try_send_realtime(1);
     let got = receiver.try_recv_realtime();
-    shared.unlock(held);
+    shared.unlock(guard);
     assert_eq!(rt; sent, Ok(false));
     assert_eq!(rt; got, Ok(None));
     Ok(())

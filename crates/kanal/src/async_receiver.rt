@@ -3,8 +3,10 @@
 //!
 //! Stands on the lock and the steps. It alone has a receiver's drop; the receiver for threads and the
 //! view are made over it.
-ghost use Rattle.std.specs.Prelude.{◌≡◌, ◌++◌, List, length, Some, IfOk, IfErr, codes};
+ghost use Rattle.std.specs.Prelude.{◌≡◌, ◌++◌, List, length, Some, IfOk, IfErr, false, codes};
+ghost use Rattle.kanal.specs.Futures.{receive_is_over, stream_is_over};
 
+use crate::future::{ReceiveFuture, ReceiveStream};
 use crate::receiver::Receiver;
 use crate::receiver_view::ReceiverView;
 use crate::shared::Shared;
@@ -16,8 +18,6 @@ use std::fmt;
 use std::sync::{Arc, Wait};
 
 pub(crate) mod blocking;
-#[cfg(test)]
-mod held;
 mod timed;
 
 /// Receives messages of a channel in a task.
@@ -40,6 +40,42 @@ impl<T: Drop> AsyncReceiver<T> {
     /// The first receiver of the channel.
     pub(crate) fn new(shared: Arc<Shared<T>>, alloc: Global) -> Self {
         AsyncReceiver { shared, alloc }
+    }
+
+    /// What all handles share.
+    pub(crate) fn shared(&self) -> &Shared<T> {
+        &self.shared
+    }
+
+    /// What the memory of a wait is asked of.
+    pub(crate) fn alloc(&self) -> Global {
+        self.alloc
+    }
+
+    /// A future that receives a message. It does nothing before its first poll, and waits for nobody.
+    ///
+    /// # Examples
+    /// ```text
+    /// block_on(&rt, receiver.recv())   gives  Ok(7)                            where 7 was sent
+    /// block_on(&rt, receiver.recv())   gives  Err(ReceiveError::SendClosed)    after the last sender's drop
+    /// ```
+    pub fn recv(&self) -> ReceiveFuture<'_, T>
+        ensures fresh { receive_is_over result ≡ false }
+    {
+        ReceiveFuture::new(self)
+    }
+
+    /// The messages, one receive after the other, until one is refused. It waits for nobody.
+    ///
+    /// # Examples
+    /// ```text
+    /// let mut stream = receiver.stream();
+    /// block_on(&rt, stream.next())   gives  Some(7)   where 7 was sent
+    /// ```
+    pub fn stream(&self) -> ReceiveStream<'_, T>
+        ensures fresh { stream_is_over result ≡ false }
+    {
+        ReceiveStream::new(self)
     }
 
     /// Receives the front message, if there is one. `Ok(None)` says that there is none. It waits for

@@ -3,8 +3,10 @@
 //!
 //! Stands on the lock and the steps. It alone has a sender's drop; the sender for threads and the
 //! view are made over it.
-ghost use Rattle.std.specs.Prelude.{◌≡◌, ◌≢◌, IsSome, Some, None, Ok, true, codes};
+ghost use Rattle.std.specs.Prelude.{◌≡◌, ◌≢◌, IsSome, Some, None, Ok, true, false, codes};
+ghost use Rattle.kanal.specs.Futures.{send_is_over};
 
+use crate::future::SendFuture;
 use crate::sender::Sender;
 use crate::sender_view::SenderView;
 use crate::shared::Shared;
@@ -38,6 +40,29 @@ impl<T: Drop> AsyncSender<T> {
     /// The first sender of the channel.
     pub(crate) fn new(shared: Arc<Shared<T>>, alloc: Global) -> Self {
         AsyncSender { shared, alloc }
+    }
+
+    /// What all handles share.
+    pub(crate) fn shared(&self) -> &Shared<T> {
+        &self.shared
+    }
+
+    /// What the memory of a wait is asked of.
+    pub(crate) fn alloc(&self) -> Global {
+        self.alloc
+    }
+
+    /// A future that sends the message. It does nothing before its first poll, and waits for nobody.
+    ///
+    /// # Examples
+    /// ```text
+    /// block_on(&rt, sender.send(7))   gives  Ok(())                   in a channel with a place
+    /// block_on(&rt, sender.send(7))   gives  Err(SendError::Closed)   after a close
+    /// ```
+    pub fn send(&self, message: T) -> SendFuture<'_, T>
+        ensures fresh { send_is_over result ≡ false }
+    {
+        SendFuture::new(self, message)
     }
 
     /// Sends the message where there is a place for it. `Ok(false)` says that there is none, and the

@@ -14,6 +14,9 @@ use std::sync::atomic::AtomicU64;
 use std::sync::atomic::Ordering::SeqCst;
 use std::sync::{MutexGuard, Wait};
 
+#[cfg(test)]
+mod held;
+
 /// How often a call looks for notices after it released the lock.
 const LOOKS: u32 = 64;
 
@@ -224,6 +227,21 @@ impl<T: Drop> Shared<T> {
         } = found?;
         drop(w);
         Some(message)
+    }
+
+    /// A future that waits with the ticket goes away: it waits for nobody.
+    pub(crate) fn leave(&self, ticket: Ticket) {
+        match self.try_lock() {
+            Some(mut guard) => {
+                let found = guard.withdraw(ticket);
+                self.unlock(guard);
+                drop(found);
+            },
+            None => {
+                self.left.fetch_add(1, SeqCst);
+                self.look();
+            },
+        }
     }
 
     /// A sender goes away: it waits for nobody.

@@ -1,23 +1,29 @@
-//! The receiving handle that holds the channel, with the bodies of all that a receiver does.
+//! The receiver of a channel for tasks: the receiving handle that holds the channel, with the bodies
+//! of all that a receiver does.
 //!
-//! Stands on the lock and the steps. It alone has a receiver's drop; the other handles of a receiver
-//! are made over it.
-ghost use Rattle.std.specs.Prelude.{◌≡◌, ◌++◌, List, length, Some, IfOk, IfErr, codes};
+//! Stands on the lock and the steps. It alone has a receiver's drop; the receiver for threads and the
+//! view are made over it.
+ghost use Rattle.std.specs.Prelude.{◌≡◌, ◌++◌, List, length, Some, IfOk, IfErr, false, codes};
+ghost use Rattle.kanal.specs.Futures.{receive_is_over, stream_is_over};
 
-use crate::async_sender::wait;
-use crate::backoff::Waiting;
-use crate::clock::{Clock, deadline};
+use crate::future::{ReceiveFuture, ReceiveStream};
+use crate::receiver::Receiver;
+use crate::receiver_view::ReceiverView;
 use crate::shared::Shared;
 use crate::steps;
-use crate::steps::{Received, Tried};
-use kanal_core::error::{ReceiveError, ReceiveErrorTimeout, TooMany};
-use kanal_core::internal::{Outcome, Reason, Ticket};
+use crate::steps::Tried;
+use kanal_core::error::{CloseError, ReceiveError, TooMany};
 use std::alloc::Global;
+use std::fmt;
 use std::sync::{Arc, Wait};
-use std::time::Duration;
-use std::{fmt, time};
 
-/// A receiver of a channel.
+pub(crate) mod blocking;
+mod timed;
+
+/// Receives messages of a channel in a task.
+///
+/// The channel's receive side is gone when the last receiver of either kind was dropped. A drop waits
+/// for nobody.
 pub struct AsyncReceiver<T> {
     shared: Arc<Shared<T>>,
     alloc: Global,
@@ -27,26 +33,6 @@ impl<T: Drop> Drop for AsyncReceiver<T> {
     fn drop(self) {
         let AsyncReceiver { shared, alloc: _ } = self;
         shared.drop_receiver();
-    }
-}
-
-/// What the end of a receiver's wait answers.
-fn answer_of<T: Drop>(outcome: Outcome<T>) -> Result<T, ReceiveError> {
-    match outcome {
-        Outcome::Given(message) => Ok(message),
-        Outcome::Ended(Reason::SendClosed, _message) => Err(ReceiveError::SendClosed),
-        Outcome::Ended(_reason, _message) => Err(ReceiveError::Closed),
-        Outcome::Taken => Err(ReceiveError::Closed),
-    }
-}
-
-/// The refusal of a timed receive, for that of one without a deadline.
-fn timed(error: ReceiveError) -> ReceiveErrorTimeout {
-    match error {
-        ReceiveError::Closed | ReceiveError::Finished => ReceiveErrorTimeout::Closed,
-        ReceiveError::SendClosed => ReceiveErrorTimeout::SendClosed,
-        ReceiveError::NoMemory => ReceiveErrorTimeout::NoMemory,
-        ReceiveError::TooMany => ReceiveErrorTimeout::TooMany,
     }
 }
 
@@ -61,40 +47,86 @@ impl<T: Drop> AsyncReceiver<T> {
         &self.shared
     }
 
-    /// One more receiver.
-    pub(crate) fn clone<R: Wait>(&self, rt: &R) -> Result<Self, TooMany> {
-        let Ok(shared) = Arc::try_clone(&self.shared) else {
-            return Err(TooMany);
-        };
-        self.shared.add_receiver(rt)?;
-        let alloc = self.alloc;
-        Ok(AsyncReceiver { shared, alloc })
+    /// What the memory of a wait is asked of.
+    pub(crate) fn alloc(&self) -> Global {
+        self.alloc
     }
 
-    /// Takes the front message, if there is one.
-    pub(crate) fn try_recv<R: Wait>(&self, rt: &R) -> Result<Option<T>, ReceiveError> {
+    /// A future that receives a message. It does nothing before its first poll, and waits for nobody.
+    ///
+    /// # Examples
+    /// ```text
+    /// block_on(&rt, receiver.recv())   gives  Ok(7)                            where 7 was sent
+    /// block_on(&rt, receiver.recv())   gives  Err(ReceiveError::SendClosed)    after the last sender's drop
+    /// ```
+    pub fn recv(&self) -> ReceiveFuture<'_, T>
+        ensures fresh { receive_is_over result ≡ false }
+    {
+        ReceiveFuture::new(self)
+    }
+
+    /// The messages, one receive after the other, until one is refused. It waits for nobody.
+    ///
+    /// # Examples
+    /// ```text
+    /// let mut stream = receiver.stream();
+    /// block_on(&rt, stream.next())   gives  Some(7)   where 7 was sent
+    /// ```
+    pub fn stream(&self) -> ReceiveStream<'_, T>
+        ensures fresh { stream_is_over result ≡ false }
+    {
+        ReceiveStream::new(self)
+    }
+
+    /// Receives the front message, if there is one. `Ok(None)` says that there is none. It waits for
+    /// the lock.
+    ///
+    /// # Errors
+    /// `Closed` where the channel was closed or no receiver is left, and `SendClosed` where there is
+    /// no message and no sender is left.
+    ///
+    /// # Examples
+    /// ```text
+    /// receiver.try_recv(&rt)   answers  Ok(None)   in a new channel
+    /// ```
+    pub fn try_recv<R: Wait>(&self, rt: &R) -> Result<Option<T>, ReceiveError> {
         let mut guard = self.shared.lock(rt);
         let Tried { answer, settled } = steps::try_recv(&mut guard);
         self.shared.release(guard, settled);
         answer
     }
 
-    /// Takes the front message, if there is one and the lock is free.
-    pub(crate) fn try_recv_realtime(&self) -> Result<Option<T>, ReceiveError> {
-        let Some(mut held) = self.shared.try_lock() else {
+    /// Receives the front message, if there is one and the lock is free: it waits for nobody.
+    /// `Ok(None)` says that there is none or the lock was held.
+    ///
+    /// # Errors
+    /// As `try_recv`.
+    ///
+    /// # Examples
+    /// ```text
+    /// receiver.try_recv_realtime()   answers  Ok(Some(1))   where 1 was sent
+    /// ```
+    pub fn try_recv_realtime(&self) -> Result<Option<T>, ReceiveError> {
+        let Some(mut acquired) = self.shared.try_lock() else {
             return Ok(None);
         };
-        let Tried { answer, settled } = steps::try_recv(&mut held.core);
-        self.shared.release_held(held, settled);
+        let Tried { answer, settled } = steps::try_recv(&mut acquired.core);
+        self.shared.release_acquired(acquired, settled);
         answer
     }
 
-    /// Moves the whole line to the vector's end.
-    pub(crate) fn drain_into<R: Wait>(
-        &self,
-        rt: &R,
-        into: &mut Vec<T>,
-    ) -> Result<usize, ReceiveError>
+    /// Moves all messages to the vector's end, those of waiting senders too, and answers how many
+    /// they were. What the vector had stays its beginning. It waits for the lock.
+    ///
+    /// # Errors
+    /// `Closed` where no receiver is left, and `NoMemory` where the vector had too little room and
+    /// there was no memory for more. The vector holds what it held then.
+    ///
+    /// # Examples
+    /// ```text
+    /// receiver.drain_into(&rt, &mut messages)   answers  Ok(2)   where two messages were there
+    /// ```
+    pub fn drain_into<R: Wait>(&self, rt: &R, into: &mut Vec<T>) -> Result<usize, ReceiveError>
         ensures drained { IfOk result (λ n. (more : List T) × (into.new.items ≡ into.old.items ++ more) × (length more ≡ n)) }
         ensures refused { IfErr result (λ _. into.new.items ≡ into.old.items) }
     {
@@ -111,110 +143,177 @@ impl<T: Drop> AsyncReceiver<T> {
         }
     }
 
-    /// Receives a message, and waits where there is none.
-    pub(crate) fn recv_blocking<R: Wait>(&self, rt: &R) -> Result<T, ReceiveError> {
-        match self.try_recv(rt)? {
-            Some(message) => Ok(message),
-            None => self.recv_waiting(rt),
-        }
-    }
-
-    /// Receives a message with what a wait needs in hand.
-    fn recv_waiting<R: Wait>(&self, rt: &R) -> Result<T, ReceiveError> {
-        let Some((waiting, seat)) = wait(self.alloc) else {
-            return Err(ReceiveError::NoMemory);
+    /// One more receiver of the channel. Where no receiver is left it stays so, and the answer is
+    /// still a receiver. It waits for the lock.
+    ///
+    /// # Errors
+    /// `TooMany` where there are `u32::MAX` receivers, or as many handles as may be.
+    ///
+    /// # Examples
+    /// ```text
+    /// let other = receiver.clone(&rt)?;
+    /// receiver.receiver_count(&rt)   answers  2   where it answered 1 before
+    /// ```
+    pub fn clone<R: Wait>(&self, rt: &R) -> Result<Self, TooMany> {
+        let Ok(shared) = Arc::try_clone(&self.shared) else {
+            return Err(TooMany);
         };
-        let mut guard = self.shared.lock(rt);
-        match steps::recv(&mut guard, seat) {
-            Received::Got(message, settled, _seat) => {
-                self.shared.release(guard, settled);
-                Ok(message)
-            },
-            Received::Waits(_ticket) => {
-                self.shared.unlock(guard);
-                answer_of(waiting.outcome(rt))
-            },
-            Received::Refused(error, _seat) => {
-                self.shared.unlock(guard);
-                Err(error)
-            },
-        }
-    }
-}
-
-impl<T: Drop> AsyncReceiver<T> {
-    /// Receives a message, and waits where there is none, until the deadline.
-    pub(crate) fn recv_timeout<R: Wait + time::Clock, C: Clock>(
-        &self,
-        rt: &R,
-        duration: Duration,
-        clock: &C,
-    ) -> Result<T, ReceiveErrorTimeout> {
-        let Some(deadline) = deadline(clock, duration) else {
-            return Err(ReceiveErrorTimeout::DeadlineOutOfRange);
-        };
-        if clock.now() > deadline {
-            return self.recv_late(rt);
-        }
-        match self.try_recv(rt) {
-            Ok(Some(message)) => Ok(message),
-            Ok(None) => self.recv_until(rt, deadline, clock),
-            Err(error) => Err(timed(error)),
-        }
+        self.shared.add_receiver(rt)?;
+        let alloc = self.alloc;
+        Ok(AsyncReceiver { shared, alloc })
     }
 
-    /// Takes the front message after the deadline.
-    fn recv_late<R: Wait>(&self, rt: &R) -> Result<T, ReceiveErrorTimeout> {
-        let mut guard = self.shared.lock(rt);
-        let Tried { answer, settled } = steps::recv_late(&mut guard);
-        self.shared.release(guard, settled);
-        answer
+    /// One more receiver of the channel, for threads. It counts as `clone`, and waits for the lock.
+    ///
+    /// # Errors
+    /// As `clone`.
+    ///
+    /// # Examples
+    /// ```text
+    /// let other = receiver.clone_sync(&rt)?;
+    /// other.receiver_count(&rt)   answers  2   where it answered 1 before
+    /// ```
+    pub fn clone_sync<R: Wait>(&self, rt: &R) -> Result<Receiver<T>, TooMany> {
+        let inner = self.clone(rt)?;
+        Ok(inner.to_sync())
     }
 
-    /// Receives a message with what a wait needs in hand, until the deadline.
-    fn recv_until<R: Wait + time::Clock, C: Clock>(
-        &self,
-        rt: &R,
-        deadline: u64,
-        clock: &C,
-    ) -> Result<T, ReceiveErrorTimeout> {
-        let Some((waiting, seat)) = wait(self.alloc) else {
-            return Err(ReceiveErrorTimeout::NoMemory);
-        };
-        let mut guard = self.shared.lock(rt);
-        match steps::recv(&mut guard, seat) {
-            Received::Got(message, settled, _seat) => {
-                self.shared.release(guard, settled);
-                Ok(message)
-            },
-            Received::Waits(ticket) => {
-                self.shared.unlock(guard);
-                let looked = waiting.outcome_until(rt, clock, deadline);
-                self.end_wait(rt, ticket, looked)
-            },
-            Received::Refused(error, _seat) => {
-                self.shared.unlock(guard);
-                Err(timed(error))
-            },
-        }
+    /// The same receiver for threads: the counts stay. It waits for nobody.
+    ///
+    /// # Examples
+    /// ```text
+    /// receiver.to_sync().receiver_count(&rt)   answers  1   for a new channel
+    /// ```
+    pub fn to_sync(self) -> Receiver<T> {
+        Receiver::new(self)
     }
 
-    /// Ends a timed wait: by its outcome, or by a withdrawal where the deadline passed. Where the
-    /// withdrawal finds nothing the outcome is on its way, and is waited for.
-    fn end_wait<R: Wait>(
-        &self,
-        rt: &R,
-        ticket: Ticket,
-        looked: Result<Outcome<T>, Waiting<Outcome<T>>>,
-    ) -> Result<T, ReceiveErrorTimeout> {
-        let waiting = match looked {
-            Ok(outcome) => return answer_of(outcome).map_err(timed),
-            Err(waiting) => waiting,
-        };
-        match self.shared.withdraw(rt, ticket) {
-            Some(_message) => Err(ReceiveErrorTimeout::Timeout),
-            None => answer_of(waiting.outcome(rt)).map_err(timed),
-        }
+    /// What a thread does with this receiver: the counts stay. It waits for nobody.
+    ///
+    /// # Examples
+    /// ```text
+    /// receiver.as_sync().recv(&rt)   answers  Ok(7)   where 7 was sent
+    /// ```
+    pub fn as_sync(&self) -> ReceiverView<'_, T> {
+        ReceiverView::new(self)
+    }
+
+    /// Whether no sender is left. It waits for the lock.
+    ///
+    /// # Examples
+    /// ```text
+    /// receiver.is_disconnected(&rt)   answers  true   after the last sender was dropped
+    /// ```
+    pub fn is_disconnected<R: Wait>(&self, rt: &R) -> bool {
+        self.shared.sender_count(rt) == 0
+    }
+
+    /// Whether no sender is left and the buffer is empty, so that no message will come. It waits for
+    /// the lock.
+    ///
+    /// # Examples
+    /// ```text
+    /// receiver.is_terminated(&rt)   answers  false   while a message is in the buffer
+    /// ```
+    pub fn is_terminated<R: Wait>(&self, rt: &R) -> bool {
+        self.shared.is_terminated(rt)
+    }
+
+    /// How many messages are in the buffer. It waits for the lock.
+    ///
+    /// # Examples
+    /// ```text
+    /// receiver.len(&rt)   answers  1   after one message entered a bounded channel for two
+    /// ```
+    pub fn len<R: Wait>(&self, rt: &R) -> usize {
+        self.shared.len(rt)
+    }
+
+    /// Whether no message is in the buffer, whoever waits. It waits for the lock.
+    ///
+    /// # Examples
+    /// ```text
+    /// receiver.is_empty(&rt)   answers  false   after one message entered
+    /// ```
+    pub fn is_empty<R: Wait>(&self, rt: &R) -> bool {
+        self.shared.is_empty(rt)
+    }
+
+    /// Whether the buffer is at the capacity: always at capacity 0, and never without a limit. It
+    /// waits for the lock.
+    ///
+    /// # Examples
+    /// ```text
+    /// receiver.is_full(&rt)   answers  true   after one message entered a bounded channel for one
+    /// ```
+    pub fn is_full<R: Wait>(&self, rt: &R) -> bool {
+        self.shared.is_full(rt)
+    }
+
+    /// Whether the channel has a limit. It waits for the lock.
+    ///
+    /// # Examples
+    /// ```text
+    /// receiver.is_bounded(&rt)   answers  true   for a channel that `bounded` made
+    /// ```
+    pub fn is_bounded<R: Wait>(&self, rt: &R) -> bool {
+        self.shared.is_bounded(rt)
+    }
+
+    /// How many messages the buffer may hold, which is `usize::MAX` without a limit. It waits for the
+    /// lock.
+    ///
+    /// # Examples
+    /// ```text
+    /// receiver.capacity(&rt)   answers  2   for a bounded channel for two
+    /// ```
+    pub fn capacity<R: Wait>(&self, rt: &R) -> usize {
+        self.shared.capacity(rt)
+    }
+
+    /// How many receivers there are. It waits for the lock.
+    ///
+    /// # Examples
+    /// ```text
+    /// receiver.receiver_count(&rt)   answers  1   for a new channel
+    /// ```
+    pub fn receiver_count<R: Wait>(&self, rt: &R) -> u32 {
+        self.shared.receiver_count(rt)
+    }
+
+    /// How many senders there are. It waits for the lock.
+    ///
+    /// # Examples
+    /// ```text
+    /// receiver.sender_count(&rt)   answers  1   for a new channel
+    /// ```
+    pub fn sender_count<R: Wait>(&self, rt: &R) -> u32 {
+        self.shared.sender_count(rt)
+    }
+
+    /// Whether both sides are gone. It waits for the lock.
+    ///
+    /// # Examples
+    /// ```text
+    /// receiver.is_closed(&rt)   answers  true   after a close
+    /// ```
+    pub fn is_closed<R: Wait>(&self, rt: &R) -> bool {
+        self.shared.is_closed(rt)
+    }
+
+    /// Closes the channel for both sides: all waits end with `Closed`, and the buffer's messages are
+    /// dropped after the lock was released. It waits for the lock.
+    ///
+    /// # Errors
+    /// `CloseError` where both sides were gone already.
+    ///
+    /// # Examples
+    /// ```text
+    /// receiver.close(&rt)   answers  Ok(())
+    /// receiver.close(&rt)   answers  Err(CloseError())   after that
+    /// ```
+    pub fn close<R: Wait>(&self, rt: &R) -> Result<(), CloseError> {
+        self.shared.close(rt)
     }
 }
 

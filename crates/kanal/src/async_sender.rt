@@ -1,25 +1,29 @@
-//! The sending handle that holds the channel, with the bodies of all that a sender does.
+//! The sender of a channel for tasks: the sending handle that holds the channel, with the bodies of
+//! all that a sender does.
 //!
-//! Stands on the lock and the steps. It alone has a sender's drop; the other handles of a sender are
-//! made over it.
-ghost use Rattle.std.specs.Prelude.{◌≡◌, ◌≢◌, IsSome, Some, None, Ok, true, codes, IfErr};
-ghost use Rattle.kanal.specs.Timed.{StartedNoWait};
+//! Stands on the lock and the steps. It alone has a sender's drop; the sender for threads and the
+//! view are made over it.
+ghost use Rattle.std.specs.Prelude.{◌≡◌, ◌≢◌, IsSome, Some, None, Ok, true, false, codes};
+ghost use Rattle.kanal.specs.Futures.{send_is_over};
 
-use crate::backoff::Waiting;
-use crate::clock::{Clock, deadline};
-use crate::seat::Seat;
+use crate::future::SendFuture;
+use crate::sender::Sender;
+use crate::sender_view::SenderView;
 use crate::shared::Shared;
 use crate::steps;
-use crate::steps::{Sent, Tried};
-use kanal_core::error::{SendError, SendErrorTimeout, TooMany};
-use kanal_core::internal::{Outcome, Reason, Ticket};
-use kanal_core::signal;
+use crate::steps::Tried;
+use kanal_core::error::{CloseError, SendError, TooMany};
 use std::alloc::Global;
+use std::fmt;
 use std::sync::{Arc, Wait};
-use std::time::Duration;
-use std::{fmt, time};
 
-/// A sender of a channel.
+pub(crate) mod blocking;
+mod timed;
+
+/// Sends messages to a channel from a task.
+///
+/// The channel's send side is gone when the last sender of either kind was dropped. A drop waits for
+/// nobody.
 pub struct AsyncSender<T> {
     shared: Arc<Shared<T>>,
     alloc: Global,
@@ -30,56 +34,6 @@ impl<T: Drop> Drop for AsyncSender<T> {
         let AsyncSender { shared, alloc: _ } = self;
         shared.drop_sender();
     }
-}
-
-/// What the end of a sender's wait answers.
-fn answer_of<T: Drop>(outcome: Outcome<T>) -> Result<(), SendError> {
-    match outcome {
-        Outcome::Taken => Ok(()),
-        Outcome::Ended(Reason::ReceiveClosed, _message) => Err(SendError::ReceiveClosed),
-        Outcome::Ended(_reason, _message) => Err(SendError::Closed),
-        Outcome::Given(_message) => Err(SendError::Closed),
-    }
-}
-
-/// The refusal of a timed send, for that of one without a deadline.
-fn timed(error: SendError) -> SendErrorTimeout {
-    match error {
-        SendError::Closed | SendError::Finished => SendErrorTimeout::Closed,
-        SendError::ReceiveClosed => SendErrorTimeout::ReceiveClosed,
-        SendError::NoMemory => SendErrorTimeout::NoMemory,
-        SendError::TooMany => SendErrorTimeout::TooMany,
-    }
-}
-
-/// What the end of a timed sender's wait answers; a message that comes back goes into the option.
-fn timed_answer_of<T: Drop>(
-    outcome: Outcome<T>,
-    option: &mut Option<T>,
-) -> Result<(), SendErrorTimeout>
-    ensures sent { result ≡ Ok tt → option.new ≡ option.old }
-    ensures ended { IfErr result (λ e. StartedNoWait e → ⊥) }
-{
-    match outcome {
-        Outcome::Taken => Ok(()),
-        Outcome::Ended(Reason::ReceiveClosed, message) => {
-            *option = message;
-            Err(SendErrorTimeout::ReceiveClosed)
-        },
-        Outcome::Ended(_reason, message) => {
-            *option = message;
-            Err(SendErrorTimeout::Closed)
-        },
-        Outcome::Given(_message) => Err(SendErrorTimeout::Closed),
-    }
-}
-
-/// What a wait needs: the blocked call's half, and the seat for the core.
-pub(crate) fn wait<T: Drop>(alloc: Global) -> Option<(Waiting<Outcome<T>>, Box<Seat<T>>)> {
-    let (end, settler) = signal::new(alloc).ok()?;
-    let waiting = Waiting::new(alloc, end).ok()?;
-    let seat = Seat::new(alloc, settler)?;
-    Some((waiting, seat))
 }
 
 impl<T: Drop> AsyncSender<T> {
@@ -93,18 +47,56 @@ impl<T: Drop> AsyncSender<T> {
         &self.shared
     }
 
-    /// One more sender.
-    pub(crate) fn clone<R: Wait>(&self, rt: &R) -> Result<Self, TooMany> {
-        let Ok(shared) = Arc::try_clone(&self.shared) else {
-            return Err(TooMany);
-        };
-        self.shared.add_sender(rt)?;
-        let alloc = self.alloc;
-        Ok(AsyncSender { shared, alloc })
+    /// What the memory of a wait is asked of.
+    pub(crate) fn alloc(&self) -> Global {
+        self.alloc
     }
 
-    /// Offers the option's message once.
-    pub(crate) fn try_send_option<R: Wait>(
+    /// A future that sends the message. It does nothing before its first poll, and waits for nobody.
+    ///
+    /// # Examples
+    /// ```text
+    /// block_on(&rt, sender.send(7))   gives  Ok(())                   in a channel with a place
+    /// block_on(&rt, sender.send(7))   gives  Err(SendError::Closed)   after a close
+    /// ```
+    pub fn send(&self, message: T) -> SendFuture<'_, T>
+        ensures fresh { send_is_over result ≡ false }
+    {
+        SendFuture::new(self, message)
+    }
+
+    /// Sends the message where there is a place for it. `Ok(false)` says that there is none, and the
+    /// message was dropped. It waits for the lock.
+    ///
+    /// # Errors
+    /// `Closed` where the channel was closed, `ReceiveClosed` where the last receiver was dropped, and
+    /// `NoMemory` where memory was refused. The message is dropped then.
+    ///
+    /// # Examples
+    /// ```text
+    /// sender.try_send(&rt, 1)   answers  Ok(true)    in a new bounded channel for one
+    /// sender.try_send(&rt, 2)   answers  Ok(false)   after that
+    /// ```
+    pub fn try_send<R: Wait>(&self, rt: &R, message: T) -> Result<bool, SendError> {
+        let mut option = Some(message);
+        self.try_send_option(rt, &mut option)
+    }
+
+    /// Sends the option's message where there is a place for it, and empties the option exactly
+    /// then. It waits for the lock.
+    ///
+    /// The caller knows that the option holds a message.
+    ///
+    /// # Errors
+    /// As `try_send`. The option holds the same message then.
+    ///
+    /// # Examples
+    /// ```text
+    /// let mut option = Some(1);
+    /// sender.try_send_option(&rt, &mut option)   answers  Ok(false)   at capacity 0
+    /// option   is  Some(1)
+    /// ```
+    pub fn try_send_option<R: Wait>(
         &self,
         rt: &R,
         option: &mut Option<T>,
@@ -119,138 +111,208 @@ impl<T: Drop> AsyncSender<T> {
         answer
     }
 
-    /// Offers the option's message once, where the lock is free.
-    pub(crate) fn try_send_option_realtime(&self, option: &mut Option<T>) -> Result<bool, SendError>
+    /// Sends the message where there is a place for it and the lock is free: it waits for nobody.
+    /// `Ok(false)` says that there is no place or the lock was held, and the message was dropped.
+    ///
+    /// # Errors
+    /// As `try_send`. The message is dropped then.
+    ///
+    /// # Examples
+    /// ```text
+    /// sender.try_send_realtime(1)   answers  Ok(true)   in a new bounded channel for one
+    /// ```
+    pub fn try_send_realtime(&self, message: T) -> Result<bool, SendError> {
+        let mut option = Some(message);
+        self.try_send_option_realtime(&mut option)
+    }
+
+    /// Sends the option's message where there is a place for it and the lock is free, and empties
+    /// the option exactly then: it waits for nobody.
+    ///
+    /// The caller knows that the option holds a message.
+    ///
+    /// # Errors
+    /// As `try_send`. The option holds the same message then.
+    ///
+    /// # Examples
+    /// ```text
+    /// let mut option = Some(1);
+    /// sender.try_send_option_realtime(&mut option)   answers  Ok(true)   in a new bounded channel
+    /// option   is  None
+    /// ```
+    pub fn try_send_option_realtime(&self, option: &mut Option<T>) -> Result<bool, SendError>
         requires { IsSome option.old }
         ensures sent { result ≡ Ok true → option.new ≡ None }
         ensures kept { result ≢ Ok true → option.new ≡ option.old }
     {
-        let Some(mut held) = self.shared.try_lock() else {
+        let Some(mut acquired) = self.shared.try_lock() else {
             return Ok(false);
         };
-        let Tried { answer, settled } = steps::try_send(&mut held.core, option);
-        self.shared.release_held(held, settled);
+        let Tried { answer, settled } = steps::try_send(&mut acquired.core, option);
+        self.shared.release_acquired(acquired, settled);
         answer
     }
 
-    /// Sends the message, and waits where there is no place for it.
-    pub(crate) fn send_blocking<R: Wait>(&self, rt: &R, message: T) -> Result<(), SendError> {
-        let mut option = Some(message);
-        if self.try_send_option(rt, &mut option)? {
-            return Ok(());
-        }
-        match option {
-            Some(message) => self.send_waiting(rt, message),
-            None => unreachable!(),
-        }
+    /// One more sender of the channel. Where no sender is left it stays so, and the answer is still
+    /// a sender. It waits for the lock.
+    ///
+    /// # Errors
+    /// `TooMany` where there are `u32::MAX` senders, or as many handles as may be.
+    ///
+    /// # Examples
+    /// ```text
+    /// let other = sender.clone(&rt)?;
+    /// sender.sender_count(&rt)   answers  2   where it answered 1 before
+    /// ```
+    pub fn clone<R: Wait>(&self, rt: &R) -> Result<Self, TooMany> {
+        let Ok(shared) = Arc::try_clone(&self.shared) else {
+            return Err(TooMany);
+        };
+        self.shared.add_sender(rt)?;
+        let alloc = self.alloc;
+        Ok(AsyncSender { shared, alloc })
     }
 
-    /// Sends the message with what a wait needs in hand.
-    fn send_waiting<R: Wait>(&self, rt: &R, message: T) -> Result<(), SendError> {
-        let Some((waiting, seat)) = wait(self.alloc) else {
-            return Err(SendError::NoMemory);
-        };
-        let mut guard = self.shared.lock(rt);
-        match steps::send(&mut guard, message, seat) {
-            Sent::Entered(settled, _seat) => {
-                self.shared.release(guard, settled);
-                Ok(())
-            },
-            Sent::Waits(_ticket) => {
-                self.shared.unlock(guard);
-                answer_of(waiting.outcome(rt))
-            },
-            Sent::Refused(error, _message, _seat) => {
-                self.shared.unlock(guard);
-                Err(error)
-            },
-        }
-    }
-}
-
-impl<T: Drop> AsyncSender<T> {
-    /// Sends the option's message, and waits where there is no place for it, until the deadline.
-    pub(crate) fn send_option_timeout<R: Wait + time::Clock, C: Clock>(
-        &self,
-        rt: &R,
-        option: &mut Option<T>,
-        duration: Duration,
-        clock: &C,
-    ) -> Result<(), SendErrorTimeout>
-        requires { IsSome option.old }
-        ensures sent { result ≡ Ok tt → option.new ≡ None }
-        ensures kept { IfErr result (λ e. StartedNoWait e → option.new ≡ option.old) }
-    {
-        let Some(deadline) = deadline(clock, duration) else {
-            return Err(SendErrorTimeout::DeadlineOutOfRange);
-        };
-        match self.try_send_option(rt, option) {
-            Ok(true) => Ok(()),
-            Ok(false) => self.send_until(rt, option, deadline, clock),
-            Err(error) => Err(timed(error)),
-        }
+    /// One more sender of the channel, for threads. It counts as `clone`, and waits for the lock.
+    ///
+    /// # Errors
+    /// As `clone`.
+    ///
+    /// # Examples
+    /// ```text
+    /// let other = sender.clone_sync(&rt)?;
+    /// other.sender_count(&rt)   answers  2   where it answered 1 before
+    /// ```
+    pub fn clone_sync<R: Wait>(&self, rt: &R) -> Result<Sender<T>, TooMany> {
+        let inner = self.clone(rt)?;
+        Ok(inner.to_sync())
     }
 
-    /// Sends the option's message with what a wait needs in hand.
-    fn send_until<R: Wait + time::Clock, C: Clock>(
-        &self,
-        rt: &R,
-        option: &mut Option<T>,
-        deadline: u64,
-        clock: &C,
-    ) -> Result<(), SendErrorTimeout>
-        requires { IsSome option.old }
-        ensures sent { result ≡ Ok tt → option.new ≡ None }
-        ensures kept { IfErr result (λ e. StartedNoWait e → option.new ≡ option.old) }
-    {
-        let Some((waiting, seat)) = wait(self.alloc) else {
-            return Err(SendErrorTimeout::NoMemory);
-        };
-        let Some(message) = option.take() else {
-            unreachable!()
-        };
-        let mut guard = self.shared.lock(rt);
-        match steps::send(&mut guard, message, seat) {
-            Sent::Entered(settled, _seat) => {
-                self.shared.release(guard, settled);
-                Ok(())
-            },
-            Sent::Waits(ticket) => {
-                self.shared.unlock(guard);
-                let looked = waiting.outcome_until(rt, clock, deadline);
-                self.end_wait(rt, ticket, looked, option)
-            },
-            Sent::Refused(error, back, _seat) => {
-                self.shared.unlock(guard);
-                *option = Some(back);
-                Err(timed(error))
-            },
-        }
+    /// The same sender for threads: the counts stay. It waits for nobody.
+    ///
+    /// # Examples
+    /// ```text
+    /// sender.to_sync().sender_count(&rt)   answers  1   for a new channel
+    /// ```
+    pub fn to_sync(self) -> Sender<T> {
+        Sender::new(self)
     }
 
-    /// Ends a timed wait: by its outcome, or by a withdrawal where the deadline passed. Where the
-    /// withdrawal finds nothing the outcome is on its way, and is waited for.
-    fn end_wait<R: Wait>(
-        &self,
-        rt: &R,
-        ticket: Ticket,
-        looked: Result<Outcome<T>, Waiting<Outcome<T>>>,
-        option: &mut Option<T>,
-    ) -> Result<(), SendErrorTimeout>
-        ensures sent { result ≡ Ok tt → option.new ≡ option.old }
-        ensures ended { IfErr result (λ e. StartedNoWait e → ⊥) }
-    {
-        let waiting = match looked {
-            Ok(outcome) => return timed_answer_of(outcome, option),
-            Err(waiting) => waiting,
-        };
-        match self.shared.withdraw(rt, ticket) {
-            Some(message) => {
-                *option = message;
-                Err(SendErrorTimeout::Timeout)
-            },
-            None => timed_answer_of(waiting.outcome(rt), option),
-        }
+    /// What a thread does with this sender: the counts stay. It waits for nobody.
+    ///
+    /// # Examples
+    /// ```text
+    /// sender.as_sync().send(&rt, 7)   answers  Ok(())   in a channel with a place
+    /// ```
+    pub fn as_sync(&self) -> SenderView<'_, T> {
+        SenderView::new(self)
+    }
+
+    /// Whether no receiver is left. It waits for the lock.
+    ///
+    /// # Examples
+    /// ```text
+    /// sender.is_disconnected(&rt)   answers  true   after the last receiver was dropped
+    /// ```
+    pub fn is_disconnected<R: Wait>(&self, rt: &R) -> bool {
+        self.shared.receiver_count(rt) == 0
+    }
+
+    /// How many messages are in the buffer. It waits for the lock.
+    ///
+    /// # Examples
+    /// ```text
+    /// sender.len(&rt)   answers  1   after one message entered a bounded channel for two
+    /// ```
+    pub fn len<R: Wait>(&self, rt: &R) -> usize {
+        self.shared.len(rt)
+    }
+
+    /// Whether no message is in the buffer, whoever waits. It waits for the lock.
+    ///
+    /// # Examples
+    /// ```text
+    /// sender.is_empty(&rt)   answers  false   after one message entered
+    /// ```
+    pub fn is_empty<R: Wait>(&self, rt: &R) -> bool {
+        self.shared.is_empty(rt)
+    }
+
+    /// Whether the buffer is at the capacity: always at capacity 0, and never without a limit. It
+    /// waits for the lock.
+    ///
+    /// # Examples
+    /// ```text
+    /// sender.is_full(&rt)   answers  true   after one message entered a bounded channel for one
+    /// ```
+    pub fn is_full<R: Wait>(&self, rt: &R) -> bool {
+        self.shared.is_full(rt)
+    }
+
+    /// Whether the channel has a limit. It waits for the lock.
+    ///
+    /// # Examples
+    /// ```text
+    /// sender.is_bounded(&rt)   answers  true   for a channel that `bounded` made
+    /// ```
+    pub fn is_bounded<R: Wait>(&self, rt: &R) -> bool {
+        self.shared.is_bounded(rt)
+    }
+
+    /// How many messages the buffer may hold, which is `usize::MAX` without a limit. It waits for the
+    /// lock.
+    ///
+    /// # Examples
+    /// ```text
+    /// sender.capacity(&rt)   answers  2   for a bounded channel for two
+    /// ```
+    pub fn capacity<R: Wait>(&self, rt: &R) -> usize {
+        self.shared.capacity(rt)
+    }
+
+    /// How many receivers there are. It waits for the lock.
+    ///
+    /// # Examples
+    /// ```text
+    /// sender.receiver_count(&rt)   answers  1   for a new channel
+    /// ```
+    pub fn receiver_count<R: Wait>(&self, rt: &R) -> u32 {
+        self.shared.receiver_count(rt)
+    }
+
+    /// How many senders there are. It waits for the lock.
+    ///
+    /// # Examples
+    /// ```text
+    /// sender.sender_count(&rt)   answers  1   for a new channel
+    /// ```
+    pub fn sender_count<R: Wait>(&self, rt: &R) -> u32 {
+        self.shared.sender_count(rt)
+    }
+
+    /// Whether both sides are gone. It waits for the lock.
+    ///
+    /// # Examples
+    /// ```text
+    /// sender.is_closed(&rt)   answers  true   after a close
+    /// ```
+    pub fn is_closed<R: Wait>(&self, rt: &R) -> bool {
+        self.shared.is_closed(rt)
+    }
+
+    /// Closes the channel for both sides: all waits end with `Closed`, and the buffer's messages are
+    /// dropped after the lock was released. It waits for the lock.
+    ///
+    /// # Errors
+    /// `CloseError` where both sides were gone already.
+    ///
+    /// # Examples
+    /// ```text
+    /// sender.close(&rt)   answers  Ok(())
+    /// sender.close(&rt)   answers  Err(CloseError())   after that
+    /// ```
+    pub fn close<R: Wait>(&self, rt: &R) -> Result<(), CloseError> {
+        self.shared.close(rt)
     }
 }
 

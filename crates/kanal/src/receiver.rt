@@ -1,23 +1,20 @@
-//! The receiver of a channel for threads, and the messages that it goes through.
+//! The receiver of a channel for threads.
 //!
-//! Stands on the receiving handle that holds the channel; nothing is done here but handing on.
+//! Stands on the receiver for tasks; nothing is done here but handing on.
 ghost use Rattle.std.specs.Prelude.{◌≡◌, ◌++◌, List, length, Some, IfOk, IfErr, codes};
 
 use crate::async_receiver::AsyncReceiver;
 use crate::clock::Clock;
+use crate::messages::Messages;
 use kanal_core::error::{CloseError, ReceiveError, ReceiveErrorTimeout, TooMany};
 use std::sync::Wait;
 use std::time::Duration;
 use std::{fmt, time};
 
-#[cfg(test)]
-mod ended;
-#[cfg(test)]
-mod held;
-
 /// Receives messages of a channel.
 ///
-/// The channel's receive side is gone when the last receiver was dropped. A drop waits for nobody.
+/// The channel's receive side is gone when the last receiver of either kind was dropped. A drop waits
+/// for nobody.
 #[derive(Drop)]
 pub struct Receiver<T> {
     inner: AsyncReceiver<T>,
@@ -46,34 +43,6 @@ impl<T: Drop> Receiver<T> {
         self.inner.recv_blocking(rt)
     }
 
-    /// Receives the front message, if there is one. `Ok(None)` says that there is none. It waits for
-    /// the lock.
-    ///
-    /// # Errors
-    /// `Closed` and `SendClosed` as `recv`.
-    ///
-    /// # Examples
-    /// ```text
-    /// receiver.try_recv(&rt)   answers  Ok(None)   in a new channel
-    /// ```
-    pub fn try_recv<R: Wait>(&self, rt: &R) -> Result<Option<T>, ReceiveError> {
-        self.inner.try_recv(rt)
-    }
-
-    /// Receives the front message, if there is one and the lock is free: it waits for nobody.
-    /// `Ok(None)` says that there is none or the lock was held.
-    ///
-    /// # Errors
-    /// As `try_recv`.
-    ///
-    /// # Examples
-    /// ```text
-    /// receiver.try_recv_realtime()   answers  Ok(Some(1))   where 1 was sent
-    /// ```
-    pub fn try_recv_realtime(&self) -> Result<Option<T>, ReceiveError> {
-        self.inner.try_recv_realtime()
-    }
-
     /// Receives the front message. Where there is none it waits until a message is sent, the channel
     /// ends, or the clock reaches the deadline, which is its moment now and the duration together; and
     /// it waits for the lock. It reads the clock once more before it looks at the channel: a call that
@@ -95,6 +64,35 @@ impl<T: Drop> Receiver<T> {
         clock: &C,
     ) -> Result<T, ReceiveErrorTimeout> {
         self.inner.recv_timeout(rt, duration, clock)
+    }
+
+    /// Receives the front message, if there is one. `Ok(None)` says that there is none. It waits for
+    /// the lock.
+    ///
+    /// # Errors
+    /// `Closed` where the channel was closed or no receiver is left, and `SendClosed` where there is
+    /// no message and no sender is left.
+    ///
+    /// # Examples
+    /// ```text
+    /// receiver.try_recv(&rt)   answers  Ok(None)   in a new channel
+    /// ```
+    pub fn try_recv<R: Wait>(&self, rt: &R) -> Result<Option<T>, ReceiveError> {
+        self.inner.try_recv(rt)
+    }
+
+    /// Receives the front message, if there is one and the lock is free: it waits for nobody.
+    /// `Ok(None)` says that there is none or the lock was held.
+    ///
+    /// # Errors
+    /// As `try_recv`.
+    ///
+    /// # Examples
+    /// ```text
+    /// receiver.try_recv_realtime()   answers  Ok(Some(1))   where 1 was sent
+    /// ```
+    pub fn try_recv_realtime(&self) -> Result<Option<T>, ReceiveError> {
+        self.inner.try_recv_realtime()
     }
 
     /// Moves all messages to the vector's end, those of waiting senders too, and answers how many
@@ -125,8 +123,8 @@ impl<T: Drop> Receiver<T> {
     ///     sum += message;
     /// }
     /// ```
-    pub fn iter<'a, R: Wait>(&'a mut self, rt: &'a R) -> Messages<'a, T, R> {
-        Messages { rt, receiver: self }
+    pub fn iter<'m, R: Wait>(&'m mut self, rt: &'m R) -> Messages<'m, T, R> {
+        Messages::new(rt, &self.inner)
     }
 
     /// One more receiver of the channel. Where no receiver is left it stays so, and the answer is
@@ -141,8 +139,42 @@ impl<T: Drop> Receiver<T> {
     /// receiver.receiver_count(&rt)   answers  2   where it answered 1 before
     /// ```
     pub fn clone<R: Wait>(&self, rt: &R) -> Result<Self, TooMany> {
-        let inner = self.inner.clone(rt)?;
-        Ok(Receiver { inner })
+        self.inner.clone_sync(rt)
+    }
+
+    /// One more receiver of the channel, for tasks. It counts as `clone`, and waits for the lock.
+    ///
+    /// # Errors
+    /// As `clone`.
+    ///
+    /// # Examples
+    /// ```text
+    /// let other = receiver.clone_async(&rt)?;
+    /// other.receiver_count(&rt)   answers  2   where it answered 1 before
+    /// ```
+    pub fn clone_async<R: Wait>(&self, rt: &R) -> Result<AsyncReceiver<T>, TooMany> {
+        self.inner.clone(rt)
+    }
+
+    /// The same receiver for tasks: the counts stay. It waits for nobody.
+    ///
+    /// # Examples
+    /// ```text
+    /// receiver.to_async().receiver_count(&rt)   answers  1   for a new channel
+    /// ```
+    pub fn to_async(self) -> AsyncReceiver<T> {
+        let Receiver { inner } = self;
+        inner
+    }
+
+    /// This receiver as one for tasks: the counts stay. It waits for nobody.
+    ///
+    /// # Examples
+    /// ```text
+    /// receiver.as_async().recv()   answers  a future that receives a message
+    /// ```
+    pub fn as_async(&self) -> &AsyncReceiver<T> {
+        &self.inner
     }
 
     /// Whether no sender is left. It waits for the lock.
@@ -152,7 +184,7 @@ impl<T: Drop> Receiver<T> {
     /// receiver.is_disconnected(&rt)   answers  true   after the last sender was dropped
     /// ```
     pub fn is_disconnected<R: Wait>(&self, rt: &R) -> bool {
-        self.inner.shared().sender_count(rt) == 0
+        self.inner.is_disconnected(rt)
     }
 
     /// Whether no sender is left and the buffer is empty, so that no message will come. It waits for
@@ -163,7 +195,7 @@ impl<T: Drop> Receiver<T> {
     /// receiver.is_terminated(&rt)   answers  false   while a message is in the buffer
     /// ```
     pub fn is_terminated<R: Wait>(&self, rt: &R) -> bool {
-        self.inner.shared().is_terminated(rt)
+        self.inner.is_terminated(rt)
     }
 
     /// How many messages are in the buffer. It waits for the lock.
@@ -173,7 +205,7 @@ impl<T: Drop> Receiver<T> {
     /// receiver.len(&rt)   answers  1   after one message entered a bounded channel for two
     /// ```
     pub fn len<R: Wait>(&self, rt: &R) -> usize {
-        self.inner.shared().len(rt)
+        self.inner.len(rt)
     }
 
     /// Whether no message is in the buffer, whoever waits. It waits for the lock.
@@ -183,17 +215,18 @@ impl<T: Drop> Receiver<T> {
     /// receiver.is_empty(&rt)   answers  false   after one message entered
     /// ```
     pub fn is_empty<R: Wait>(&self, rt: &R) -> bool {
-        self.inner.shared().is_empty(rt)
+        self.inner.is_empty(rt)
     }
 
-    /// Whether the buffer is at the capacity: always at capacity 0, and never without a limit. It waits for the lock.
+    /// Whether the buffer is at the capacity: always at capacity 0, and never without a limit. It
+    /// waits for the lock.
     ///
     /// # Examples
     /// ```text
     /// receiver.is_full(&rt)   answers  true   after one message entered a bounded channel for one
     /// ```
     pub fn is_full<R: Wait>(&self, rt: &R) -> bool {
-        self.inner.shared().is_full(rt)
+        self.inner.is_full(rt)
     }
 
     /// Whether the channel has a limit. It waits for the lock.
@@ -203,17 +236,18 @@ impl<T: Drop> Receiver<T> {
     /// receiver.is_bounded(&rt)   answers  true   for a channel that `bounded` made
     /// ```
     pub fn is_bounded<R: Wait>(&self, rt: &R) -> bool {
-        self.inner.shared().is_bounded(rt)
+        self.inner.is_bounded(rt)
     }
 
-    /// How many messages the buffer may hold, which is `usize::MAX` without a limit. It waits for the lock.
+    /// How many messages the buffer may hold, which is `usize::MAX` without a limit. It waits for the
+    /// lock.
     ///
     /// # Examples
     /// ```text
     /// receiver.capacity(&rt)   answers  2   for a bounded channel for two
     /// ```
     pub fn capacity<R: Wait>(&self, rt: &R) -> usize {
-        self.inner.shared().capacity(rt)
+        self.inner.capacity(rt)
     }
 
     /// How many receivers there are. It waits for the lock.
@@ -223,7 +257,7 @@ impl<T: Drop> Receiver<T> {
     /// receiver.receiver_count(&rt)   answers  1   for a new channel
     /// ```
     pub fn receiver_count<R: Wait>(&self, rt: &R) -> u32 {
-        self.inner.shared().receiver_count(rt)
+        self.inner.receiver_count(rt)
     }
 
     /// How many senders there are. It waits for the lock.
@@ -233,7 +267,7 @@ impl<T: Drop> Receiver<T> {
     /// receiver.sender_count(&rt)   answers  1   for a new channel
     /// ```
     pub fn sender_count<R: Wait>(&self, rt: &R) -> u32 {
-        self.inner.shared().sender_count(rt)
+        self.inner.sender_count(rt)
     }
 
     /// Whether both sides are gone. It waits for the lock.
@@ -243,7 +277,7 @@ impl<T: Drop> Receiver<T> {
     /// receiver.is_closed(&rt)   answers  true   after a close
     /// ```
     pub fn is_closed<R: Wait>(&self, rt: &R) -> bool {
-        self.inner.shared().is_closed(rt)
+        self.inner.is_closed(rt)
     }
 
     /// Closes the channel for both sides: all waits end with `Closed`, and the buffer's messages are
@@ -258,7 +292,7 @@ impl<T: Drop> Receiver<T> {
     /// receiver.close(&rt)   answers  Err(CloseError())   after that
     /// ```
     pub fn close<R: Wait>(&self, rt: &R) -> Result<(), CloseError> {
-        self.inner.shared().close(rt)
+        self.inner.close(rt)
     }
 }
 
@@ -267,22 +301,5 @@ impl<T: Drop> fmt::Debug for Receiver<T> {
 
     fn fmt<W: fmt::Write>(&self, f: &mut fmt::Formatter<W>) -> fmt::Result {
         f.write_str("Receiver { .. }")
-    }
-}
-
-/// The messages of a receiver, as `Receiver::iter` answers them.
-#[derive(Drop)]
-pub struct Messages<'a, T, R: Wait> {
-    rt: &'a R,
-    receiver: &'a mut Receiver<T>,
-}
-
-impl<T: Drop, R: Wait> Iterator for Messages<'_, T, R> {
-    type Item = T;
-
-    /// Receives the next message; `None` where that is refused. It waits for the lock, and for a
-    /// message where there is none.
-    fn next(&mut self) -> Option<T> {
-        self.receiver.recv(self.rt).ok()
     }
 }

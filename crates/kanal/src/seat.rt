@@ -1,11 +1,14 @@
 //! What a waiter brings to the core: the end that settles its wait, in memory of its own, in which
 //! its entry is kept when it leaves by notice.
 //!
-//! Stands on the cell. What leaves the core is settled or let go here, and only after the lock was
+//! Stands on the settling end. What leaves the core is settled or let go here, and only after the lock was
 //! released.
 ghost use Rattle.kanal_core.specs.CellRule.{HasNotSettled};
 ghost use Rattle.kanal_core.specs.CellEnds.{settle_view};
+ghost use Rattle.kanal.specs.Renewing.{Swaps};
 
+use crate::settler::Settler;
+use futures::task::Waker;
 use kanal_core::internal::{ChannelInternal, Ended, Outcome, Settled};
 use kanal_core::signal::SettleEnd;
 use std::alloc::Global;
@@ -16,13 +19,6 @@ use std::alloc::Global;
 /// find that a handle may go to another thread.
 pub type Core<T> = ChannelInternal<T, Box<Seat<T>>>;
 
-/// The end of a cell that has not settled yet.
-#[derive(Drop)]
-pub struct Settler<T> {
-    end: SettleEnd<Outcome<T>>,
-    ghost unspent: { HasNotSettled (settle_view end) },
-}
-
 /// A waiter's end of its cell, with the place for its message and for the seats that left before
 /// it, when it leaves by notice.
 #[derive(Drop)]
@@ -32,31 +28,31 @@ pub struct Seat<T> {
     pub(crate) next: Option<Box<Seat<T>>>,
 }
 
-impl<T: Drop> Settler<T> {
-    /// Hands the outcome over; what comes back, since the waiter has left, is let go.
-    fn settle(self, outcome: Outcome<T>) {
-        let Settler { mut end } = self;
-        let back = end.settle(outcome);
-        drop(back);
-    }
-}
-
 impl<T: Drop> Seat<T> {
     /// A seat over a fresh end; `None` where there is no memory for it.
     pub(crate) fn new(alloc: Global, end: SettleEnd<Outcome<T>>) -> Option<Box<Self>>
         requires { HasNotSettled (settle_view end) }
     {
         let seat = Seat {
-            settler: Settler { end },
+            settler: Settler::new(end),
             message: None,
             next: None,
         };
         Box::new(alloc, seat).ok()
     }
 
+    /// Swaps the waker that settling wakes for the spare one, if there is a spare.
+    pub(crate) fn renew(&mut self, spare: &mut Option<Waker>)
+        ensures swapped { Swaps spare.old self.old self.new spare.new }
+    {
+        if let Some(waker) = spare.take() {
+            *spare = self.settler.set_waker(waker);
+        }
+    }
+
     /// Whether the waiter has left.
     pub(crate) fn is_left(&self) -> bool {
-        self.settler.end.is_left()
+        self.settler.is_left()
     }
 }
 

@@ -1,85 +1,32 @@
-//! The sender of a channel for threads, and how a channel is made.
+//! The sender of a channel for threads.
 //!
-//! Stands on the sending handle that holds the channel; nothing is done here but handing on. Where a
-//! call is refused its message is dropped, but for the calls that are lent an option.
-ghost use Rattle.std.specs.Prelude.{◌≡◌, ◌≢◌, ◌↔◌, IsSome, IsErrOf, Some, None, Ok, true, codes, IfErr};
+//! Stands on the sender for tasks; nothing is done here but handing on. Where a call is refused its
+//! message is dropped, but for the calls that are lent an option.
+ghost use Rattle.std.specs.Prelude.{◌≡◌, ◌≢◌, IsSome, Some, None, Ok, true, codes, IfErr};
 ghost use Rattle.kanal.specs.Timed.{StartedNoWait};
 
-use crate::async_receiver::AsyncReceiver;
 use crate::async_sender::AsyncSender;
 use crate::clock::Clock;
-use crate::receiver::Receiver;
-use crate::seat::Core;
-use crate::shared::Shared;
-use kanal_core::error::{CloseError, NewError, SendError, SendErrorTimeout, TooMany};
-use kanal_core::internal::ChannelInternal;
-use std::alloc::Global;
-use std::sync::{Arc, Wait};
+use kanal_core::error::{CloseError, SendError, SendErrorTimeout, TooMany};
+use std::sync::Wait;
 use std::time::Duration;
 use std::{fmt, time};
 
-/// The two first handles over this core.
-fn handles<T: Drop>(alloc: Global, core: Core<T>) -> Result<(Sender<T>, Receiver<T>), NewError>
-    ensures { IsErrOf result NewError.TooLarge → ⊥ }
-{
-    let Ok(shared) = Arc::new(alloc, Shared::new(core)) else {
-        return Err(NewError::NoMemory);
-    };
-    let Ok(other) = Arc::try_clone(&shared) else {
-        return Err(NewError::NoMemory);
-    };
-    let sender = Sender {
-        inner: AsyncSender::new(shared, alloc),
-    };
-    let receiver = Receiver::new(AsyncReceiver::new(other, alloc));
-    Ok((sender, receiver))
-}
-
-/// Makes a channel whose buffer holds so many messages; at 0 each send waits for its receive.
-///
-/// All memory of the buffer is asked for here. It waits for nobody.
-///
-/// # Errors
-/// `TooLarge` exactly for `usize::MAX`, and `NoMemory` where there is no memory for the channel.
-///
-/// # Examples
-/// ```text
-/// let (sender, receiver) = kanal::bounded::<u64>(rt.alloc(), 1)?;
-/// sender.send(&rt, 7)   answers  Ok(())
-/// receiver.recv(&rt)    answers  Ok(7)
-/// ```
-pub fn bounded<T: Drop>(alloc: Global, size: usize) -> Result<(Sender<T>, Receiver<T>), NewError>
-    ensures large { IsErrOf result NewError.TooLarge ↔ (size ≡ 18446744073709551615) }
-{
-    handles(alloc, ChannelInternal::new(alloc, size)?)
-}
-
-/// Makes a channel without limit, whose buffer grows as messages are sent. It waits for nobody.
-///
-/// # Errors
-/// `NoMemory` where there is no memory for the channel.
-///
-/// # Examples
-/// ```text
-/// let (sender, receiver) = kanal::unbounded::<u64>(rt.alloc())?;
-/// sender.send(&rt, 7)   answers  Ok(())
-/// receiver.recv(&rt)    answers  Ok(7)
-/// ```
-pub fn unbounded<T: Drop>(alloc: Global) -> Result<(Sender<T>, Receiver<T>), NewError>
-    ensures large { IsErrOf result NewError.TooLarge → ⊥ }
-{
-    handles(alloc, ChannelInternal::unbounded(alloc))
-}
-
 /// Sends messages to a channel.
 ///
-/// The channel's send side is gone when the last sender was dropped. A drop waits for nobody.
+/// The channel's send side is gone when the last sender of either kind was dropped. A drop waits for
+/// nobody.
 #[derive(Drop)]
 pub struct Sender<T> {
     inner: AsyncSender<T>,
 }
 
 impl<T: Drop> Sender<T> {
+    /// A sender for threads.
+    pub(crate) fn new(inner: AsyncSender<T>) -> Self {
+        Sender { inner }
+    }
+
     /// Sends the message. Where the buffer is full it waits until a receiver takes the message, or
     /// the channel ends; and it waits for the lock.
     ///
@@ -95,85 +42,6 @@ impl<T: Drop> Sender<T> {
     /// ```
     pub fn send<R: Wait>(&self, rt: &R, message: T) -> Result<(), SendError> {
         self.inner.send_blocking(rt, message)
-    }
-
-    /// Sends the message where there is a place for it. `Ok(false)` says that there is none, and the
-    /// message was dropped. It waits for the lock.
-    ///
-    /// # Errors
-    /// As `send`, but for `TooMany`. The message is dropped then.
-    ///
-    /// # Examples
-    /// ```text
-    /// sender.try_send(&rt, 1)   answers  Ok(true)    in a new bounded channel for one
-    /// sender.try_send(&rt, 2)   answers  Ok(false)   after that
-    /// ```
-    pub fn try_send<R: Wait>(&self, rt: &R, message: T) -> Result<bool, SendError> {
-        let mut option = Some(message);
-        self.inner.try_send_option(rt, &mut option)
-    }
-
-    /// Sends the option's message where there is a place for it, and empties the option exactly
-    /// then. It waits for the lock.
-    ///
-    /// The caller knows that the option holds a message.
-    ///
-    /// # Errors
-    /// As `try_send`. The option holds the same message then.
-    ///
-    /// # Examples
-    /// ```text
-    /// let mut option = Some(1);
-    /// sender.try_send_option(&rt, &mut option)   answers  Ok(false)   at capacity 0
-    /// option                                     is       Some(1)
-    /// ```
-    pub fn try_send_option<R: Wait>(
-        &self,
-        rt: &R,
-        option: &mut Option<T>,
-    ) -> Result<bool, SendError>
-        requires { IsSome option.old }
-        ensures sent { result ≡ Ok true → option.new ≡ None }
-        ensures kept { result ≢ Ok true → option.new ≡ option.old }
-    {
-        self.inner.try_send_option(rt, option)
-    }
-
-    /// Sends the message where there is a place for it and the lock is free: it waits for nobody.
-    /// `Ok(false)` says that there is no place or the lock was held, and the message was dropped.
-    ///
-    /// # Errors
-    /// As `try_send`. The message is dropped then.
-    ///
-    /// # Examples
-    /// ```text
-    /// sender.try_send_realtime(1)   answers  Ok(true)   in a new bounded channel for one
-    /// ```
-    pub fn try_send_realtime(&self, message: T) -> Result<bool, SendError> {
-        let mut option = Some(message);
-        self.inner.try_send_option_realtime(&mut option)
-    }
-
-    /// Sends the option's message where there is a place for it and the lock is free, and empties
-    /// the option exactly then: it waits for nobody.
-    ///
-    /// The caller knows that the option holds a message.
-    ///
-    /// # Errors
-    /// As `try_send`. The option holds the same message then.
-    ///
-    /// # Examples
-    /// ```text
-    /// let mut option = Some(1);
-    /// sender.try_send_option_realtime(&mut option)   answers  Ok(true)   in a new bounded channel
-    /// option                                         is       None
-    /// ```
-    pub fn try_send_option_realtime(&self, option: &mut Option<T>) -> Result<bool, SendError>
-        requires { IsSome option.old }
-        ensures sent { result ≡ Ok true → option.new ≡ None }
-        ensures kept { result ≢ Ok true → option.new ≡ option.old }
-    {
-        self.inner.try_send_option_realtime(option)
     }
 
     /// Sends the message. Where the buffer is full it waits until a receiver takes the message, the
@@ -196,9 +64,7 @@ impl<T: Drop> Sender<T> {
         duration: Duration,
         clock: &C,
     ) -> Result<(), SendErrorTimeout> {
-        let mut option = Some(message);
-        self.inner
-            .send_option_timeout(rt, &mut option, duration, clock)
+        self.inner.send_timeout(rt, message, duration, clock)
     }
 
     /// Sends the option's message as `send_timeout`, and empties the option exactly where it was sent.
@@ -229,6 +95,84 @@ impl<T: Drop> Sender<T> {
         self.inner.send_option_timeout(rt, option, duration, clock)
     }
 
+    /// Sends the message where there is a place for it. `Ok(false)` says that there is none, and the
+    /// message was dropped. It waits for the lock.
+    ///
+    /// # Errors
+    /// `Closed` where the channel was closed, `ReceiveClosed` where the last receiver was dropped, and
+    /// `NoMemory` where memory was refused. The message is dropped then.
+    ///
+    /// # Examples
+    /// ```text
+    /// sender.try_send(&rt, 1)   answers  Ok(true)    in a new bounded channel for one
+    /// sender.try_send(&rt, 2)   answers  Ok(false)   after that
+    /// ```
+    pub fn try_send<R: Wait>(&self, rt: &R, message: T) -> Result<bool, SendError> {
+        self.inner.try_send(rt, message)
+    }
+
+    /// Sends the option's message where there is a place for it, and empties the option exactly
+    /// then. It waits for the lock.
+    ///
+    /// The caller knows that the option holds a message.
+    ///
+    /// # Errors
+    /// As `try_send`. The option holds the same message then.
+    ///
+    /// # Examples
+    /// ```text
+    /// let mut option = Some(1);
+    /// sender.try_send_option(&rt, &mut option)   answers  Ok(false)   at capacity 0
+    /// option   is  Some(1)
+    /// ```
+    pub fn try_send_option<R: Wait>(
+        &self,
+        rt: &R,
+        option: &mut Option<T>,
+    ) -> Result<bool, SendError>
+        requires { IsSome option.old }
+        ensures sent { result ≡ Ok true → option.new ≡ None }
+        ensures kept { result ≢ Ok true → option.new ≡ option.old }
+    {
+        self.inner.try_send_option(rt, option)
+    }
+
+    /// Sends the message where there is a place for it and the lock is free: it waits for nobody.
+    /// `Ok(false)` says that there is no place or the lock was held, and the message was dropped.
+    ///
+    /// # Errors
+    /// As `try_send`. The message is dropped then.
+    ///
+    /// # Examples
+    /// ```text
+    /// sender.try_send_realtime(1)   answers  Ok(true)   in a new bounded channel for one
+    /// ```
+    pub fn try_send_realtime(&self, message: T) -> Result<bool, SendError> {
+        self.inner.try_send_realtime(message)
+    }
+
+    /// Sends the option's message where there is a place for it and the lock is free, and empties
+    /// the option exactly then: it waits for nobody.
+    ///
+    /// The caller knows that the option holds a message.
+    ///
+    /// # Errors
+    /// As `try_send`. The option holds the same message then.
+    ///
+    /// # Examples
+    /// ```text
+    /// let mut option = Some(1);
+    /// sender.try_send_option_realtime(&mut option)   answers  Ok(true)   in a new bounded channel
+    /// option   is  None
+    /// ```
+    pub fn try_send_option_realtime(&self, option: &mut Option<T>) -> Result<bool, SendError>
+        requires { IsSome option.old }
+        ensures sent { result ≡ Ok true → option.new ≡ None }
+        ensures kept { result ≢ Ok true → option.new ≡ option.old }
+    {
+        self.inner.try_send_option_realtime(option)
+    }
+
     /// One more sender of the channel. Where no sender is left it stays so, and the answer is still
     /// a sender. It waits for the lock.
     ///
@@ -241,8 +185,42 @@ impl<T: Drop> Sender<T> {
     /// sender.sender_count(&rt)   answers  2   where it answered 1 before
     /// ```
     pub fn clone<R: Wait>(&self, rt: &R) -> Result<Self, TooMany> {
-        let inner = self.inner.clone(rt)?;
-        Ok(Sender { inner })
+        self.inner.clone_sync(rt)
+    }
+
+    /// One more sender of the channel, for tasks. It counts as `clone`, and waits for the lock.
+    ///
+    /// # Errors
+    /// As `clone`.
+    ///
+    /// # Examples
+    /// ```text
+    /// let other = sender.clone_async(&rt)?;
+    /// other.sender_count(&rt)   answers  2   where it answered 1 before
+    /// ```
+    pub fn clone_async<R: Wait>(&self, rt: &R) -> Result<AsyncSender<T>, TooMany> {
+        self.inner.clone(rt)
+    }
+
+    /// The same sender for tasks: the counts stay. It waits for nobody.
+    ///
+    /// # Examples
+    /// ```text
+    /// sender.to_async().sender_count(&rt)   answers  1   for a new channel
+    /// ```
+    pub fn to_async(self) -> AsyncSender<T> {
+        let Sender { inner } = self;
+        inner
+    }
+
+    /// This sender as one for tasks: the counts stay. It waits for nobody.
+    ///
+    /// # Examples
+    /// ```text
+    /// sender.as_async().send(7)   answers  a future that sends 7
+    /// ```
+    pub fn as_async(&self) -> &AsyncSender<T> {
+        &self.inner
     }
 
     /// Whether no receiver is left. It waits for the lock.
@@ -252,7 +230,7 @@ impl<T: Drop> Sender<T> {
     /// sender.is_disconnected(&rt)   answers  true   after the last receiver was dropped
     /// ```
     pub fn is_disconnected<R: Wait>(&self, rt: &R) -> bool {
-        self.inner.shared().receiver_count(rt) == 0
+        self.inner.is_disconnected(rt)
     }
 
     /// How many messages are in the buffer. It waits for the lock.
@@ -262,7 +240,7 @@ impl<T: Drop> Sender<T> {
     /// sender.len(&rt)   answers  1   after one message entered a bounded channel for two
     /// ```
     pub fn len<R: Wait>(&self, rt: &R) -> usize {
-        self.inner.shared().len(rt)
+        self.inner.len(rt)
     }
 
     /// Whether no message is in the buffer, whoever waits. It waits for the lock.
@@ -272,17 +250,18 @@ impl<T: Drop> Sender<T> {
     /// sender.is_empty(&rt)   answers  false   after one message entered
     /// ```
     pub fn is_empty<R: Wait>(&self, rt: &R) -> bool {
-        self.inner.shared().is_empty(rt)
+        self.inner.is_empty(rt)
     }
 
-    /// Whether the buffer is at the capacity: always at capacity 0, and never without a limit. It waits for the lock.
+    /// Whether the buffer is at the capacity: always at capacity 0, and never without a limit. It
+    /// waits for the lock.
     ///
     /// # Examples
     /// ```text
     /// sender.is_full(&rt)   answers  true   after one message entered a bounded channel for one
     /// ```
     pub fn is_full<R: Wait>(&self, rt: &R) -> bool {
-        self.inner.shared().is_full(rt)
+        self.inner.is_full(rt)
     }
 
     /// Whether the channel has a limit. It waits for the lock.
@@ -292,17 +271,18 @@ impl<T: Drop> Sender<T> {
     /// sender.is_bounded(&rt)   answers  true   for a channel that `bounded` made
     /// ```
     pub fn is_bounded<R: Wait>(&self, rt: &R) -> bool {
-        self.inner.shared().is_bounded(rt)
+        self.inner.is_bounded(rt)
     }
 
-    /// How many messages the buffer may hold, which is `usize::MAX` without a limit. It waits for the lock.
+    /// How many messages the buffer may hold, which is `usize::MAX` without a limit. It waits for the
+    /// lock.
     ///
     /// # Examples
     /// ```text
     /// sender.capacity(&rt)   answers  2   for a bounded channel for two
     /// ```
     pub fn capacity<R: Wait>(&self, rt: &R) -> usize {
-        self.inner.shared().capacity(rt)
+        self.inner.capacity(rt)
     }
 
     /// How many receivers there are. It waits for the lock.
@@ -312,7 +292,7 @@ impl<T: Drop> Sender<T> {
     /// sender.receiver_count(&rt)   answers  1   for a new channel
     /// ```
     pub fn receiver_count<R: Wait>(&self, rt: &R) -> u32 {
-        self.inner.shared().receiver_count(rt)
+        self.inner.receiver_count(rt)
     }
 
     /// How many senders there are. It waits for the lock.
@@ -322,7 +302,7 @@ impl<T: Drop> Sender<T> {
     /// sender.sender_count(&rt)   answers  1   for a new channel
     /// ```
     pub fn sender_count<R: Wait>(&self, rt: &R) -> u32 {
-        self.inner.shared().sender_count(rt)
+        self.inner.sender_count(rt)
     }
 
     /// Whether both sides are gone. It waits for the lock.
@@ -332,7 +312,7 @@ impl<T: Drop> Sender<T> {
     /// sender.is_closed(&rt)   answers  true   after a close
     /// ```
     pub fn is_closed<R: Wait>(&self, rt: &R) -> bool {
-        self.inner.shared().is_closed(rt)
+        self.inner.is_closed(rt)
     }
 
     /// Closes the channel for both sides: all waits end with `Closed`, and the buffer's messages are
@@ -347,7 +327,7 @@ impl<T: Drop> Sender<T> {
     /// sender.close(&rt)   answers  Err(CloseError())   after that
     /// ```
     pub fn close<R: Wait>(&self, rt: &R) -> Result<(), CloseError> {
-        self.inner.shared().close(rt)
+        self.inner.close(rt)
     }
 }
 

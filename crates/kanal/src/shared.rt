@@ -15,6 +15,11 @@ use std::sync::atomic::AtomicU64;
 use std::sync::atomic::Ordering::SeqCst;
 use std::sync::{MutexGuard, Wait};
 
+#[cfg(test)]
+mod ended;
+#[cfg(test)]
+mod held;
+
 /// How often a call looks for notices after it released the lock.
 const LOOKS: u32 = 64;
 
@@ -32,7 +37,7 @@ pub struct Shared<T> {
 
 /// A lock that one try got, with what the notices took out of the core.
 #[derive(Drop)]
-pub(crate) struct Held<'a, T> {
+pub(crate) struct Acquired<'a, T> {
     pub(crate) core: MutexGuard<'a, Core<T>>,
     leaving: Leaving<T>,
 }
@@ -85,10 +90,10 @@ fn emptied(counter: &AtomicU64) -> u64 {
     counter.swap(0, SeqCst)
 }
 
-impl<T: Drop> Held<'_, T> {
+impl<T: Drop> Acquired<'_, T> {
     /// Releases the lock, and settles what the notices took out.
     fn free(self) {
-        let Held { core, leaving } = self;
+        let Acquired { core, leaving } = self;
         drop(core);
         leaving.settle();
     }
@@ -138,14 +143,14 @@ impl<T: Drop> Shared<T> {
     }
 
     /// Tries once to get the lock, and applies the notices; `None` where it is held.
-    pub(crate) fn try_lock(&self) -> Option<Held<'_, T>> {
+    pub(crate) fn try_lock(&self) -> Option<Acquired<'_, T>> {
         let mut core = self.core.try_lock()?;
         let leaving = if self.is_quiet() {
             Leaving::nothing()
         } else {
             self.apply(&mut core)
         };
-        Some(Held { core, leaving })
+        Some(Acquired { core, leaving })
     }
 
     /// Applies the notices. Where they take something out, the lock is released, and that is settled.
@@ -204,12 +209,12 @@ impl<T: Drop> Shared<T> {
 
     /// Releases a lock that one try got, settles what the notices took out and then the wait that the
     /// call's step settled, and looks for new notices.
-    pub(crate) fn release_held(
+    pub(crate) fn release_acquired(
         &self,
-        held: Held<'_, T>,
+        acquired: Acquired<'_, T>,
         settled: Option<Settled<T, Box<Seat<T>>>>,
     ) {
-        held.free();
+        acquired.free();
         if let Some(one) = settled {
             settle(one);
         }
@@ -241,10 +246,10 @@ impl<T: Drop> Shared<T> {
             if self.is_quiet() {
                 return;
             }
-            let Some(held) = self.try_lock() else {
+            let Some(acquired) = self.try_lock() else {
                 return;
             };
-            held.free();
+            acquired.free();
         }
     }
 
@@ -262,12 +267,27 @@ impl<T: Drop> Shared<T> {
         Some(message)
     }
 
+    /// A future that waits with the ticket goes away: it waits for nobody.
+    pub(crate) fn leave(&self, ticket: Ticket) {
+        match self.try_lock() {
+            Some(mut acquired) => {
+                let found = acquired.core.withdraw(ticket);
+                self.release_acquired(acquired, None);
+                drop(found);
+            },
+            None => {
+                self.left.fetch_add(1, SeqCst);
+                self.look();
+            },
+        }
+    }
+
     /// A sender goes away: it waits for nobody.
     pub(crate) fn drop_sender(&self) {
         match self.try_lock() {
-            Some(mut held) => {
-                let ended = held.core.drop_sender();
-                held.free();
+            Some(mut acquired) => {
+                let ended = acquired.core.drop_sender();
+                acquired.free();
                 settle_all(ended);
                 self.look();
             },
@@ -281,9 +301,9 @@ impl<T: Drop> Shared<T> {
     /// A receiver goes away: it waits for nobody.
     pub(crate) fn drop_receiver(&self) {
         match self.try_lock() {
-            Some(mut held) => {
-                let ended = held.core.drop_receiver();
-                held.free();
+            Some(mut acquired) => {
+                let ended = acquired.core.drop_receiver();
+                acquired.free();
                 settle_all(ended);
                 self.look();
             },

@@ -7,13 +7,15 @@ ghost use Rattle.std.specs.Prelude.{◌≡◌, ◌≢◌, ◌↔◌, ◌++◌, L
 ghost use Rattle.kanal_core.specs.Line.{messages};
 ghost use Rattle.kanal_core.specs.Moves.{drain, drop_receiver, drop_sender};
 ghost use Rattle.kanal_core.specs.Channel.{line_of, settlement, settlements, taken_by};
-ghost use Rattle.kanal_core.specs.Waiters.{sender_first};
+ghost use Rattle.kanal_core.specs.Waiters.{sender_first, waiter_of};
 ghost use Rattle.kanal_core.specs.Calls.{IsFull, IsEmpty, MovesTo, OldestLeft};
 ghost use Rattle.kanal_core.specs.declared.internal.outcome.Waiter.{Waiter};
 ghost use Rattle.kanal.specs.Leaving.{LeaveInTurn, entry_of, kept_by, kept_from};
+ghost use Rattle.kanal.specs.Renewing.{Renews};
 ghost use Rattle.kanal.specs.Steps.{Boxed, TriesToSend, TriesToReceive, Sends, SendSeats, ReceivesLate, Receives, ReceiveSeats, all_of, times};
 
 use crate::seat::{Core, Seat};
+use futures::task::Waker;
 use kanal_core::error::{DrainError, ReceiveError, ReceiveErrorTimeout, SendError, WaitError};
 use kanal_core::internal::{Ended, Offer, Settled, Take, Ticket, Waiter};
 
@@ -173,6 +175,20 @@ pub(crate) fn recv<T: Drop>(core: &mut Core<T>, seat: Box<Seat<T>>) -> Received<
         Take::Closed => Received::Refused(ReceiveError::Closed, seat),
         Take::SendClosed => Received::Refused(ReceiveError::SendClosed, seat),
     }
+}
+
+/// Swaps the waker of the wait with the ticket for the spare one, if there is a spare, and answers
+/// whether the ticket waits.
+pub(crate) fn renew<T: Drop>(core: &mut Core<T>, ticket: Ticket, spare: &mut Option<Waker>) -> bool
+    ensures line { line_of core.new ≡ line_of core.old }
+    ensures waits { (result ≡ true) ↔ IsSome (waiter_of ticket core.old.waiters) }
+    ensures renewed { Renews ticket spare.old core.old.waiters core.new.waiters spare.new }
+{
+    let Some(seat) = core.waiting(ticket) else {
+        return false;
+    };
+    seat.renew(spare);
+    true
 }
 
 /// Moves the whole line to the vector's end, and hands out the sends whose messages it took.

@@ -1,4 +1,4 @@
-//! Calls and drops while the lock is held by the test.
+//! Calls, polls and drops while the lock is held by the test.
 use crate::bounded;
 use std::test::Fail;
 
@@ -8,7 +8,7 @@ fn handles_are_dropped_while_the_lock_is_held(rt: HostRuntime) -> Result<(), Fai
     let first = sender.clone(&rt)?;
     let second = sender.clone(&rt)?;
     let third = sender.clone(&rt)?;
-    let shared = receiver.inner.shared();
+    let shared = receiver.as_async().shared();
     let guard = shared.lock(&rt);
     drop(sender);
     drop(first);
@@ -26,7 +26,7 @@ fn handles_are_dropped_while_the_lock_is_held(rt: HostRuntime) -> Result<(), Fai
 fn realtime_forms_while_the_lock_is_held(rt: HostRuntime) -> Result<(), Fail> {
     let (sender, receiver) = bounded::<u64>(rt.alloc(), 1)?;
     assert_eq!(rt; receiver.close(&rt), Ok(()));
-    let shared = receiver.inner.shared();
+    let shared = receiver.as_async().shared();
     let guard = shared.lock(&rt);
     let sent = sender.try_send_realtime(1);
     let got = receiver.try_recv_realtime();

@@ -1,8 +1,6 @@
 //! Calls whose wait has begun, which the lock shows, and what ends such a wait in an error.
-use crate::bounded;
-use crate::receiver::Receiver;
-use crate::sender::Sender;
-use crate::shared::Shared;
+use super::Shared;
+use crate::{Receiver, Sender, bounded};
 use kanal_core::error::{ReceiveError, SendError};
 use std::alloc::{AllocError, Global};
 use std::sync::atomic::AtomicU64;
@@ -66,7 +64,7 @@ fn a_close_ends_a_receive_that_waits(rt: HostRuntime) -> Result<(), Fail> {
     let (sender, receiver) = bounded::<u64>(rt.alloc(), 1)?;
     let other = receiver.clone(&rt)?;
     let thread = start_recv(rt, receiver)?;
-    assert!(rt; begins(&rt, other.inner.shared()));
+    assert!(rt; begins(&rt, other.as_async().shared()));
     assert_eq!(rt; sender.close(&rt), Ok(()));
     assert_eq!(rt; thread.join(&rt), Err(ReceiveError::Closed));
     Ok(())
@@ -77,7 +75,7 @@ fn the_last_sender_ends_a_receive_that_waits(rt: HostRuntime) -> Result<(), Fail
     let (sender, receiver) = bounded::<u64>(rt.alloc(), 1)?;
     let other = receiver.clone(&rt)?;
     let thread = start_recv(rt, receiver)?;
-    assert!(rt; begins(&rt, other.inner.shared()));
+    assert!(rt; begins(&rt, other.as_async().shared()));
     drop(sender);
     assert_eq!(rt; thread.join(&rt), Err(ReceiveError::SendClosed));
     Ok(())
@@ -91,7 +89,7 @@ fn a_close_ends_a_send_that_waits(rt: HostRuntime) -> Result<(), Fail> {
         drops: Arc::try_clone(&drops)?,
     };
     let thread = start_send(rt, sender, message)?;
-    assert!(rt; begins(&rt, receiver.inner.shared()));
+    assert!(rt; begins(&rt, receiver.as_async().shared()));
     assert_eq!(rt; receiver.close(&rt), Ok(()));
     assert_eq!(rt; thread.join(&rt), Err(SendError::Closed));
     assert_eq!(rt; drops.load(SeqCst), 1);

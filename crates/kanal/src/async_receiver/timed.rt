@@ -1,0 +1,101 @@
+//! The receive until a deadline.
+//!
+//! Stands on the steps, on how a blocked call waits, and on the clock that the caller hands in.
+use super::AsyncReceiver;
+use super::blocking::answer_of;
+use crate::async_sender::blocking::wait;
+use crate::backoff::Waiting;
+use crate::clock::{Clock, deadline};
+use crate::steps;
+use crate::steps::{Received, Tried};
+use kanal_core::error::{ReceiveError, ReceiveErrorTimeout};
+use kanal_core::internal::{Outcome, Ticket};
+use std::sync::Wait;
+use std::time;
+use std::time::Duration;
+
+/// The refusal of a timed receive, for that of one without a deadline.
+fn timed(error: ReceiveError) -> ReceiveErrorTimeout {
+    match error {
+        ReceiveError::Closed | ReceiveError::Finished => ReceiveErrorTimeout::Closed,
+        ReceiveError::SendClosed => ReceiveErrorTimeout::SendClosed,
+        ReceiveError::NoMemory => ReceiveErrorTimeout::NoMemory,
+        ReceiveError::TooMany => ReceiveErrorTimeout::TooMany,
+    }
+}
+
+impl<T: Drop> AsyncReceiver<T> {
+    /// Receives a message, and waits where there is none, until the deadline.
+    pub(crate) fn recv_timeout<R: Wait + time::Clock, C: Clock>(
+        &self,
+        rt: &R,
+        duration: Duration,
+        clock: &C,
+    ) -> Result<T, ReceiveErrorTimeout> {
+        let Some(deadline) = deadline(clock, duration) else {
+            return Err(ReceiveErrorTimeout::DeadlineOutOfRange);
+        };
+        if clock.now() > deadline {
+            return self.recv_late(rt);
+        }
+        match self.try_recv(rt) {
+            Ok(Some(message)) => Ok(message),
+            Ok(None) => self.recv_until(rt, deadline, clock),
+            Err(error) => Err(timed(error)),
+        }
+    }
+
+    /// Takes the front message after the deadline.
+    fn recv_late<R: Wait>(&self, rt: &R) -> Result<T, ReceiveErrorTimeout> {
+        let mut guard = self.shared.lock(rt);
+        let Tried { answer, settled } = steps::recv_late(&mut guard);
+        self.shared.release(guard, settled);
+        answer
+    }
+
+    /// Receives a message with what a wait needs in hand, until the deadline.
+    fn recv_until<R: Wait + time::Clock, C: Clock>(
+        &self,
+        rt: &R,
+        deadline: u64,
+        clock: &C,
+    ) -> Result<T, ReceiveErrorTimeout> {
+        let Some((waiting, seat)) = wait(self.alloc) else {
+            return Err(ReceiveErrorTimeout::NoMemory);
+        };
+        let mut guard = self.shared.lock(rt);
+        match steps::recv(&mut guard, seat) {
+            Received::Got(message, settled, _seat) => {
+                self.shared.release(guard, settled);
+                Ok(message)
+            },
+            Received::Waits(ticket) => {
+                self.shared.unlock(guard);
+                let looked = waiting.outcome_until(rt, clock, deadline);
+                self.end_wait(rt, ticket, looked)
+            },
+            Received::Refused(error, _seat) => {
+                self.shared.unlock(guard);
+                Err(timed(error))
+            },
+        }
+    }
+
+    /// Ends a timed wait: by its outcome, or by a withdrawal where the deadline passed. Where the
+    /// withdrawal finds nothing the outcome is on its way, and is waited for.
+    fn end_wait<R: Wait>(
+        &self,
+        rt: &R,
+        ticket: Ticket,
+        looked: Result<Outcome<T>, Waiting<Outcome<T>>>,
+    ) -> Result<T, ReceiveErrorTimeout> {
+        let waiting = match looked {
+            Ok(outcome) => return answer_of(outcome).map_err(timed),
+            Err(waiting) => waiting,
+        };
+        match self.shared.withdraw(rt, ticket) {
+            Some(_message) => Err(ReceiveErrorTimeout::Timeout),
+            None => answer_of(waiting.outcome(rt)).map_err(timed),
+        }
+    }
+}

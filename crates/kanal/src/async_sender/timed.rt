@@ -1,0 +1,147 @@
+//! The send until a deadline.
+//!
+//! Stands on the steps, on how a blocked call waits, and on the clock that the caller hands in.
+ghost use Rattle.std.specs.Prelude.{◌≡◌, IsSome, None, Ok, IfErr};
+ghost use Rattle.kanal.specs.Timed.{StartedNoWait};
+
+use super::AsyncSender;
+use super::blocking::wait;
+use crate::backoff::Waiting;
+use crate::clock::{Clock, deadline};
+use crate::steps;
+use crate::steps::Sent;
+use kanal_core::error::{SendError, SendErrorTimeout};
+use kanal_core::internal::{Outcome, Reason, Ticket};
+use std::sync::Wait;
+use std::time;
+use std::time::Duration;
+
+/// The refusal of a timed send, for that of one without a deadline.
+fn timed(error: SendError) -> SendErrorTimeout {
+    match error {
+        SendError::Closed | SendError::Finished => SendErrorTimeout::Closed,
+        SendError::ReceiveClosed => SendErrorTimeout::ReceiveClosed,
+        SendError::NoMemory => SendErrorTimeout::NoMemory,
+        SendError::TooMany => SendErrorTimeout::TooMany,
+    }
+}
+
+/// What the end of a timed sender's wait answers; a message that comes back goes into the option.
+fn timed_answer_of<T: Drop>(
+    outcome: Outcome<T>,
+    option: &mut Option<T>,
+) -> Result<(), SendErrorTimeout>
+    ensures sent { result ≡ Ok tt → option.new ≡ option.old }
+    ensures ended { IfErr result (λ e. StartedNoWait e → ⊥) }
+{
+    match outcome {
+        Outcome::Taken => Ok(()),
+        Outcome::Ended(Reason::ReceiveClosed, message) => {
+            *option = message;
+            Err(SendErrorTimeout::ReceiveClosed)
+        },
+        Outcome::Ended(_reason, message) => {
+            *option = message;
+            Err(SendErrorTimeout::Closed)
+        },
+        Outcome::Given(_message) => Err(SendErrorTimeout::Closed),
+    }
+}
+
+impl<T: Drop> AsyncSender<T> {
+    /// Sends the message, and waits where there is no place for it, until the deadline.
+    pub(crate) fn send_timeout<R: Wait + time::Clock, C: Clock>(
+        &self,
+        rt: &R,
+        message: T,
+        duration: Duration,
+        clock: &C,
+    ) -> Result<(), SendErrorTimeout> {
+        let mut option = Some(message);
+        self.send_option_timeout(rt, &mut option, duration, clock)
+    }
+
+    /// Sends the option's message, and waits where there is no place for it, until the deadline.
+    pub(crate) fn send_option_timeout<R: Wait + time::Clock, C: Clock>(
+        &self,
+        rt: &R,
+        option: &mut Option<T>,
+        duration: Duration,
+        clock: &C,
+    ) -> Result<(), SendErrorTimeout>
+        requires { IsSome option.old }
+        ensures sent { result ≡ Ok tt → option.new ≡ None }
+        ensures kept { IfErr result (λ e. StartedNoWait e → option.new ≡ option.old) }
+    {
+        let Some(deadline) = deadline(clock, duration) else {
+            return Err(SendErrorTimeout::DeadlineOutOfRange);
+        };
+        match self.try_send_option(rt, option) {
+            Ok(true) => Ok(()),
+            Ok(false) => self.send_until(rt, option, deadline, clock),
+            Err(error) => Err(timed(error)),
+        }
+    }
+
+    /// Sends the option's message with what a wait needs in hand.
+    fn send_until<R: Wait + time::Clock, C: Clock>(
+        &self,
+        rt: &R,
+        option: &mut Option<T>,
+        deadline: u64,
+        clock: &C,
+    ) -> Result<(), SendErrorTimeout>
+        requires { IsSome option.old }
+        ensures sent { result ≡ Ok tt → option.new ≡ None }
+        ensures kept { IfErr result (λ e. StartedNoWait e → option.new ≡ option.old) }
+    {
+        let Some((waiting, seat)) = wait(self.alloc) else {
+            return Err(SendErrorTimeout::NoMemory);
+        };
+        let Some(message) = option.take() else {
+            unreachable!()
+        };
+        let mut guard = self.shared.lock(rt);
+        match steps::send(&mut guard, message, seat) {
+            Sent::Entered(settled, _seat) => {
+                self.shared.release(guard, settled);
+                Ok(())
+            },
+            Sent::Waits(ticket) => {
+                self.shared.unlock(guard);
+                let looked = waiting.outcome_until(rt, clock, deadline);
+                self.end_wait(rt, ticket, looked, option)
+            },
+            Sent::Refused(error, back, _seat) => {
+                self.shared.unlock(guard);
+                *option = Some(back);
+                Err(timed(error))
+            },
+        }
+    }
+
+    /// Ends a timed wait: by its outcome, or by a withdrawal where the deadline passed. Where the
+    /// withdrawal finds nothing the outcome is on its way, and is waited for.
+    fn end_wait<R: Wait>(
+        &self,
+        rt: &R,
+        ticket: Ticket,
+        looked: Result<Outcome<T>, Waiting<Outcome<T>>>,
+        option: &mut Option<T>,
+    ) -> Result<(), SendErrorTimeout>
+        ensures sent { result ≡ Ok tt → option.new ≡ option.old }
+        ensures ended { IfErr result (λ e. StartedNoWait e → ⊥) }
+    {
+        let waiting = match looked {
+            Ok(outcome) => return timed_answer_of(outcome, option),
+            Err(waiting) => waiting,
+        };
+        match self.shared.withdraw(rt, ticket) {
+            Some(message) => {
+                *option = message;
+                Err(SendErrorTimeout::Timeout)
+            },
+            None => timed_answer_of(waiting.outcome(rt), option),
+        }
+    }
+}

@@ -1,0 +1,110 @@
+//! How a channel is made.
+//!
+//! Stands on the core and on the handles for tasks; those for threads are made of them.
+ghost use Rattle.std.specs.Prelude.{◌≡◌, ◌↔◌, IsErrOf};
+
+use crate::async_receiver::AsyncReceiver;
+use crate::async_sender::AsyncSender;
+use crate::receiver::Receiver;
+use crate::seat::Core;
+use crate::sender::Sender;
+use crate::shared::Shared;
+use kanal_core::error::NewError;
+use kanal_core::internal::ChannelInternal;
+use std::alloc::Global;
+use std::sync::Arc;
+
+/// The two first handles over this core.
+fn handles<T: Drop>(
+    alloc: Global,
+    core: Core<T>,
+) -> Result<(AsyncSender<T>, AsyncReceiver<T>), NewError>
+    ensures { IsErrOf result NewError.TooLarge → ⊥ }
+{
+    let Ok(shared) = Arc::new(alloc, Shared::new(core)) else {
+        return Err(NewError::NoMemory);
+    };
+    let Ok(other) = Arc::try_clone(&shared) else {
+        return Err(NewError::NoMemory);
+    };
+    let sender = AsyncSender::new(shared, alloc);
+    let receiver = AsyncReceiver::new(other, alloc);
+    Ok((sender, receiver))
+}
+
+/// Makes a channel whose buffer holds so many messages; at 0 each send waits for its receive.
+///
+/// All memory of the buffer is asked for here. It waits for nobody.
+///
+/// # Errors
+/// `TooLarge` exactly for `usize::MAX`, and `NoMemory` where there is no memory for the channel.
+///
+/// # Examples
+/// ```text
+/// let (sender, receiver) = kanal::bounded::<u64>(rt.alloc(), 1)?;
+/// sender.send(&rt, 7)   answers  Ok(())
+/// receiver.recv(&rt)    answers  Ok(7)
+/// ```
+pub fn bounded<T: Drop>(alloc: Global, size: usize) -> Result<(Sender<T>, Receiver<T>), NewError>
+    ensures large { IsErrOf result NewError.TooLarge ↔ (size ≡ 18446744073709551615) }
+{
+    let (sender, receiver) = bounded_async(alloc, size)?;
+    Ok((sender.to_sync(), receiver.to_sync()))
+}
+
+/// Makes a channel without limit, whose buffer grows as messages are sent. It waits for nobody.
+///
+/// # Errors
+/// `NoMemory` where there is no memory for the channel.
+///
+/// # Examples
+/// ```text
+/// let (sender, receiver) = kanal::unbounded::<u64>(rt.alloc())?;
+/// sender.send(&rt, 7)   answers  Ok(())
+/// receiver.recv(&rt)    answers  Ok(7)
+/// ```
+pub fn unbounded<T: Drop>(alloc: Global) -> Result<(Sender<T>, Receiver<T>), NewError>
+    ensures large { IsErrOf result NewError.TooLarge → ⊥ }
+{
+    let (sender, receiver) = unbounded_async(alloc)?;
+    Ok((sender.to_sync(), receiver.to_sync()))
+}
+
+/// Makes a channel as `bounded`, with its first handles for tasks.
+///
+/// # Errors
+/// As `bounded`.
+///
+/// # Examples
+/// ```text
+/// let (sender, receiver) = kanal::bounded_async::<u64>(rt.alloc(), 1)?;
+/// block_on(&rt, sender.send(7))     gives  Ok(())
+/// block_on(&rt, receiver.recv())    gives  Ok(7)
+/// ```
+pub fn bounded_async<T: Drop>(
+    alloc: Global,
+    size: usize,
+) -> Result<(AsyncSender<T>, AsyncReceiver<T>), NewError>
+    ensures large { IsErrOf result NewError.TooLarge ↔ (size ≡ 18446744073709551615) }
+{
+    handles(alloc, ChannelInternal::new(alloc, size)?)
+}
+
+/// Makes a channel as `unbounded`, with its first handles for tasks.
+///
+/// # Errors
+/// As `unbounded`.
+///
+/// # Examples
+/// ```text
+/// let (sender, receiver) = kanal::unbounded_async::<u64>(rt.alloc())?;
+/// block_on(&rt, sender.send(7))     gives  Ok(())
+/// block_on(&rt, receiver.recv())    gives  Ok(7)
+/// ```
+pub fn unbounded_async<T: Drop>(
+    alloc: Global,
+) -> Result<(AsyncSender<T>, AsyncReceiver<T>), NewError>
+    ensures large { IsErrOf result NewError.TooLarge → ⊥ }
+{
+    handles(alloc, ChannelInternal::unbounded(alloc))
+}

@@ -1,0 +1,29 @@
+//! The messages that a receiver goes through.
+//!
+//! Stands on the receiver for tasks.
+use crate::async_receiver::AsyncReceiver;
+use std::sync::Wait;
+
+/// The messages of a receiver, as `Receiver::iter` and `ReceiverView::iter` answer them.
+#[derive(Drop)]
+pub struct Messages<'a, T, R: Wait> {
+    rt: &'a R,
+    receiver: &'a AsyncReceiver<T>,
+}
+
+impl<'a, T: Drop, R: Wait> Messages<'a, T, R> {
+    /// The messages that come to this receiver.
+    pub(crate) fn new(rt: &'a R, receiver: &'a AsyncReceiver<T>) -> Self {
+        Messages { rt, receiver }
+    }
+}
+
+impl<T: Drop, R: Wait> Iterator for Messages<'_, T, R> {
+    type Item = T;
+
+    /// Receives the next message; `None` where that is refused. It waits for the lock, and for a
+    /// message where there is none.
+    fn next(&mut self) -> Option<T> {
+        self.receiver.recv_blocking(self.rt).ok()
+    }
+}

@@ -1,0 +1,247 @@
+//! What a thread does with a receiver for tasks, without a handle of its own.
+//!
+//! Stands on the receiver for tasks; nothing is done here but handing on. A view is not counted: it
+//! has no clone, no conversion and no drop of its own.
+ghost use Rattle.std.specs.Prelude.{◌≡◌, ◌++◌, List, length, IfOk, IfErr};
+
+use crate::async_receiver::AsyncReceiver;
+use crate::clock::Clock;
+use crate::messages::Messages;
+use kanal_core::error::{CloseError, ReceiveError, ReceiveErrorTimeout};
+use std::sync::Wait;
+use std::time;
+use std::time::Duration;
+
+/// A receiver for tasks, as a thread uses it.
+#[derive(Drop)]
+pub struct ReceiverView<'a, T> {
+    receiver: &'a AsyncReceiver<T>,
+}
+
+impl<'a, T: Drop> ReceiverView<'a, T> {
+    /// A view of the receiver.
+    pub(crate) fn new(receiver: &'a AsyncReceiver<T>) -> Self {
+        ReceiverView { receiver }
+    }
+}
+
+impl<T: Drop> ReceiverView<'_, T> {
+    /// Receives the front message. Where there is none it waits until a message is sent, or the
+    /// channel ends; and it waits for the lock.
+    ///
+    /// # Errors
+    /// `Closed` where the channel was closed or no receiver is left, `SendClosed` where there is no
+    /// message and no sender is left, `NoMemory` where memory for a wait was refused, and `TooMany`
+    /// where the tickets are used up.
+    ///
+    /// # Examples
+    /// ```text
+    /// view.recv(&rt)   answers  Ok(7)                            where 7 was sent
+    /// view.recv(&rt)   answers  Err(ReceiveError::SendClosed)    after the last sender's drop
+    /// ```
+    pub fn recv<R: Wait>(&self, rt: &R) -> Result<T, ReceiveError> {
+        self.receiver.recv_blocking(rt)
+    }
+
+    /// Receives the front message. Where there is none it waits until a message is sent, the channel
+    /// ends, or the clock reaches the deadline, which is its moment now and the duration together; and
+    /// it waits for the lock. It reads the clock once more before it looks at the channel: a call that
+    /// is late by then takes a message that is there, and is otherwise answered `Timeout`.
+    ///
+    /// # Errors
+    /// As `recv`, and `Timeout` where the deadline came first, and `DeadlineOutOfRange` where no moment
+    /// is so late; the channel was not looked at then.
+    ///
+    /// # Examples
+    /// ```text
+    /// view.recv_timeout(&rt, Duration::from_millis(50), &SystemClock::new(&rt))
+    ///     answers  Err(ReceiveErrorTimeout::Timeout)   where nothing was sent within 50 ms
+    /// ```
+    pub fn recv_timeout<R: Wait + time::Clock, C: Clock>(
+        &self,
+        rt: &R,
+        duration: Duration,
+        clock: &C,
+    ) -> Result<T, ReceiveErrorTimeout> {
+        self.receiver.recv_timeout(rt, duration, clock)
+    }
+
+    /// Receives the front message, if there is one. `Ok(None)` says that there is none. It waits for
+    /// the lock.
+    ///
+    /// # Errors
+    /// `Closed` where the channel was closed or no receiver is left, and `SendClosed` where there is
+    /// no message and no sender is left.
+    ///
+    /// # Examples
+    /// ```text
+    /// view.try_recv(&rt)   answers  Ok(None)   in a new channel
+    /// ```
+    pub fn try_recv<R: Wait>(&self, rt: &R) -> Result<Option<T>, ReceiveError> {
+        self.receiver.try_recv(rt)
+    }
+
+    /// Receives the front message, if there is one and the lock is free: it waits for nobody.
+    /// `Ok(None)` says that there is none or the lock was held.
+    ///
+    /// # Errors
+    /// As `try_recv`.
+    ///
+    /// # Examples
+    /// ```text
+    /// view.try_recv_realtime()   answers  Ok(Some(1))   where 1 was sent
+    /// ```
+    pub fn try_recv_realtime(&self) -> Result<Option<T>, ReceiveError> {
+        self.receiver.try_recv_realtime()
+    }
+
+    /// Moves all messages to the vector's end, those of waiting senders too, and answers how many
+    /// they were. What the vector had stays its beginning. It waits for the lock.
+    ///
+    /// # Errors
+    /// `Closed` where no receiver is left, and `NoMemory` where the vector had too little room and
+    /// there was no memory for more. The vector holds what it held then.
+    ///
+    /// # Examples
+    /// ```text
+    /// view.drain_into(&rt, &mut messages)   answers  Ok(2)   where two messages were there
+    /// ```
+    pub fn drain_into<R: Wait>(&self, rt: &R, into: &mut Vec<T>) -> Result<usize, ReceiveError>
+        ensures drained { IfOk result (λ n. (more : List T) × (into.new.items ≡ into.old.items ++ more) × (length more ≡ n)) }
+        ensures refused { IfErr result (λ _. into.new.items ≡ into.old.items) }
+    {
+        self.receiver.drain_into(rt, into)
+    }
+
+    /// The messages, one `recv` after the other, until one is refused. It keeps the runtime value.
+    ///
+    /// To contracts it has no end, so it is used with a limit.
+    ///
+    /// # Examples
+    /// ```text
+    /// for message in view.iter(&rt).take(3) {
+    ///     sum += message;
+    /// }
+    /// ```
+    pub fn iter<'m, R: Wait>(&'m mut self, rt: &'m R) -> Messages<'m, T, R> {
+        Messages::new(rt, self.receiver)
+    }
+
+    /// Whether no sender is left. It waits for the lock.
+    ///
+    /// # Examples
+    /// ```text
+    /// view.is_disconnected(&rt)   answers  true   after the last sender was dropped
+    /// ```
+    pub fn is_disconnected<R: Wait>(&self, rt: &R) -> bool {
+        self.receiver.is_disconnected(rt)
+    }
+
+    /// Whether no sender is left and the buffer is empty, so that no message will come. It waits for
+    /// the lock.
+    ///
+    /// # Examples
+    /// ```text
+    /// view.is_terminated(&rt)   answers  false   while a message is in the buffer
+    /// ```
+    pub fn is_terminated<R: Wait>(&self, rt: &R) -> bool {
+        self.receiver.is_terminated(rt)
+    }
+
+    /// How many messages are in the buffer. It waits for the lock.
+    ///
+    /// # Examples
+    /// ```text
+    /// view.len(&rt)   answers  1   after one message entered a bounded channel for two
+    /// ```
+    pub fn len<R: Wait>(&self, rt: &R) -> usize {
+        self.receiver.len(rt)
+    }
+
+    /// Whether no message is in the buffer, whoever waits. It waits for the lock.
+    ///
+    /// # Examples
+    /// ```text
+    /// view.is_empty(&rt)   answers  false   after one message entered
+    /// ```
+    pub fn is_empty<R: Wait>(&self, rt: &R) -> bool {
+        self.receiver.is_empty(rt)
+    }
+
+    /// Whether the buffer is at the capacity: always at capacity 0, and never without a limit. It
+    /// waits for the lock.
+    ///
+    /// # Examples
+    /// ```text
+    /// view.is_full(&rt)   answers  true   after one message entered a bounded channel for one
+    /// ```
+    pub fn is_full<R: Wait>(&self, rt: &R) -> bool {
+        self.receiver.is_full(rt)
+    }
+
+    /// Whether the channel has a limit. It waits for the lock.
+    ///
+    /// # Examples
+    /// ```text
+    /// view.is_bounded(&rt)   answers  true   for a channel that `bounded` made
+    /// ```
+    pub fn is_bounded<R: Wait>(&self, rt: &R) -> bool {
+        self.receiver.is_bounded(rt)
+    }
+
+    /// How many messages the buffer may hold, which is `usize::MAX` without a limit. It waits for the
+    /// lock.
+    ///
+    /// # Examples
+    /// ```text
+    /// view.capacity(&rt)   answers  2   for a bounded channel for two
+    /// ```
+    pub fn capacity<R: Wait>(&self, rt: &R) -> usize {
+        self.receiver.capacity(rt)
+    }
+
+    /// How many receivers there are. It waits for the lock.
+    ///
+    /// # Examples
+    /// ```text
+    /// view.receiver_count(&rt)   answers  1   for a new channel
+    /// ```
+    pub fn receiver_count<R: Wait>(&self, rt: &R) -> u32 {
+        self.receiver.receiver_count(rt)
+    }
+
+    /// How many senders there are. It waits for the lock.
+    ///
+    /// # Examples
+    /// ```text
+    /// view.sender_count(&rt)   answers  1   for a new channel
+    /// ```
+    pub fn sender_count<R: Wait>(&self, rt: &R) -> u32 {
+        self.receiver.sender_count(rt)
+    }
+
+    /// Whether both sides are gone. It waits for the lock.
+    ///
+    /// # Examples
+    /// ```text
+    /// view.is_closed(&rt)   answers  true   after a close
+    /// ```
+    pub fn is_closed<R: Wait>(&self, rt: &R) -> bool {
+        self.receiver.is_closed(rt)
+    }
+
+    /// Closes the channel for both sides: all waits end with `Closed`, and the buffer's messages are
+    /// dropped after the lock was released. It waits for the lock.
+    ///
+    /// # Errors
+    /// `CloseError` where both sides were gone already.
+    ///
+    /// # Examples
+    /// ```text
+    /// view.close(&rt)   answers  Ok(())
+    /// view.close(&rt)   answers  Err(CloseError())   after that
+    /// ```
+    pub fn close<R: Wait>(&self, rt: &R) -> Result<(), CloseError> {
+        self.receiver.close(rt)
+    }
+}

@@ -1,0 +1,281 @@
+//! What a thread does with a sender for tasks, without a handle of its own.
+//!
+//! Stands on the sender for tasks; nothing is done here but handing on. A view is not counted: it has
+//! no clone, no conversion and no drop of its own.
+ghost use Rattle.std.specs.Prelude.{◌≡◌, ◌≢◌, IsSome, None, Ok, true, IfErr};
+ghost use Rattle.kanal.specs.Timed.{StartedNoWait};
+
+use crate::async_sender::AsyncSender;
+use crate::clock::Clock;
+use kanal_core::error::{CloseError, SendError, SendErrorTimeout};
+use std::sync::Wait;
+use std::time;
+use std::time::Duration;
+
+/// A sender for tasks, as a thread uses it.
+#[derive(Drop)]
+pub struct SenderView<'a, T> {
+    sender: &'a AsyncSender<T>,
+}
+
+impl<'a, T: Drop> SenderView<'a, T> {
+    /// A view of the sender.
+    pub(crate) fn new(sender: &'a AsyncSender<T>) -> Self {
+        SenderView { sender }
+    }
+}
+
+impl<T: Drop> SenderView<'_, T> {
+    /// Sends the message. Where the buffer is full it waits until a receiver takes the message, or
+    /// the channel ends; and it waits for the lock.
+    ///
+    /// # Errors
+    /// `Closed` where the channel was closed, `ReceiveClosed` where the last receiver was dropped,
+    /// `NoMemory` where memory was refused, and `TooMany` where the tickets are used up. The message
+    /// is dropped then.
+    ///
+    /// # Examples
+    /// ```text
+    /// view.send(&rt, 7)   answers  Ok(())                      in a channel with a place
+    /// view.send(&rt, 7)   answers  Err(SendError::Closed)      after a close
+    /// ```
+    pub fn send<R: Wait>(&self, rt: &R, message: T) -> Result<(), SendError> {
+        self.sender.send_blocking(rt, message)
+    }
+
+    /// Sends the message. Where the buffer is full it waits until a receiver takes the message, the
+    /// channel ends, or the clock reaches the deadline, which is its moment now and the duration
+    /// together; and it waits for the lock.
+    ///
+    /// # Errors
+    /// As `send`, and `Timeout` where the deadline came first, and `DeadlineOutOfRange` where no moment
+    /// is so late; the channel was not looked at then. The message is dropped then.
+    ///
+    /// # Examples
+    /// ```text
+    /// view.send_timeout(&rt, 7, Duration::from_millis(50), &SystemClock::new(&rt))
+    ///     answers  Err(SendErrorTimeout::Timeout)   where no place came within 50 ms
+    /// ```
+    pub fn send_timeout<R: Wait + time::Clock, C: Clock>(
+        &self,
+        rt: &R,
+        message: T,
+        duration: Duration,
+        clock: &C,
+    ) -> Result<(), SendErrorTimeout> {
+        self.sender.send_timeout(rt, message, duration, clock)
+    }
+
+    /// Sends the option's message as `send_timeout`, and empties the option exactly where it was sent.
+    ///
+    /// The caller knows that the option holds a message.
+    ///
+    /// # Errors
+    /// As `send_timeout`. The option holds the message then.
+    ///
+    /// # Examples
+    /// ```text
+    /// let mut option = Some(7);
+    /// view.send_option_timeout(&rt, &mut option, Duration::from_nanos(1), &clock)
+    ///     answers  Err(SendErrorTimeout::Timeout)   in a full channel
+    /// option   is  Some(7)
+    /// ```
+    pub fn send_option_timeout<R: Wait + time::Clock, C: Clock>(
+        &self,
+        rt: &R,
+        option: &mut Option<T>,
+        duration: Duration,
+        clock: &C,
+    ) -> Result<(), SendErrorTimeout>
+        requires { IsSome option.old }
+        ensures sent { result ≡ Ok tt → option.new ≡ None }
+        ensures kept { IfErr result (λ e. StartedNoWait e → option.new ≡ option.old) }
+    {
+        self.sender.send_option_timeout(rt, option, duration, clock)
+    }
+
+    /// Sends the message where there is a place for it. `Ok(false)` says that there is none, and the
+    /// message was dropped. It waits for the lock.
+    ///
+    /// # Errors
+    /// `Closed` where the channel was closed, `ReceiveClosed` where the last receiver was dropped, and
+    /// `NoMemory` where memory was refused. The message is dropped then.
+    ///
+    /// # Examples
+    /// ```text
+    /// view.try_send(&rt, 1)   answers  Ok(true)    in a new bounded channel for one
+    /// view.try_send(&rt, 2)   answers  Ok(false)   after that
+    /// ```
+    pub fn try_send<R: Wait>(&self, rt: &R, message: T) -> Result<bool, SendError> {
+        self.sender.try_send(rt, message)
+    }
+
+    /// Sends the option's message where there is a place for it, and empties the option exactly
+    /// then. It waits for the lock.
+    ///
+    /// The caller knows that the option holds a message.
+    ///
+    /// # Errors
+    /// As `try_send`. The option holds the same message then.
+    ///
+    /// # Examples
+    /// ```text
+    /// let mut option = Some(1);
+    /// view.try_send_option(&rt, &mut option)   answers  Ok(false)   at capacity 0
+    /// option   is  Some(1)
+    /// ```
+    pub fn try_send_option<R: Wait>(
+        &self,
+        rt: &R,
+        option: &mut Option<T>,
+    ) -> Result<bool, SendError>
+        requires { IsSome option.old }
+        ensures sent { result ≡ Ok true → option.new ≡ None }
+        ensures kept { result ≢ Ok true → option.new ≡ option.old }
+    {
+        self.sender.try_send_option(rt, option)
+    }
+
+    /// Sends the message where there is a place for it and the lock is free: it waits for nobody.
+    /// `Ok(false)` says that there is no place or the lock was held, and the message was dropped.
+    ///
+    /// # Errors
+    /// As `try_send`. The message is dropped then.
+    ///
+    /// # Examples
+    /// ```text
+    /// view.try_send_realtime(1)   answers  Ok(true)   in a new bounded channel for one
+    /// ```
+    pub fn try_send_realtime(&self, message: T) -> Result<bool, SendError> {
+        self.sender.try_send_realtime(message)
+    }
+
+    /// Sends the option's message where there is a place for it and the lock is free, and empties
+    /// the option exactly then: it waits for nobody.
+    ///
+    /// The caller knows that the option holds a message.
+    ///
+    /// # Errors
+    /// As `try_send`. The option holds the same message then.
+    ///
+    /// # Examples
+    /// ```text
+    /// let mut option = Some(1);
+    /// view.try_send_option_realtime(&mut option)   answers  Ok(true)   in a new bounded channel
+    /// option   is  None
+    /// ```
+    pub fn try_send_option_realtime(&self, option: &mut Option<T>) -> Result<bool, SendError>
+        requires { IsSome option.old }
+        ensures sent { result ≡ Ok true → option.new ≡ None }
+        ensures kept { result ≢ Ok true → option.new ≡ option.old }
+    {
+        self.sender.try_send_option_realtime(option)
+    }
+
+    /// Whether no receiver is left. It waits for the lock.
+    ///
+    /// # Examples
+    /// ```text
+    /// view.is_disconnected(&rt)   answers  true   after the last receiver was dropped
+    /// ```
+    pub fn is_disconnected<R: Wait>(&self, rt: &R) -> bool {
+        self.sender.is_disconnected(rt)
+    }
+
+    /// How many messages are in the buffer. It waits for the lock.
+    ///
+    /// # Examples
+    /// ```text
+    /// view.len(&rt)   answers  1   after one message entered a bounded channel for two
+    /// ```
+    pub fn len<R: Wait>(&self, rt: &R) -> usize {
+        self.sender.len(rt)
+    }
+
+    /// Whether no message is in the buffer, whoever waits. It waits for the lock.
+    ///
+    /// # Examples
+    /// ```text
+    /// view.is_empty(&rt)   answers  false   after one message entered
+    /// ```
+    pub fn is_empty<R: Wait>(&self, rt: &R) -> bool {
+        self.sender.is_empty(rt)
+    }
+
+    /// Whether the buffer is at the capacity: always at capacity 0, and never without a limit. It
+    /// waits for the lock.
+    ///
+    /// # Examples
+    /// ```text
+    /// view.is_full(&rt)   answers  true   after one message entered a bounded channel for one
+    /// ```
+    pub fn is_full<R: Wait>(&self, rt: &R) -> bool {
+        self.sender.is_full(rt)
+    }
+
+    /// Whether the channel has a limit. It waits for the lock.
+    ///
+    /// # Examples
+    /// ```text
+    /// view.is_bounded(&rt)   answers  true   for a channel that `bounded` made
+    /// ```
+    pub fn is_bounded<R: Wait>(&self, rt: &R) -> bool {
+        self.sender.is_bounded(rt)
+    }
+
+    /// How many messages the buffer may hold, which is `usize::MAX` without a limit. It waits for the
+    /// lock.
+    ///
+    /// # Examples
+    /// ```text
+    /// view.capacity(&rt)   answers  2   for a bounded channel for two
+    /// ```
+    pub fn capacity<R: Wait>(&self, rt: &R) -> usize {
+        self.sender.capacity(rt)
+    }
+
+    /// How many receivers there are. It waits for the lock.
+    ///
+    /// # Examples
+    /// ```text
+    /// view.receiver_count(&rt)   answers  1   for a new channel
+    /// ```
+    pub fn receiver_count<R: Wait>(&self, rt: &R) -> u32 {
+        self.sender.receiver_count(rt)
+    }
+
+    /// How many senders there are. It waits for the lock.
+    ///
+    /// # Examples
+    /// ```text
+    /// view.sender_count(&rt)   answers  1   for a new channel
+    /// ```
+    pub fn sender_count<R: Wait>(&self, rt: &R) -> u32 {
+        self.sender.sender_count(rt)
+    }
+
+    /// Whether both sides are gone. It waits for the lock.
+    ///
+    /// # Examples
+    /// ```text
+    /// view.is_closed(&rt)   answers  true   after a close
+    /// ```
+    pub fn is_closed<R: Wait>(&self, rt: &R) -> bool {
+        self.sender.is_closed(rt)
+    }
+
+    /// Closes the channel for both sides: all waits end with `Closed`, and the buffer's messages are
+    /// dropped after the lock was released. It waits for the lock.
+    ///
+    /// # Errors
+    /// `CloseError` where both sides were gone already.
+    ///
+    /// # Examples
+    /// ```text
+    /// view.close(&rt)   answers  Ok(())
+    /// view.close(&rt)   answers  Err(CloseError())   after that
+    /// ```
+    pub fn close<R: Wait>(&self, rt: &R) -> Result<(), CloseError> {
+        self.sender.close(rt)
+    }
+}

@@ -1,0 +1,104 @@
+//! The scenarios in tasks: the same work, where each thread runs one task to its end.
+use crate::crowd::Crowd;
+use anyhow::Result;
+use futures::executor::block_on;
+use futures::{FutureExt, StreamExt, future, stream};
+use kanal::{AsyncReceiver, AsyncSender};
+use std::alloc::{AllocGlobal, Global};
+use std::random::RandomSource;
+use std::sync::Wait;
+use std::thread::{JoinHandle, Threads};
+use std::{io, thread};
+
+/// The two ends of the channel that is measured.
+pub type Ends = (AsyncSender<u64>, AsyncReceiver<u64>);
+
+/// Sends and receives in turn, in one task.
+pub fn in_turn<R>(rt: &R, ends: Ends, count: u64) -> Result<u64>
+where
+    R: Wait + RandomSource + AllocGlobal,
+{
+    let (sender, receiver) = ends;
+    let sum = stream::iter(0..count).fold(0u64, |sum, number| {
+        sender
+            .send(number)
+            .then(|_| receiver.recv())
+            .map(move |got| sum.wrapping_add(got.unwrap_or(0)))
+    });
+    Ok(block_on(rt, sum)?)
+}
+
+/// Sends the numbers below the count.
+fn send_all<R>(rt: &R, sender: &AsyncSender<u64>, count: u64) -> io::Result<()>
+where
+    R: Wait + RandomSource + AllocGlobal,
+{
+    let all = stream::iter(0..count).for_each(|number| sender.send(number).map(|_| ()));
+    block_on(rt, all)
+}
+
+/// The sum of all that is received until the channel ends.
+fn receive_all<R>(rt: &R, receiver: &AsyncReceiver<u64>) -> io::Result<u64>
+where
+    R: Wait + RandomSource + AllocGlobal,
+{
+    let sum = receiver.stream().fold(0u64, |sum, number| future::ready(sum.wrapping_add(number)));
+    block_on(rt, sum)
+}
+
+/// Starts so many threads that send, each through a clone.
+fn start_senders<R>(
+    rt: R,
+    alloc: Global,
+    sender: &AsyncSender<u64>,
+    threads: u64,
+    each: u64,
+) -> Result<Vec<JoinHandle<io::Result<()>>>>
+where
+    R: Threads + Wait + RandomSource + AllocGlobal + Copy + Send + 'static,
+{
+    let mut started = Vec::new(alloc);
+    for _ in 0..threads {
+        let theirs = sender.clone(&rt)?;
+        started.push(thread::spawn(&rt, move || send_all(&rt, &theirs, each))?)?;
+    }
+    Ok(started)
+}
+
+/// Starts so many threads that receive, each through a clone.
+fn start_receivers<R>(
+    rt: R,
+    alloc: Global,
+    receiver: &AsyncReceiver<u64>,
+    threads: u64,
+) -> Result<Vec<JoinHandle<io::Result<u64>>>>
+where
+    R: Threads + Wait + RandomSource + AllocGlobal + Copy + Send + 'static,
+{
+    let mut started = Vec::new(alloc);
+    for _ in 0..threads {
+        let theirs = receiver.clone(&rt)?;
+        started.push(thread::spawn(&rt, move || receive_all(&rt, &theirs))?)?;
+    }
+    Ok(started)
+}
+
+/// Sends and receives in threads of their own, and joins them all.
+pub fn in_threads<R>(rt: R, alloc: Global, ends: Ends, crowd: Crowd, count: u64) -> Result<u64>
+where
+    R: Threads + Wait + RandomSource + AllocGlobal + Copy + Send + 'static,
+{
+    let (sender, receiver) = ends;
+    let sending = start_senders(rt, alloc, &sender, crowd.senders, crowd.each(count))?;
+    drop(sender);
+    let receiving = start_receivers(rt, alloc, &receiver, crowd.receivers)?;
+    drop(receiver);
+    for thread in sending {
+        thread.join(&rt)?;
+    }
+    let mut sum = 0u64;
+    for thread in receiving {
+        sum = sum.wrapping_add(thread.join(&rt)?);
+    }
+    Ok(sum)
+}

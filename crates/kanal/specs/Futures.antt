@@ -1,5 +1,5 @@
 -- Where a future is, and whether a stream has ended.
-use Rattle.std.specs.Prelude.{Bool, true, false, is_some}
+use Rattle.std.specs.Prelude.{ℕ, Bool, true, false, is_some}
 use Rattle.kanal.specs.declared.future.State.{State}
 use Rattle.kanal.specs.declared.future.State.TheVariants.{Zero, Waiting, Done}
 use Rattle.kanal.specs.declared.future.send.SendFuture.{SendFuture}
@@ -37,3 +37,15 @@ stream_is_over s = is_some s.fault
 -- a stream with a wait of its own that was not polled to its end
 abbrev pub stream_waits : {T : Type 0} → ReceiveStream T → Bool
 stream_waits s = is_started s.future.state
+
+-- the name of what a send waits for
+abbrev pub send_source : {T : Type 0} → SendFuture T → ℕ
+send_source f = f.wakers.source.id
+
+-- the name of what a receive waits for
+abbrev pub receive_source : {T : Type 0} → ReceiveFuture T → ℕ
+receive_source f = f.wakers.source.id
+
+-- the name of what a stream waits for
+abbrev pub stream_source : {T : Type 0} → ReceiveStream T → ℕ
+stream_source s = receive_source s.future

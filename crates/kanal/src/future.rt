@@ -6,7 +6,7 @@
 ghost use Rattle.std.specs.Prelude.{◌≡◌, IfSome};
 ghost use Rattle.kanal_core.specs.CellRule.{HasNotLeft};
 ghost use Rattle.kanal_core.specs.CellEnds.{wait_view};
-ghost use Rattle.futures.specs.Task.{Covers, IsArmed, Keeps};
+ghost use Rattle.futures.specs.Task.{Covers, Keeps};
 ghost use Rattle.futures.specs.Poll.{OnPending};
 
 mod receive;

@@ -2,7 +2,7 @@
 ghost use Rattle.std.specs.Prelude.{◌≡◌, ⊤, true, false, Some, Err, Result, codes};
 ghost use Rattle.futures.specs.Task.{Covers, Keeps};
 ghost use Rattle.futures.specs.Poll.{IfReady, OnPending};
-ghost use Rattle.kanal.specs.Futures.{receive_is_over, receive_waits};
+ghost use Rattle.kanal.specs.Futures.{receive_is_over, receive_source, receive_waits};
 
 use super::{Started, State, Wakers};
 use crate::async_receiver::AsyncReceiver;
@@ -71,7 +71,7 @@ impl<'a, T: Drop> ReceiveFuture<'a, T> {
     pub(super) fn restart(&mut self)
         requires { receive_is_over self.old ≡ true }
         ensures fresh { receive_is_over self.new ≡ false }
-        ensures source { self.new.wakers.source.id ≡ self.old.wakers.source.id }
+        ensures source { receive_source self.new ≡ receive_source self.old }
     {
         self.state = State::Zero(());
     }
@@ -80,7 +80,7 @@ impl<'a, T: Drop> ReceiveFuture<'a, T> {
     fn begin(&mut self, cx: &mut Context<'_>) -> Poll<Result<T, ReceiveError>>
         requires { receive_is_over self.old ≡ true }
         ensures ends { IfReady result (λ _. receive_is_over self.new ≡ true) }
-        ensures registered { OnPending result (Covers cx.new (λ s. s ≡ self.new.wakers.source.id)) }
+        ensures registered { OnPending result (Covers cx.new (λ s. s ≡ receive_source self.new)) }
         ensures kept { Keeps cx.old cx.new }
     {
         let shared = self.receiver.shared();
@@ -106,7 +106,7 @@ impl<'a, T: Drop> ReceiveFuture<'a, T> {
     ) -> Poll<Result<T, ReceiveError>>
         requires { receive_is_over self.old ≡ true }
         ensures ends { IfReady result (λ _. receive_is_over self.new ≡ true) }
-        ensures registered { OnPending result (Covers cx.new (λ s. s ≡ self.new.wakers.source.id)) }
+        ensures registered { OnPending result (Covers cx.new (λ s. s ≡ receive_source self.new)) }
         ensures kept { Keeps cx.old cx.new }
     {
         let mut acquired = acquired;
@@ -136,7 +136,7 @@ impl<'a, T: Drop> ReceiveFuture<'a, T> {
     fn wait(&mut self, started: Started<T>, cx: &mut Context<'_>) -> Poll<Result<T, ReceiveError>>
         requires { receive_is_over self.old ≡ true }
         ensures ends { IfReady result (λ _. receive_is_over self.new ≡ true) }
-        ensures registered { OnPending result (Covers cx.new (λ s. s ≡ self.new.wakers.source.id)) }
+        ensures registered { OnPending result (Covers cx.new (λ s. s ≡ receive_source self.new)) }
         ensures kept { Keeps cx.old cx.new }
     {
         let mut started = started;
@@ -153,7 +153,7 @@ impl<'a, T: Drop> ReceiveFuture<'a, T> {
 impl<T: Drop> Future for ReceiveFuture<'_, T> {
     type Output = Result<T, ReceiveError>;
 
-    ghost needs = { λ f s. s ≡ f.wakers.source.id };
+    ghost needs = { λ f s. s ≡ receive_source f };
 
     /// Polls the receive. It waits for nobody.
     ///
@@ -172,7 +172,7 @@ impl<T: Drop> Future for ReceiveFuture<'_, T> {
         ensures value { IfReady result (λ _. ⊤) }
         ensures again { OnPending result ⊤ }
         ensures same { OnPending result ((x : Result T ReceiveError) → ⊤ → ⊤) }
-        ensures registered { OnPending result (Covers cx.new (λ s. s ≡ self.new.wakers.source.id)) }
+        ensures registered { OnPending result (Covers cx.new (λ s. s ≡ receive_source self.new)) }
         ensures kept { Keeps cx.old cx.new }
         ensures over { receive_is_over self.old ≡ true → (result ≡ Poll.Ready (Err ReceiveError.Finished)) × (receive_is_over self.new ≡ true) }
         ensures ends { IfReady result (λ _. receive_is_over self.new ≡ true) }

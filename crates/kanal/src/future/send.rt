@@ -2,7 +2,7 @@
 ghost use Rattle.std.specs.Prelude.{◌≡◌, ⊤, true, false, Some, Err, Result, codes};
 ghost use Rattle.futures.specs.Task.{Covers, Keeps};
 ghost use Rattle.futures.specs.Poll.{IfReady, OnPending};
-ghost use Rattle.kanal.specs.Futures.{send_is_over};
+ghost use Rattle.kanal.specs.Futures.{send_is_over, send_source};
 
 use super::{Started, State, Wakers};
 use crate::async_sender::AsyncSender;
@@ -61,7 +61,7 @@ impl<'a, T: Drop> SendFuture<'a, T> {
     fn begin(&mut self, message: T, cx: &mut Context<'_>) -> Poll<Result<(), SendError>>
         requires { send_is_over self.old ≡ true }
         ensures ends { IfReady result (λ _. send_is_over self.new ≡ true) }
-        ensures registered { OnPending result (Covers cx.new (λ s. s ≡ self.new.wakers.source.id)) }
+        ensures registered { OnPending result (Covers cx.new (λ s. s ≡ send_source self.new)) }
         ensures kept { Keeps cx.old cx.new }
     {
         let shared = self.sender.shared();
@@ -89,7 +89,7 @@ impl<'a, T: Drop> SendFuture<'a, T> {
     ) -> Poll<Result<(), SendError>>
         requires { send_is_over self.old ≡ true }
         ensures ends { IfReady result (λ _. send_is_over self.new ≡ true) }
-        ensures registered { OnPending result (Covers cx.new (λ s. s ≡ self.new.wakers.source.id)) }
+        ensures registered { OnPending result (Covers cx.new (λ s. s ≡ send_source self.new)) }
         ensures kept { Keeps cx.old cx.new }
     {
         let mut acquired = acquired;
@@ -119,7 +119,7 @@ impl<'a, T: Drop> SendFuture<'a, T> {
     fn wait(&mut self, started: Started<T>, cx: &mut Context<'_>) -> Poll<Result<(), SendError>>
         requires { send_is_over self.old ≡ true }
         ensures ends { IfReady result (λ _. send_is_over self.new ≡ true) }
-        ensures registered { OnPending result (Covers cx.new (λ s. s ≡ self.new.wakers.source.id)) }
+        ensures registered { OnPending result (Covers cx.new (λ s. s ≡ send_source self.new)) }
         ensures kept { Keeps cx.old cx.new }
     {
         let mut started = started;
@@ -136,7 +136,7 @@ impl<'a, T: Drop> SendFuture<'a, T> {
 impl<T: Drop> Future for SendFuture<'_, T> {
     type Output = Result<(), SendError>;
 
-    ghost needs = { λ f s. s ≡ f.wakers.source.id };
+    ghost needs = { λ f s. s ≡ send_source f };
 
     /// Polls the send. It waits for nobody.
     ///
@@ -155,7 +155,7 @@ impl<T: Drop> Future for SendFuture<'_, T> {
         ensures value { IfReady result (λ _. ⊤) }
         ensures again { OnPending result ⊤ }
         ensures same { OnPending result ((x : Result Unit SendError) → ⊤ → ⊤) }
-        ensures registered { OnPending result (Covers cx.new (λ s. s ≡ self.new.wakers.source.id)) }
+        ensures registered { OnPending result (Covers cx.new (λ s. s ≡ send_source self.new)) }
         ensures kept { Keeps cx.old cx.new }
         ensures over { send_is_over self.old ≡ true → (result ≡ Poll.Ready (Err SendError.Finished)) × (send_is_over self.new ≡ true) }
         ensures ends { IfReady result (λ _. send_is_over self.new ≡ true) }

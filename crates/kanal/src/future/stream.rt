@@ -3,7 +3,7 @@ ghost use Rattle.std.specs.Prelude.{◌≡◌, ◌↔◌, ⊤, true, false, Opti
 ghost use Rattle.futures.specs.Task.{Covers, Keeps};
 ghost use Rattle.futures.specs.Poll.{IfReady, OnPending};
 ghost use Rattle.futures.specs.Runs.{After, Within};
-ghost use Rattle.kanal.specs.Futures.{stream_is_over, stream_waits};
+ghost use Rattle.kanal.specs.Futures.{stream_is_over, stream_source, stream_waits};
 
 use super::ReceiveFuture;
 use crate::async_receiver::AsyncReceiver;
@@ -71,7 +71,7 @@ impl<'a, T: Drop> ReceiveStream<'a, T> {
 impl<T: Drop> Stream for ReceiveStream<'_, T> {
     type Item = T;
 
-    ghost needs = { λ f s. s ≡ f.future.wakers.source.id };
+    ghost needs = { λ f s. s ≡ stream_source f };
 
     /// Polls for the next message; `None` where it was refused. It waits for nobody.
     ///
@@ -87,7 +87,7 @@ impl<T: Drop> Stream for ReceiveStream<'_, T> {
         ensures goes { IfReady result (λ o. OnSome o ⊤) }
         ensures again { OnPending result ⊤ }
         ensures same { OnPending result (Within {A = T} (λ _ _. ⊤) (λ _ _. ⊤)) }
-        ensures registered { OnPending result (Covers cx.new (λ s. s ≡ self.new.future.wakers.source.id)) }
+        ensures registered { OnPending result (Covers cx.new (λ s. s ≡ stream_source self.new)) }
         ensures kept { Keeps cx.old cx.new }
         ensures over { stream_is_over self.old ≡ true → (result ≡ Poll.Ready None) × (stream_is_over self.new ≡ true) }
         ensures ends { IfReady result (λ o. IfNone o (stream_is_over self.new ≡ true)) }

@@ -4,7 +4,7 @@ use std::alloc::Global;
 use std::test::Fail;
 
 /// Each script, what it prints, and the status. A semicolon and a space stand for a line feed.
-const ROWS: [(&str, &str, u8); 27] = [
+const ROWS: &[(&str, &str, u8)] = &[
     (
         "cap 1; try_send 1; try_send 2; try_recv; close",
         "yes; no 2; got 1; cleared 0",
@@ -179,7 +179,7 @@ fn differing_row(
 #[test]
 fn rows(rt: HostRuntime) -> Result<(), Fail> {
     for row in ROWS {
-        let differs = differing_row(rt.alloc(), row, true)?;
+        let differs = differing_row(rt.alloc(), *row, true)?;
         assert!(rt; differs.is_empty(), "{differs} of {}", row.0);
     }
     Ok(())
@@ -189,7 +189,7 @@ fn rows(rt: HostRuntime) -> Result<(), Fail> {
 #[test]
 fn rows_without_the_last_line_feed(rt: HostRuntime) -> Result<(), Fail> {
     for row in ROWS {
-        let differs = differing_row(rt.alloc(), row, false)?;
+        let differs = differing_row(rt.alloc(), *row, false)?;
         assert!(rt; differs.is_empty(), "{differs} of {}", row.0);
     }
     Ok(())

@@ -1,6 +1,6 @@
 //! Calls of the core with ample memory, and the texts of its errors.
 use kanal_core::error::{CloseError, NewError, NoMemory, TooMany, WaitError};
-use kanal_core::internal::{ChannelInternal, Offer, Ticket};
+use kanal_core::internal::{ChannelInternal, Left, Offer, Ticket};
 use std::alloc::Global;
 use std::fmt::{Debug, Display};
 use std::process::Abort;
@@ -10,6 +10,12 @@ type Core = ChannelInternal<String, Box<u32>>;
 
 fn channel(alloc: Global, capacity: usize) -> Result<Core, Fail> {
     Ok(ChannelInternal::new(alloc, capacity)?)
+}
+
+/// Whether the message enters.
+fn enters(core: &mut Core, alloc: Global, message: &str) -> Result<bool, Fail> {
+    let message = String::from_str(alloc, message)?;
+    Ok(matches!(core.offer(message), Offer::Entered))
 }
 
 /// The ticket of a send that finds no place, and waits.
@@ -23,22 +29,48 @@ fn wait_send(core: &mut Core, alloc: Global, message: &str, w: u32) -> Result<Ti
     Ok(ticket.ok_or("the send waits")?)
 }
 
+/// Whether the next message that is left is this text.
+fn is_next(left: &mut Left<String, Box<u32>>, text: &str) -> bool {
+    match left.next() {
+        Some(message) => message.as_str() == text,
+        None => false,
+    }
+}
+
+/// Whether a, b and c are left, in order.
+fn are_three(core: Core) -> bool {
+    let mut left = core.into_messages();
+    is_next(&mut left, "a")
+        && is_next(&mut left, "b")
+        && is_next(&mut left, "c")
+        && left.next().is_none()
+}
+
 #[test]
 fn what_is_left(rt: HostRuntime) -> Result<(), Fail> {
     let alloc = rt.alloc();
     let mut core = channel(alloc, 1)?;
-    let offer = core.offer(String::from_str(alloc, "a")?);
-    assert!(rt; matches!(&offer, Offer::Entered));
+    assert!(rt; enters(&mut core, alloc, "a")?);
     wait_send(&mut core, alloc, "b", 7)?;
     wait_send(&mut core, alloc, "c", 8)?;
     core.holds();
-    let mut left = core.into_messages();
-    for text in ["a", "b", "c"] {
-        let message = left.next().ok_or("one more is left")?;
-        assert_eq!(rt; message.as_str(), text);
-    }
-    assert!(rt; left.next().is_none());
+    assert!(rt; are_three(core));
     Ok(())
+}
+
+/// Whether the wait is refused as no ticket is left, and the message and the W come back.
+fn is_refused(core: &mut Core, alloc: Global, text: &str, number: u32) -> Result<bool, Fail> {
+    let w = Box::new(alloc, number)?;
+    let refused = match core.offer(String::from_str(alloc, text)?) {
+        Offer::Full(back) => core.wait_send(back, w).err(),
+        _entered => None,
+    };
+    match refused {
+        Some((reason, message, w)) => Ok(
+            reason == WaitError::TooMany && message.as_str() == text && *w == number,
+        ),
+        None => Ok(false),
+    }
 }
 
 #[test]
@@ -46,33 +78,54 @@ fn the_last_ticket(rt: HostRuntime) -> Result<(), Fail> {
     let alloc = rt.alloc();
     let mut core: Core = ChannelInternal::starting_at(alloc, Some(0), u64::MAX - 1, 1, 1)?;
     let ticket = wait_send(&mut core, alloc, "a", 7)?;
-    assert_eq!(rt; ticket.number(), u64::MAX - 1);
-    let w = Box::new(alloc, 8)?;
-    let refused = match core.offer(String::from_str(alloc, "b")?) {
-        Offer::Full(back) => core.wait_send(back, w).err(),
-        _entered => None,
-    };
-    let (reason, message, w) = refused.ok_or("no ticket is left")?;
-    assert_eq!(rt; reason, WaitError::TooMany);
-    assert_eq!(rt; message.as_str(), "b");
-    assert_eq!(rt; *w, 8);
+    assert!(rt; ticket.number() == u64::MAX - 1);
+    assert!(rt; is_refused(&mut core, alloc, "b", 8)?);
     Ok(())
 }
 
+/// Why no channel for so many messages is made.
+fn refusal(alloc: Global, capacity: usize) -> Option<NewError> {
+    Core::new(alloc, capacity).err()
+}
+
+/// The same, where the first ticket is given.
+fn starting_refusal(alloc: Global, capacity: usize) -> Option<NewError> {
+    Core::starting_at(alloc, Some(capacity), 0, 1, 1).err()
+}
+
 #[test]
-fn capacities(rt: HostRuntime) -> Result<(), Fail> {
-    let alloc = rt.alloc();
-    let refused = Core::new(alloc, usize::MAX).err();
-    assert_eq!(rt; refused, Some(NewError::TooLarge));
-    let refused = Core::starting_at(alloc, Some(usize::MAX), 0, 1, 1).err();
-    assert_eq!(rt; refused, Some(NewError::TooLarge));
-    let mut core = Core::unbounded(alloc);
+fn capacities(rt: HostRuntime) {
+    assert!(rt; refusal(rt.alloc(), usize::MAX) == Some(NewError::TooLarge));
+    assert!(rt; starting_refusal(rt.alloc(), usize::MAX) == Some(NewError::TooLarge));
+}
+
+/// Whether each of 19 messages enters and is counted.
+fn grows(core: &mut Core, alloc: Global) -> Result<bool, Fail> {
     for count in 1..20 {
-        let offer = core.offer(String::from_str(alloc, "a")?);
-        assert!(rt; matches!(&offer, Offer::Entered));
-        assert_eq!(rt; core.len(), count);
+        if !enters(core, alloc, "a")? || core.len() != count {
+            return Ok(false);
+        }
     }
+    Ok(true)
+}
+
+#[test]
+fn no_capacity(rt: HostRuntime) -> Result<(), Fail> {
+    let mut core = Core::unbounded(rt.alloc());
+    assert!(rt; grows(&mut core, rt.alloc())?);
     Ok(())
+}
+
+/// Whether the error is shown so.
+fn displays<E: Display>(alloc: Global, error: &E, text: &str) -> Result<bool, Fail> {
+    let shown = format!(in alloc; "{error}")?;
+    Ok(shown.as_str() == text)
+}
+
+/// Whether the error is named so.
+fn names<E: Debug>(alloc: Global, error: &E, name: &str) -> Result<bool, Fail> {
+    let shown = format!(in alloc; "{error:?}")?;
+    Ok(shown.as_str() == name)
 }
 
 fn shows<E: Display + Debug>(
@@ -82,10 +135,8 @@ fn shows<E: Display + Debug>(
     text: &str,
     name: &str,
 ) -> Result<(), Fail> {
-    let shown = format!(in alloc; "{error}")?;
-    assert_eq!(rt; shown.as_str(), text);
-    let shown = format!(in alloc; "{error:?}")?;
-    assert_eq!(rt; shown.as_str(), name);
+    assert!(rt; displays(alloc, error, text)?);
+    assert!(rt; names(alloc, error, name)?);
     Ok(())
 }
 
@@ -109,10 +160,14 @@ fn errors(rt: HostRuntime) -> Result<(), Fail> {
     )?;
     shows(&rt, alloc, &TooMany, "too many", "TooMany")?;
     shows(&rt, alloc, &NoMemory, "no memory", "NoMemory")?;
-    assert_ne!(rt; NewError::TooLarge, NewError::NoMemory);
-    assert_eq!(rt; CloseError(), CloseError());
-    assert_eq!(rt; TooMany, TooMany);
-    assert_eq!(rt; NoMemory, NoMemory);
-    assert_ne!(rt; WaitError::NoMemory, WaitError::TooMany);
     Ok(())
+}
+
+#[test]
+fn errors_are_compared(rt: HostRuntime) {
+    assert!(rt; NewError::TooLarge != NewError::NoMemory);
+    assert!(rt; CloseError() == CloseError());
+    assert!(rt; TooMany == TooMany);
+    assert!(rt; NoMemory == NoMemory);
+    assert!(rt; WaitError::NoMemory != WaitError::TooMany);
 }

@@ -10,8 +10,8 @@ fn one_try(rt: HostRuntime) -> Result<(), Fail> {
     assert!(rt; shared.try_lock().is_none());
     drop(guard);
     let free = shared.try_lock().ok_or("the lock is free")?;
-    assert_eq!(rt; *free, 8);
+    assert!(rt; *free == 8);
     drop(free);
-    assert_eq!(rt; shared.into_inner(), 8);
+    assert!(rt; shared.into_inner() == 8);
     Ok(())
 }

@@ -1,25 +1,43 @@
 //! A list of events, at messages that own memory.
 use kanal_journal::journal::{Event, Reply, run};
+use std::alloc::Global;
 use std::test::Fail;
+
+/// Two messages that enter, one that finds no place, and a receive.
+fn events(alloc: Global) -> Result<Vec<Event<String>>, Fail> {
+    let mut events = Vec::new(alloc);
+    for text in ["one", "two", "three"] {
+        events.push(Event::TrySend(String::from_str(alloc, text)?))?;
+    }
+    events.push(Event::TryRecv)?;
+    Ok(events)
+}
+
+/// Whether the replies are those of the events, in order.
+fn are_replies(replies: &[Reply<String>]) -> bool {
+    match replies {
+        [Reply::Yes, Reply::Yes, Reply::No(back), Reply::Got(message)] => {
+            back.as_str() == "three" && message.as_str() == "one"
+        },
+        _ => false,
+    }
+}
+
+/// Whether the one text is this one.
+fn is_alone(texts: &[String], text: &str) -> bool {
+    match texts {
+        [only] => only.as_str() == text,
+        _ => false,
+    }
+}
 
 #[test]
 fn texts_as_messages(rt: HostRuntime) -> Result<(), Fail> {
-    let alloc = rt.alloc();
-    let mut events = Vec::new(alloc);
-    events.push(Event::TrySend(String::from_str(alloc, "one")?))?;
-    events.push(Event::TrySend(String::from_str(alloc, "two")?))?;
-    events.push(Event::TrySend(String::from_str(alloc, "three")?))?;
-    events.push(Event::TryRecv)?;
-    let report = run(alloc, Some(2), events)?;
-    assert_eq!(rt; report.replies.len(), 4);
-    assert!(rt; matches!(&report.replies[0], Reply::Yes));
-    assert!(rt; matches!(&report.replies[1], Reply::Yes));
-    assert!(rt; matches!(&report.replies[2], Reply::No(text) if text.as_str() == "three"));
-    assert!(rt; matches!(&report.replies[3], Reply::Got(text) if text.as_str() == "one"));
-    assert_eq!(rt; report.left.len(), 1);
-    assert_eq!(rt; report.left[0].as_str(), "two");
-    assert!(rt;
-        report.cleared.is_empty() && report.drained.is_empty() && report.settled.is_empty()
-    );
+    let report = run(rt.alloc(), Some(2), events(rt.alloc())?)?;
+    assert!(rt; are_replies(report.replies.as_slice()));
+    assert!(rt; is_alone(report.left.as_slice(), "two"));
+    assert!(rt; report.cleared.is_empty());
+    assert!(rt; report.drained.is_empty());
+    assert!(rt; report.settled.is_empty());
     Ok(())
 }

@@ -1,9 +1,10 @@
 //! Scripts with their answers.
 use kanal_script::serve;
+use std::alloc::Global;
 use std::test::Fail;
 
 /// Each script, what it prints, and the status. A semicolon and a space stand for a line feed.
-const ROWS: [(&str, &str, u8); 27] = [
+const ROWS: &[(&str, &str, u8)] = &[
     (
         "cap 1; try_send 1; try_send 2; try_recv; close",
         "yes; no 2; got 1; cleared 0",
@@ -122,8 +123,8 @@ const ROWS: [(&str, &str, u8); 27] = [
 ];
 
 /// The lines that a row writes in short.
-fn lines(rt: &HostRuntime, short: &str) -> Result<String, Fail> {
-    let mut text = String::new(rt.alloc());
+fn lines(alloc: Global, short: &str) -> Result<String, Fail> {
+    let mut text = String::new(alloc);
     for line in short.split(';') {
         if !line.is_empty() {
             text.push_str(line.strip_prefix(" ").unwrap_or(line))?;
@@ -133,18 +134,53 @@ fn lines(rt: &HostRuntime, short: &str) -> Result<String, Fail> {
     Ok(text)
 }
 
+/// What of the answer to the script is not as it is wanted, empty if nothing is.
+fn differing(alloc: Global, script: &[u8], answer: &[u8], wanted: u8) -> &'static str {
+    let mut output = Vec::new(alloc);
+    let mut errors = Vec::new(alloc);
+    let mut bytes = script;
+    let status = serve(alloc, &mut bytes, &mut output, &mut errors);
+    if status != wanted {
+        "status"
+    } else if output.as_slice() != answer {
+        "output"
+    } else if errors.is_empty() != (wanted == 0) {
+        "errors"
+    } else {
+        ""
+    }
+}
+
+/// All bytes but the last.
+fn without_last(bytes: &[u8]) -> &[u8] {
+    match bytes.split_last() {
+        Some((_, front)) => front,
+        None => bytes,
+    }
+}
+
+/// The same of a row, with the last line feed or without it.
+fn differing_row(
+    alloc: Global,
+    row: (&str, &str, u8),
+    has_last_feed: bool,
+) -> Result<&'static str, Fail> {
+    let (script, answer, wanted) = row;
+    let input = lines(alloc, script)?;
+    let answer = lines(alloc, answer)?;
+    if has_last_feed {
+        Ok(differing(alloc, input.as_bytes(), answer.as_bytes(), wanted))
+    } else {
+        let bytes = without_last(input.as_bytes());
+        Ok(differing(alloc, bytes, answer.as_bytes(), wanted))
+    }
+}
+
 #[test]
 fn rows(rt: HostRuntime) -> Result<(), Fail> {
-    for (script, answer, wanted) in ROWS {
-        let input = lines(&rt, script)?;
-        let answer = lines(&rt, answer)?;
-        let mut output = Vec::new(rt.alloc());
-        let mut errors = Vec::new(rt.alloc());
-        let mut bytes = input.as_bytes();
-        let status = serve(rt.alloc(), &mut bytes, &mut output, &mut errors);
-        assert_eq!(rt; status, wanted, "status of {script}");
-        assert_eq!(rt; output.as_slice(), answer.as_bytes(), "output of {script}");
-        assert_eq!(rt; errors.is_empty(), wanted == 0, "errors of {script}");
+    for row in ROWS {
+        let differs = differing_row(rt.alloc(), *row, true)?;
+        assert!(rt; differs.is_empty(), "{differs} of {}", row.0);
     }
     Ok(())
 }
@@ -152,18 +188,9 @@ fn rows(rt: HostRuntime) -> Result<(), Fail> {
 /// The last line feed may be left out: the rows again, without it.
 #[test]
 fn rows_without_the_last_line_feed(rt: HostRuntime) -> Result<(), Fail> {
-    for (script, answer, wanted) in ROWS {
-        let input = lines(&rt, script)?;
-        let answer = lines(&rt, answer)?;
-        let mut output = Vec::new(rt.alloc());
-        let mut errors = Vec::new(rt.alloc());
-        let mut bytes = input.as_bytes();
-        if let Some((_, front)) = bytes.split_last() {
-            bytes = front;
-        }
-        let status = serve(rt.alloc(), &mut bytes, &mut output, &mut errors);
-        assert_eq!(rt; status, wanted, "status of {script}");
-        assert_eq!(rt; output.as_slice(), answer.as_bytes(), "output of {script}");
+    for row in ROWS {
+        let differs = differing_row(rt.alloc(), *row, false)?;
+        assert!(rt; differs.is_empty(), "{differs} of {}", row.0);
     }
     Ok(())
 }

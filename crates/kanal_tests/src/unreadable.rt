@@ -1,9 +1,10 @@
 //! Inputs with a line that can't be read.
 use kanal_script::serve;
+use std::alloc::Global;
 use std::test::Fail;
 
 /// Each input, and the number of its first line that can't be read.
-const INPUTS: [(&[u8], u64); 58] = [
+const INPUTS: &[(&[u8], u64)] = &[
     (b"", 1),
     (b"\n", 1),
     (b"x\n", 1),
@@ -64,17 +65,30 @@ const INPUTS: [(&[u8], u64); 58] = [
     (b"cap 18446744073709551615\nsend x\n", 2),
 ];
 
+/// What of the answer to the input is not as it is wanted, where this line is the first that can't be
+/// read; empty if nothing is.
+fn differing(alloc: Global, input: &[u8], line: u64) -> Result<&'static str, Fail> {
+    let text = format!(in alloc; "kanal-run: line {line}: unreadable\n")?;
+    let mut output = Vec::new(alloc);
+    let mut errors = Vec::new(alloc);
+    let mut bytes = input;
+    let status = serve(alloc, &mut bytes, &mut output, &mut errors);
+    if status != 2 {
+        Ok("status")
+    } else if !output.is_empty() {
+        Ok("output")
+    } else if errors.as_slice() != text.as_bytes() {
+        Ok("errors")
+    } else {
+        Ok("")
+    }
+}
+
 #[test]
 fn tells_the_first_line(rt: HostRuntime) -> Result<(), Fail> {
     for (input, line) in INPUTS {
-        let mut output = Vec::new(rt.alloc());
-        let mut errors = Vec::new(rt.alloc());
-        let mut bytes = input;
-        let status = serve(rt.alloc(), &mut bytes, &mut output, &mut errors);
-        let text = format!(in rt.alloc(); "kanal-run: line {line}: unreadable\n")?;
-        assert_eq!(rt; status, 2, "status of {input:?}");
-        assert!(rt; output.is_empty(), "output of {input:?}");
-        assert_eq!(rt; errors.as_slice(), text.as_bytes(), "errors of {input:?}");
+        let differs = differing(rt.alloc(), input, *line)?;
+        assert!(rt; differs.is_empty(), "{differs} of {input:?}");
     }
     Ok(())
 }

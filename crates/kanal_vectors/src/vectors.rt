@@ -120,31 +120,22 @@ mod tests {
     const ALTERED: &str =
         "script 4\ncap 1\ntry_send 7\nanswers\nyes\nend\nscript 9\ncap 0\ntry_send 7\nanswers\nno 8\nend\n";
 
+    /// What a text of two scripts comes to.
+    fn two(differing: usize, first: Option<u64>) -> Tally {
+        Tally {
+            scripts: 2,
+            differing,
+            first,
+        }
+    }
+
     #[test]
     fn finds_an_altered_answer(rt: HostRuntime) -> Result<(), Fail> {
-        let same = compare(rt.alloc(), TWO)?;
-        assert_eq!(rt;
-            same,
-            Tally {
-                scripts: 2,
-                differing: 0,
-                first: None
-            }
-        );
+        assert!(rt; compare(rt.alloc(), TWO)? == two(0, None));
         let altered = compare(rt.alloc(), ALTERED)?;
-        assert_eq!(rt;
-            altered,
-            Tally {
-                scripts: 2,
-                differing: 1,
-                first: Some(9)
-            }
-        );
+        assert!(rt; altered == two(1, Some(9)));
         let printed = altered.to_string(rt.alloc())?;
-        assert_eq!(rt;
-            printed.as_str(),
-            "2 scripts, 1 differ, the first is script 9"
-        );
+        assert!(rt; printed.as_str() == "2 scripts, 1 differ, the first is script 9");
         Ok(())
     }
 }

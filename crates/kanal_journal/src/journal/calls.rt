@@ -3,8 +3,9 @@
 //! Stands on the core's contracts. Each event is a function of its own, which makes one call on the
 //! core (a send or a receive that waits: two) and says in the line's terms what that told. What left
 //! the core comes back with the reply; nothing is settled or kept here.
-ghost use Rattle.std.specs.Prelude.{◌≡◌, ℕ, ◌+◌, ◌<◌, ◌≤◌, [], length, true, false, Some, None, vec_len, vec_capacity};
+ghost use Rattle.std.specs.Prelude.{◌≡◌, ℕ, ◌+◌, ◌<◌, ◌≤◌, ◌==◌, ◌&&◌, [], length, true, false, Some, None, vec_len, vec_capacity};
 ghost use Rattle.kanal_core.specs.Channel.{line_of};
+ghost use Rattle.kanal_core.specs.Line.{buffered};
 ghost use Rattle.kanal_core.specs.Calls.{IsFull, IsEmpty};
 ghost use Rattle.kanal_journal.specs.Steps.{Tells, answer as answer_of, message_of};
 ghost use Rattle.kanal_journal.specs.Runs.{has_handle, has_side, handles_after};
@@ -270,6 +271,13 @@ fn ask<T: Drop>(core: &Core<T>, side: Side, question: Ask) -> Reply<T>
     }
 }
 
+/// Asks whether no sender is left and no message is in the buffer.
+fn terminated<T: Drop>(core: &Core<T>) -> Reply<T>
+    ensures { result ≡ Reply.Flag (((line_of core.now).senders == 0) && (buffered (line_of core.now) == 0)) }
+{
+    Reply::Flag(core.is_terminated())
+}
+
 /// Makes one event, through a live handle of its side.
 fn make<T: Drop>(
     core: &mut Core<T>,
@@ -303,7 +311,7 @@ fn make<T: Drop>(
         Event::DropRx => drop_rx(core, handles),
         Event::Close => close(core),
         Event::Ask(side, question) => only(ask(core, side, question)),
-        Event::Terminated => only(Reply::Flag(core.is_terminated())),
+        Event::Terminated => only(terminated(core)),
     }
 }
 

@@ -1,4 +1,5 @@
 //! Four threads on one recorded channel.
+use crate::parties::{both, finish};
 use kanal_journal::journal::{Pass, Recorded, Reply};
 use std::sync::Wait;
 use std::test::Fail;
@@ -41,20 +42,24 @@ fn four<R: Threads + Wait + Sync>(
     )
 }
 
+/// Passes 0 to 3.
+fn draw<R: Wait>(rt: &R, channel: &Recorded<u64>) -> Result<[Pass<u64>; 4], Fail> {
+    let a = channel.pass(rt)?;
+    let b = channel.pass(rt)?;
+    let c = channel.pass(rt)?;
+    let d = channel.pass(rt)?;
+    Ok([a, b, c, d])
+}
+
 #[test]
 fn four_threads(rt: HostRuntime) -> Result<(), Fail> {
     let channel: Recorded<u64> = Recorded::new(rt.alloc(), Some(3))?;
-    let a = channel.pass(&rt)?;
-    let b = channel.pass(&rt)?;
-    let c = channel.pass(&rt)?;
-    let d = channel.pass(&rt)?;
-    let ((a, b), (c, d)) = four(&rt, &channel, [a, b, c, d]);
-    let mut passes = Vec::new(rt.alloc());
-    passes.push(a)?;
-    passes.push(b)?;
+    let passes = draw(&rt, &channel)?;
+    let ((a, b), (c, d)) = four(&rt, &channel, passes);
+    let mut passes = both(rt.alloc(), a, b)?;
     passes.push(c)?;
     passes.push(d)?;
-    let journal = channel.finish(passes).ok().ok_or("the lists agree")?;
-    assert_eq!(rt; journal.entries.len(), 4000);
+    let journal = finish(channel, passes)?;
+    assert!(rt; journal.entries.len() == 4000);
     Ok(())
 }

@@ -24,10 +24,10 @@ fn a_settle_wakes_the_parked_thread(rt: HostRuntime) -> Result<(), Fail> {
         let (mut wait, mut settle) = signal::new::<u64>(rt.alloc())?;
         let other = thread::spawn(&rt, move || settle.settle(7).is_none())?;
         match wait.sleep(sleeper) {
-            Some(x) => assert_eq!(rt; x, 7),
+            Some(x) => assert!(rt; x == 7),
             None => {
                 parker.park(&rt);
-                assert_eq!(rt; wait.poll(), Some(7));
+                assert!(rt; wait.poll() == Some(7));
             }
         }
         assert!(rt; other.join(&rt));
@@ -67,7 +67,7 @@ fn a_sleep_after_the_settle_is_not_woken(rt: HostRuntime) -> Result<(), Fail> {
     let waking = parker.unparker().clone()?;
     let (mut wait, mut settle) = signal::new::<u64>(rt.alloc())?;
     assert!(rt; settle.settle(5).is_none());
-    assert_eq!(rt; wait.sleep(sleeper), Some(5));
+    assert!(rt; wait.sleep(sleeper) == Some(5));
     let stage = Arc::new(rt.alloc(), AtomicU64::new(0))?;
     let theirs = Arc::try_clone(&stage)?;
     let other = thread::spawn(&rt, move || stays_parked(&theirs, &waking))?;
@@ -193,7 +193,7 @@ fn a_settle_wakes_the_task(rt: HostRuntime) -> Result<(), Fail> {
             end: wait,
         };
         let got = block_on(&rt, receive)?;
-        assert_eq!(rt; got, round);
+        assert!(rt; got == round);
         assert!(rt; other.join(&rt));
     }
     Ok(())

@@ -5,7 +5,6 @@ use kanal_core::signal::CellReply::{Flag, Left, Outcome, Pending, Settled, Slept
 use kanal_core::signal::CellStep::{IsLeft, Leave, Poll, Settle, Sleep};
 use kanal_core::signal::{CellReply, CellStep, Owner, cell_run};
 use std::alloc::Global;
-use std::process::Abort;
 use std::test::Fail;
 
 const QUIET: CellReply = Settled {
@@ -18,107 +17,93 @@ const WOKE: CellReply = Settled {
     back: None,
 };
 
-fn row(
-    rt: &impl Abort,
+const BACK: CellReply = Settled {
+    woke: false,
+    back: Some(5),
+};
+
+const WOKE_AND_BACK: CellReply = Settled {
+    woke: true,
+    back: Some(5),
+};
+
+/// Steps with their replies, the word after them, and the owner of the outcome.
+const ROWS: [(&[CellStep], &[CellReply], u8, Owner); 9] = [
+    (&[], &[], 0, Owner::Nowhere),
+    (
+        &[Sleep, Settle(5), Poll],
+        &[Slept, WOKE, Outcome(5)],
+        3,
+        Owner::Waiter,
+    ),
+    (&[Settle(5), Sleep], &[QUIET, Outcome(5)], 3, Owner::Waiter),
+    (&[Leave, Settle(5)], &[Left(None), BACK], 6, Owner::Settler),
+    (
+        &[Settle(5), Leave],
+        &[QUIET, Left(Some(5))],
+        6,
+        Owner::Waiter,
+    ),
+    (
+        &[Settle(5), Poll, Poll, Leave],
+        &[QUIET, Outcome(5), Pending, Left(None)],
+        6,
+        Owner::Waiter,
+    ),
+    (
+        &[Sleep, Leave, Settle(5)],
+        &[Slept, Left(None), WOKE_AND_BACK],
+        7,
+        Owner::Settler,
+    ),
+    (
+        &[Settle(5), Settle(6), IsLeft],
+        &[QUIET, Spent, Spent],
+        2,
+        Owner::Home,
+    ),
+    (
+        &[Poll, IsLeft, Leave, IsLeft, Poll],
+        &[Pending, Flag(false), Left(None), Flag(true), Spent],
+        4,
+        Owner::Nowhere,
+    ),
+];
+
+/// Whether the plain cell answers the steps so, and ends in this word with this owner.
+fn is_row(
     alloc: Global,
     steps: &[CellStep],
     replies: &[CellReply],
     word: u8,
     owner: Owner,
-) {
-    let report = cell_run(alloc, steps).ok().expect(rt, "memory");
-    assert!(rt; report.replies.as_slice() == replies);
-    assert!(rt; report.word == word);
-    assert!(rt; report.owner == owner);
+) -> bool {
+    match cell_run(alloc, steps) {
+        Ok(report) => {
+            report.replies.as_slice() == replies && report.word == word && report.owner == owner
+        },
+        Err(_) => false,
+    }
 }
 
 #[test]
-fn the_table_of_steps(rt: HostRuntime) -> Result<(), Fail> {
-    let a = rt.alloc();
-    let back = Settled {
-        woke: false,
-        back: Some(5),
-    };
-    let woke_and_back = Settled {
-        woke: true,
-        back: Some(5),
-    };
-    row(&rt, a, &[], &[], 0, Owner::Nowhere);
-    row(
-        &rt,
-        a,
-        &[Sleep, Settle(5), Poll],
-        &[Slept, WOKE, Outcome(5)],
-        3,
-        Owner::Waiter,
-    );
-    row(
-        &rt,
-        a,
-        &[Settle(5), Sleep],
-        &[QUIET, Outcome(5)],
-        3,
-        Owner::Waiter,
-    );
-    row(
-        &rt,
-        a,
-        &[Leave, Settle(5)],
-        &[Left(None), back],
-        6,
-        Owner::Settler,
-    );
-    row(
-        &rt,
-        a,
-        &[Settle(5), Leave],
-        &[QUIET, Left(Some(5))],
-        6,
-        Owner::Waiter,
-    );
-    row(
-        &rt,
-        a,
-        &[Settle(5), Poll, Poll, Leave],
-        &[QUIET, Outcome(5), Pending, Left(None)],
-        6,
-        Owner::Waiter,
-    );
-    row(
-        &rt,
-        a,
-        &[Sleep, Leave, Settle(5)],
-        &[Slept, Left(None), woke_and_back],
-        7,
-        Owner::Settler,
-    );
-    row(
-        &rt,
-        a,
-        &[Settle(5), Settle(6), IsLeft],
-        &[QUIET, Spent, Spent],
-        2,
-        Owner::Home,
-    );
-    row(
-        &rt,
-        a,
-        &[Poll, IsLeft, Leave, IsLeft, Poll],
-        &[Pending, Flag(false), Left(None), Flag(true), Spent],
-        4,
-        Owner::Nowhere,
-    );
-    Ok(())
+fn the_table_of_steps(rt: HostRuntime) {
+    for (steps, replies, word, owner) in ROWS {
+        assert!(rt;
+            is_row(rt.alloc(), steps, replies, word, owner),
+            "{steps:?}"
+        );
+    }
 }
 
 #[test]
 fn a_sleep_then_a_settle(rt: HostRuntime) -> Result<(), Fail> {
     let parker = Parker::new(rt.alloc())?;
     let (mut wait, mut settle) = signal::new::<u64>(rt.alloc())?;
-    assert_eq!(rt; wait.sleep(parker.unparker().clone()?), None);
-    assert_eq!(rt; settle.settle(5), None);
-    assert_eq!(rt; wait.poll(), Some(5));
-    assert_eq!(rt; wait.poll(), None);
+    assert!(rt; wait.sleep(parker.unparker().clone()?) == None);
+    assert!(rt; settle.settle(5) == None);
+    assert!(rt; wait.poll() == Some(5));
+    assert!(rt; wait.poll() == None);
     // The settle woke the sleeper, so this returns at once.
     parker.park(&rt);
     Ok(())
@@ -128,9 +113,9 @@ fn a_sleep_then_a_settle(rt: HostRuntime) -> Result<(), Fail> {
 fn a_settle_then_a_sleep(rt: HostRuntime) -> Result<(), Fail> {
     let parker = Parker::new(rt.alloc())?;
     let (mut wait, mut settle) = signal::new::<u64>(rt.alloc())?;
-    assert_eq!(rt; settle.settle(5), None);
-    assert_eq!(rt; wait.sleep(parker.unparker().clone()?), Some(5));
-    assert_eq!(rt; wait.leave(), None);
+    assert!(rt; settle.settle(5) == None);
+    assert!(rt; wait.sleep(parker.unparker().clone()?) == Some(5));
+    assert!(rt; wait.leave() == None);
     Ok(())
 }
 
@@ -138,18 +123,18 @@ fn a_settle_then_a_sleep(rt: HostRuntime) -> Result<(), Fail> {
 fn a_leave_then_a_settle(rt: HostRuntime) -> Result<(), Fail> {
     let (mut wait, mut settle) = signal::new::<u64>(rt.alloc())?;
     assert!(rt; !settle.is_left());
-    assert_eq!(rt; wait.leave(), None);
+    assert!(rt; wait.leave() == None);
     assert!(rt; settle.is_left());
-    assert_eq!(rt; settle.settle(5), Some(5));
+    assert!(rt; settle.settle(5) == Some(5));
     Ok(())
 }
 
 #[test]
 fn a_settle_then_a_leave(rt: HostRuntime) -> Result<(), Fail> {
     let (mut wait, mut settle) = signal::new::<u64>(rt.alloc())?;
-    assert_eq!(rt; wait.poll(), None);
-    assert_eq!(rt; settle.settle(5), None);
-    assert_eq!(rt; wait.leave(), Some(5));
+    assert!(rt; wait.poll() == None);
+    assert!(rt; settle.settle(5) == None);
+    assert!(rt; wait.leave() == Some(5));
     Ok(())
 }
 
@@ -157,9 +142,9 @@ fn a_settle_then_a_leave(rt: HostRuntime) -> Result<(), Fail> {
 fn a_sleep_a_leave_then_a_settle(rt: HostRuntime) -> Result<(), Fail> {
     let parker = Parker::new(rt.alloc())?;
     let (mut wait, mut settle) = signal::new::<u64>(rt.alloc())?;
-    assert_eq!(rt; wait.sleep(parker.unparker().clone()?), None);
-    assert_eq!(rt; wait.leave(), None);
-    assert_eq!(rt; settle.settle(5), Some(5));
+    assert!(rt; wait.sleep(parker.unparker().clone()?) == None);
+    assert!(rt; wait.leave() == None);
+    assert!(rt; settle.settle(5) == Some(5));
     parker.park(&rt);
     Ok(())
 }

@@ -39,7 +39,7 @@ pub struct Shared<T> {
 #[derive(Drop)]
 pub(crate) struct Acquired<'a, T> {
     pub(crate) core: MutexGuard<'a, Core<T>>,
-    leaving: Leaving<T>,
+    leaving: Option<Leaving<T>>,
 }
 
 /// What applying the notices took out of the core.
@@ -51,21 +51,13 @@ struct Leaving<T> {
 }
 
 impl<T: Drop> Leaving<T> {
-    /// Nothing left.
-    fn nothing() -> Self {
-        Leaving {
-            gone: None,
-            senders: None,
-            receivers: None,
-        }
-    }
-
     /// Whether nothing left.
     fn is_nothing(&self) -> bool {
         self.gone.is_none() && self.senders.is_none() && self.receivers.is_none()
     }
 
     /// Lets go of what left, and settles what ended. The lock is released.
+    #[cold]
     fn settle(self) {
         let Leaving {
             gone,
@@ -95,7 +87,9 @@ impl<T: Drop> Acquired<'_, T> {
     fn free(self) {
         let Acquired { core, leaving } = self;
         drop(core);
-        leaving.settle();
+        if let Some(leaving) = leaving {
+            leaving.settle();
+        }
     }
 }
 
@@ -146,9 +140,9 @@ impl<T: Drop> Shared<T> {
     pub(crate) fn try_lock(&self) -> Option<Acquired<'_, T>> {
         let mut core = self.core.try_lock()?;
         let leaving = if self.is_quiet() {
-            Leaving::nothing()
+            None
         } else {
-            self.apply(&mut core)
+            Some(self.apply(&mut core))
         };
         Some(Acquired { core, leaving })
     }
@@ -218,7 +212,9 @@ impl<T: Drop> Shared<T> {
         if let Some(one) = settled {
             settle(one);
         }
-        self.look();
+        if !self.is_quiet() {
+            self.look();
+        }
     }
 
     /// Releases the lock, settles the waits that the call's step ended, and looks for new notices.

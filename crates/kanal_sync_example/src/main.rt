@@ -6,9 +6,6 @@ use anyhow::Result;
 use futures::executor::block_on;
 use kanal::Sender;
 use kanal::error::SendError;
-use std::alloc::AllocGlobal;
-use std::io;
-use std::random::RandomSource;
 use std::sync::Wait;
 use std::thread;
 use std::thread::{JoinHandle, Threads};
@@ -25,15 +22,6 @@ fn send_in_a_thread<R: Threads + Wait + Copy + Send + 'static>(
     Ok(thread)
 }
 
-/// Sends a hello from a task that runs in a thread.
-fn send_in_a_task<R>(rt: R, sender: Sender<&'static str>) -> Result<JoinHandle<io::Result<Sent>>>
-where
-    R: Threads + Wait + RandomSource + AllocGlobal + Copy + Send + 'static,
-{
-    let thread = thread::spawn(&rt, move || block_on(&rt, sender.as_async().send("hello")))?;
-    Ok(thread)
-}
-
 fn main(rt: HostRuntime) -> Result<()> {
     // A channel with room for 8 messages.
     let (sender, receiver) = kanal::bounded::<&'static str>(rt.alloc(), 8)?;
@@ -42,9 +30,8 @@ fn main(rt: HostRuntime) -> Result<()> {
     println!(rt; "I got msg: {}", receiver.recv(&rt)?)?;
     thread.join(&rt)?;
 
-    // The same channel between a task and this thread.
-    let task = send_in_a_task(rt, sender)?;
+    // The same channel, borrowed for a task.
+    block_on(&rt, sender.as_async().send("hello"))??;
     println!(rt; "I got msg: {}", receiver.recv(&rt)?)?;
-    task.join(&rt)??;
     Ok(())
 }

@@ -1,5 +1,5 @@
 //! The table of steps on the plain cell, and its rows on a running cell.
-use crossbeam_utils::sync::Parker;
+use crossbeam_utils::sync::{Parker, Unparker};
 use kanal_core::signal;
 use kanal_core::signal::CellReply::{Flag, Left, Outcome, Pending, Settled, Slept, Spent};
 use kanal_core::signal::CellStep::{IsLeft, Leave, Poll, Settle, Sleep};
@@ -96,11 +96,18 @@ fn the_table_of_steps(rt: HostRuntime) {
     }
 }
 
+/// A parker, and what unparks it.
+fn parking(alloc: Global) -> Result<(Parker, Unparker), Fail> {
+    let parker = Parker::new(alloc)?;
+    let sleeper = parker.unparker().clone()?;
+    Ok((parker, sleeper))
+}
+
 #[test]
 fn a_sleep_then_a_settle(rt: HostRuntime) -> Result<(), Fail> {
-    let parker = Parker::new(rt.alloc())?;
+    let (parker, sleeper) = parking(rt.alloc())?;
     let (mut wait, mut settle) = signal::new::<u64>(rt.alloc())?;
-    assert!(rt; wait.sleep(parker.unparker().clone()?) == None);
+    assert!(rt; wait.sleep(sleeper) == None);
     assert!(rt; settle.settle(5) == None);
     assert!(rt; wait.poll() == Some(5));
     assert!(rt; wait.poll() == None);
@@ -111,10 +118,10 @@ fn a_sleep_then_a_settle(rt: HostRuntime) -> Result<(), Fail> {
 
 #[test]
 fn a_settle_then_a_sleep(rt: HostRuntime) -> Result<(), Fail> {
-    let parker = Parker::new(rt.alloc())?;
+    let (_parker, sleeper) = parking(rt.alloc())?;
     let (mut wait, mut settle) = signal::new::<u64>(rt.alloc())?;
     assert!(rt; settle.settle(5) == None);
-    assert!(rt; wait.sleep(parker.unparker().clone()?) == Some(5));
+    assert!(rt; wait.sleep(sleeper) == Some(5));
     assert!(rt; wait.leave() == None);
     Ok(())
 }
@@ -140,9 +147,9 @@ fn a_settle_then_a_leave(rt: HostRuntime) -> Result<(), Fail> {
 
 #[test]
 fn a_sleep_a_leave_then_a_settle(rt: HostRuntime) -> Result<(), Fail> {
-    let parker = Parker::new(rt.alloc())?;
+    let (parker, sleeper) = parking(rt.alloc())?;
     let (mut wait, mut settle) = signal::new::<u64>(rt.alloc())?;
-    assert!(rt; wait.sleep(parker.unparker().clone()?) == None);
+    assert!(rt; wait.sleep(sleeper) == None);
     assert!(rt; wait.leave() == None);
     assert!(rt; settle.settle(5) == Some(5));
     parker.park(&rt);

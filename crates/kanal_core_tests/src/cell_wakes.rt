@@ -11,6 +11,7 @@ use futures::task::{Context, Poll, Source, Waker};
 use futures::test::MockTask;
 use kanal_core::signal;
 use kanal_core::signal::{SettleEnd, WaitEnd};
+use std::alloc::Global;
 use std::sync::atomic::{AtomicU64, Ordering};
 use std::sync::{Arc, Mutex};
 use std::test::Fail;
@@ -58,18 +59,30 @@ fn stays_parked(stage: &AtomicU64, waking: &Unparker) -> bool {
     stayed
 }
 
+/// A parker, and twice what unparks it.
+fn parking(alloc: Global) -> Result<(Parker, Unparker, Unparker), Fail> {
+    let parker = Parker::new(alloc)?;
+    let sleeper = parker.unparker().clone()?;
+    let waking = parker.unparker().clone()?;
+    Ok((parker, sleeper, waking))
+}
+
+/// A stage that has not begun, for two threads.
+fn stages(alloc: Global) -> Result<(Arc<AtomicU64, Global>, Arc<AtomicU64, Global>), Fail> {
+    let stage = Arc::new(alloc, AtomicU64::new(0))?;
+    let theirs = Arc::try_clone(&stage)?;
+    Ok((stage, theirs))
+}
+
 /// A sleep that comes after the settle has the outcome at once, and its sleeper is not woken: a park
 /// after it lasts until somebody else ends it.
 #[test]
 fn a_sleep_after_the_settle_is_not_woken(rt: HostRuntime) -> Result<(), Fail> {
-    let parker = Parker::new(rt.alloc())?;
-    let sleeper = parker.unparker().clone()?;
-    let waking = parker.unparker().clone()?;
+    let (parker, sleeper, waking) = parking(rt.alloc())?;
+    let (stage, theirs) = stages(rt.alloc())?;
     let (mut wait, mut settle) = signal::new::<u64>(rt.alloc())?;
     assert!(rt; settle.settle(5).is_none());
     assert!(rt; wait.sleep(sleeper) == Some(5));
-    let stage = Arc::new(rt.alloc(), AtomicU64::new(0))?;
-    let theirs = Arc::try_clone(&stage)?;
     let other = thread::spawn(&rt, move || stays_parked(&theirs, &waking))?;
     stage.store(PARKS, Ordering::SeqCst);
     parker.park(&rt);

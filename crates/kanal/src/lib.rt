@@ -1,7 +1,8 @@
 //! kanal: one channel for many producers and many consumers.
 //!
 //! A channel has a buffer of chosen size, of none, or without limit. Handles of its two sides are
-//! cloned and dropped; a blocked call sleeps until its wait is settled.
+//! cloned and dropped, for threads and for tasks, and each kind is made of the other. A thread's blocked
+//! call sleeps until its wait is settled; a task's future is polled, and waits for nobody.
 //!
 //! Stands on `kanal_core`, whose errors, cells and core it hands on. Data flows one way: a handle
 //! takes the lock, lends the core to one step, releases the lock, and only then settles or drops

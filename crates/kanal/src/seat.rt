@@ -1,8 +1,8 @@
 //! What a waiter brings to the core: the end that settles its wait, in memory of its own, in which
 //! its entry is kept when it leaves by notice.
 //!
-//! Stands on the settling end. What leaves the core is settled or let go here, and only after the lock was
-//! released.
+//! Stands on the settling end. What leaves the core is settled or let go here, and only after the
+//! lock was released.
 ghost use Rattle.kanal_core.specs.CellRule.{HasNotSettled};
 ghost use Rattle.kanal_core.specs.CellEnds.{settle_view};
 ghost use Rattle.kanal.specs.Renewing.{Swaps};

@@ -7,11 +7,10 @@ use futures::executor::block_on;
 use kanal::error::ReceiveError;
 use kanal::{AsyncReceiver, Receiver};
 use std::alloc::AllocGlobal;
-use std::io;
 use std::random::RandomSource;
 use std::sync::Wait;
-use std::thread;
 use std::thread::{JoinHandle, Threads};
+use std::{io, thread};
 
 /// What a receive answers.
 type Got = std::result::Result<&'static str, ReceiveError>;

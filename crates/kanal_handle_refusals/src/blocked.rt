@@ -107,7 +107,11 @@ pub fn send_waits<R: Threads + Wait + Copy + Send + 'static>(rt: R, alloc: Globa
     let took = thread.join(&rt);
     let all = drops.load(SeqCst);
     holds(took && sent == Ok(()))?;
-    holds(if refused { dropped == 1 && all == 2 } else { all == 1 })
+    holds(if refused {
+        dropped == 1 && all == 2
+    } else {
+        all == 1
+    })
 }
 
 /// A message of the counter.

@@ -115,11 +115,7 @@ fn the_last_receiver_ends_a_send_and_its_message_is_dropped(rt: HostRuntime) -> 
 const MANY: u64 = 500;
 
 /// Sends so many messages, whatever becomes of them. How many were sent.
-fn send_many<R: Wait>(
-    rt: &R,
-    sender: &Sender<Counted>,
-    drops: &Arc<AtomicU64, Global>,
-) -> u64 {
+fn send_many<R: Wait>(rt: &R, sender: &Sender<Counted>, drops: &Arc<AtomicU64, Global>) -> u64 {
     let mut sent = 0u64;
     for _ in 0..MANY {
         let Ok(drops) = Arc::try_clone(drops) else {

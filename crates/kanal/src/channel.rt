@@ -6,11 +6,11 @@ ghost use Rattle.std.specs.Prelude.{◌≡◌, ◌↔◌, IsErrOf};
 use crate::async_receiver::AsyncReceiver;
 use crate::async_sender::AsyncSender;
 use crate::receiver::Receiver;
-use crate::seat::Core;
 use crate::sender::Sender;
 use crate::shared::Shared;
 use kanal_core::error::NewError;
 use kanal_core::internal::ChannelInternal;
+use kanal_steps::seat::Core;
 use std::alloc::Global;
 use std::sync::Arc;
 

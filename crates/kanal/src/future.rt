@@ -13,13 +13,13 @@ mod receive;
 mod send;
 mod stream;
 
-use crate::seat::Seat;
 use crate::shared::Shared;
-use crate::steps;
 use futures::task::{Context, Poll, Source, Waker};
 use kanal_core::internal::{Outcome, Ticket};
 use kanal_core::signal;
 use kanal_core::signal::WaitEnd;
+use kanal_steps::seat::Seat;
+use kanal_steps::steps;
 pub use receive::ReceiveFuture;
 pub use send::SendFuture;
 use std::alloc::Global;

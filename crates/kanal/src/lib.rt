@@ -4,9 +4,9 @@
 //! cloned and dropped, for threads and for tasks, and each kind is made of the other. A thread's blocked
 //! call sleeps until its wait is settled; a task's future is polled, and waits for nobody.
 //!
-//! Stands on `kanal_core`, whose errors, cells and core it hands on. Data flows one way: a handle
-//! takes the lock, lends the core to one step, releases the lock, and only then settles or drops
-//! what left the core.
+//! Stands on `kanal_core`, whose errors, cells and core it hands on, and on the steps of
+//! `kanal_steps`. Data flows one way: a handle takes the lock, lends the core to one step, releases
+//! the lock, and only then settles or drops what left the core.
 #![tactic(auto)]
 
 pub use kanal_core::{error, internal, signal};
@@ -21,12 +21,9 @@ mod messages;
 mod questions;
 mod receiver;
 mod receiver_view;
-mod seat;
 mod sender;
 mod sender_view;
-mod settler;
 mod shared;
-mod steps;
 
 pub use async_receiver::AsyncReceiver;
 pub use async_sender::AsyncSender;

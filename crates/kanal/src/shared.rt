@@ -6,11 +6,11 @@
 //! settles that, and waits for the lock anew; one that may not makes its step at once, and settles
 //! both after its release. Whoever releases the lock settles first and then looks for new notices. No
 //! other module takes the lock or touches a notice's counter.
-use crate::seat::{Core, Seat, let_go, settle, settle_all};
-use crate::steps;
 use crossbeam_utils::Backoff;
 use kanal_core::internal::{Ended, Settled, Ticket, Waiter};
 use kanal_core::mutex::Mutex;
+use kanal_steps::seat::{Core, Seat, let_go, settle, settle_all};
+use kanal_steps::steps;
 use std::sync::atomic::AtomicU64;
 use std::sync::atomic::Ordering::SeqCst;
 use std::sync::{MutexGuard, Wait};

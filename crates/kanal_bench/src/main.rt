@@ -15,15 +15,27 @@ mod threads;
 use anyhow::{Result, anyhow, bail};
 use crowd::{Crowd, FOUR_TO_FOUR, FOUR_TO_ONE, ONE_TO_ONE};
 use kanal::SystemClock;
-use kanal::error::ReceiveErrorTimeout;
-use std::alloc::Global;
+use kanal::error::{NewError, ReceiveErrorTimeout};
+use std::alloc::{Alloc, AllocGlobal, Global};
+use std::env::Env;
+use std::random::RandomSource;
 use std::sync::Wait;
+use std::thread::Threads;
 use std::time::Duration;
 use std::{env, time};
 
-/// What is measured.
+/// What is done.
 #[derive(Copy, Clone)]
 enum Scenario {
+    /// Messages are sent and received.
+    Messages(Work),
+    /// A wait for nothing.
+    Wait,
+}
+
+/// Who sends and receives.
+#[derive(Copy, Clone)]
+enum Work {
     /// One thread, which sends and receives in turn.
     InTurn,
     /// Threads that block.
@@ -32,21 +44,19 @@ enum Scenario {
     TaskInTurn,
     /// Tasks, one a thread.
     InTasks(Crowd),
-    /// A wait for nothing.
-    Wait,
 }
 
 impl Scenario {
     /// The scenario that the word names.
     fn named(word: &str) -> Option<Self> {
         match word {
-            "seq" => Some(Scenario::InTurn),
-            "spsc" => Some(Scenario::InThreads(ONE_TO_ONE)),
-            "mpsc" => Some(Scenario::InThreads(FOUR_TO_ONE)),
-            "mpmc" => Some(Scenario::InThreads(FOUR_TO_FOUR)),
-            "async-seq" => Some(Scenario::TaskInTurn),
-            "async-spsc" => Some(Scenario::InTasks(ONE_TO_ONE)),
-            "async-mpmc" => Some(Scenario::InTasks(FOUR_TO_FOUR)),
+            "seq" => Some(Scenario::Messages(Work::InTurn)),
+            "spsc" => Some(Scenario::Messages(Work::InThreads(ONE_TO_ONE))),
+            "mpsc" => Some(Scenario::Messages(Work::InThreads(FOUR_TO_ONE))),
+            "mpmc" => Some(Scenario::Messages(Work::InThreads(FOUR_TO_FOUR))),
+            "async-seq" => Some(Scenario::Messages(Work::TaskInTurn)),
+            "async-spsc" => Some(Scenario::Messages(Work::InTasks(ONE_TO_ONE))),
+            "async-mpmc" => Some(Scenario::Messages(Work::InTasks(FOUR_TO_FOUR))),
             "wait" => Some(Scenario::Wait),
             _ => None,
         }
@@ -54,7 +64,104 @@ impl Scenario {
 
     /// Whether it can't end without a buffer.
     fn wants_a_buffer(self) -> bool {
-        matches!(self, Scenario::InTurn | Scenario::TaskInTurn)
+        matches!(self, Scenario::Messages(Work::InTurn | Work::TaskInTurn))
+    }
+}
+
+/// How many messages the channel's buffer holds.
+#[derive(Copy, Clone)]
+enum Capacity {
+    /// So many.
+    Limited(usize),
+    /// As many as are sent.
+    Unlimited,
+}
+
+impl Capacity {
+    /// The capacity that the word names.
+    fn named(word: &str) -> Option<Self> {
+        if word == "u" {
+            return Some(Capacity::Unlimited);
+        }
+        Some(Capacity::Limited(word.parse::<usize>().ok()?))
+    }
+
+    /// A channel of this capacity.
+    fn open(self, alloc: Global) -> Result<threads::Ends, NewError> {
+        match self {
+            Capacity::Limited(size) => kanal::bounded(alloc, size),
+            Capacity::Unlimited => kanal::unbounded(alloc),
+        }
+    }
+
+    /// The same for tasks.
+    fn open_async(self, alloc: Global) -> Result<tasks::Ends, NewError> {
+        match self {
+            Capacity::Limited(size) => kanal::bounded_async(alloc, size),
+            Capacity::Unlimited => kanal::unbounded_async(alloc),
+        }
+    }
+}
+
+/// What the command's words ask for.
+#[derive(Copy, Clone)]
+struct Order {
+    scenario: Scenario,
+    capacity: Capacity,
+    count: u64,
+}
+
+impl Order {
+    /// What these words ask for.
+    fn of(scenario: &str, capacity: &str, count: &str) -> Result<Self> {
+        let Some(scenario) = Scenario::named(scenario) else {
+            bail!(
+                "the scenario is seq, spsc, mpsc, mpmc, async-seq, async-spsc, async-mpmc or wait"
+            );
+        };
+        if scenario.wants_a_buffer() && capacity == "0" {
+            bail!("seq and async-seq want a capacity above 0");
+        }
+        let Ok(count) = count.parse::<u64>() else {
+            bail!("the count is a number");
+        };
+        let Some(capacity) = Capacity::named(capacity) else {
+            bail!("the capacity is a number or u");
+        };
+        Ok(Order {
+            scenario,
+            capacity,
+            count,
+        })
+    }
+
+    /// What the words of the command ask for.
+    fn read<R: Env + Alloc>(rt: &R) -> Result<Self> {
+        let mut args = env::args(rt)?;
+        let _program = args.next();
+        match (args.next(), args.next(), args.next()) {
+            (Some(scenario), Some(capacity), Some(count)) => {
+                Order::of(&scenario, &capacity, &count)
+            },
+            _ => Err(anyhow!("usage: kanal_bench SCENARIO CAPACITY|u COUNT")),
+        }
+    }
+}
+
+/// Sends and receives so many messages, and answers the sum of what was received.
+fn sum<R>(rt: R, alloc: Global, work: Work, capacity: Capacity, count: u64) -> Result<u64>
+where
+    R: Threads + Wait + RandomSource + AllocGlobal + Copy + Send + 'static,
+{
+    match work {
+        Work::InTurn => threads::in_turn(&rt, capacity.open(alloc)?, count),
+        Work::InThreads(crowd) => {
+            threads::in_threads(rt, alloc, capacity.open(alloc)?, crowd, count)
+        },
+        Work::TaskInTurn => tasks::in_turn(&rt, capacity.open_async(alloc)?, count),
+        Work::InTasks(crowd) => {
+            tasks::in_threads(rt, alloc, capacity.open_async(alloc)?, crowd, count)
+        },
     }
 }
 
@@ -71,77 +178,21 @@ fn wait<R: Wait + time::Clock>(rt: &R, ends: threads::Ends, milliseconds: u64) -
     }
 }
 
-/// The channel with the capacity that the word names.
-fn open(alloc: Global, capacity: &str) -> Result<threads::Ends> {
-    if capacity == "u" {
-        return Ok(kanal::unbounded(alloc)?);
-    }
-    match capacity.parse::<usize>() {
-        Ok(size) => Ok(kanal::bounded(alloc, size)?),
-        Err(_) => Err(anyhow!("the capacity is a number or u")),
-    }
-}
-
-/// What the command's words ask for.
-#[derive(Drop)]
-struct Order {
-    scenario: Scenario,
-    ends: threads::Ends,
-    count: u64,
-}
-
-impl Order {
-    /// What these words ask for.
-    fn of(alloc: Global, scenario: &str, capacity: &str, count: &str) -> Result<Self> {
-        let Some(scenario) = Scenario::named(scenario) else {
-            bail!(
-                "the scenario is seq, spsc, mpsc, mpmc, async-seq, async-spsc, async-mpmc or wait"
-            );
-        };
-        if scenario.wants_a_buffer() && capacity == "0" {
-            bail!("seq and async-seq want a capacity above 0");
-        }
-        let Ok(count) = count.parse::<u64>() else {
-            bail!("the count is a number");
-        };
-        let ends = open(alloc, capacity)?;
-        Ok(Order {
-            scenario,
-            ends,
-            count,
-        })
-    }
-}
-
 fn main(rt: HostRuntime) -> Result<()> {
     let alloc = rt.alloc();
-    let mut args = env::args(&rt)?;
-    let _program = args.next();
-    let (Some(scenario), Some(capacity), Some(count)) = (args.next(), args.next(), args.next())
-    else {
-        bail!("usage: kanal_bench SCENARIO CAPACITY|u COUNT");
-    };
     let Order {
         scenario,
-        ends,
+        capacity,
         count,
-    } = Order::of(alloc, &scenario, &capacity, &count)?;
-    let (sender, receiver) = ends;
-    let sum = match scenario {
-        Scenario::InTurn => threads::in_turn(&rt, (sender, receiver), count)?,
-        Scenario::InThreads(crowd) => {
-            threads::in_threads(rt, alloc, (sender, receiver), crowd, count)?
-        },
-        Scenario::TaskInTurn => {
-            tasks::in_turn(&rt, (sender.to_async(), receiver.to_async()), count)?
-        },
-        Scenario::InTasks(crowd) => {
-            let ends = (sender.to_async(), receiver.to_async());
-            tasks::in_threads(rt, alloc, ends, crowd, count)?
+    } = Order::read(&rt)?;
+    match scenario {
+        Scenario::Messages(work) => {
+            println!(rt; "{}", sum(rt, alloc, work, capacity, count)?)?;
         },
         Scenario::Wait => {
-            return Ok(println!(rt; "{}", wait(&rt, (sender, receiver), count))?);
+            let ends = capacity.open(alloc)?;
+            println!(rt; "{}", wait(&rt, ends, count))?;
         },
-    };
-    Ok(println!(rt; "{sum}")?)
+    }
+    Ok(())
 }

@@ -83,6 +83,23 @@ where
     Ok(started)
 }
 
+/// Joins the threads that send.
+fn join_all<R: Threads>(rt: &R, sending: Vec<JoinHandle<io::Result<()>>>) -> io::Result<()> {
+    for thread in sending {
+        thread.join(rt)?;
+    }
+    Ok(())
+}
+
+/// The sum of what the receiving threads got, when all have ended.
+fn sum_of<R: Threads>(rt: &R, receiving: Vec<JoinHandle<io::Result<u64>>>) -> io::Result<u64> {
+    let mut sum = 0u64;
+    for thread in receiving {
+        sum = sum.wrapping_add(thread.join(rt)?);
+    }
+    Ok(sum)
+}
+
 /// Sends and receives in threads of their own, and joins them all.
 pub fn in_threads<R>(rt: R, alloc: Global, ends: Ends, crowd: Crowd, count: u64) -> Result<u64>
 where
@@ -93,12 +110,6 @@ where
     drop(sender);
     let receiving = start_receivers(rt, alloc, &receiver, crowd.receivers)?;
     drop(receiver);
-    for thread in sending {
-        thread.join(&rt)?;
-    }
-    let mut sum = 0u64;
-    for thread in receiving {
-        sum = sum.wrapping_add(thread.join(&rt)?);
-    }
-    Ok(sum)
+    join_all(&rt, sending)?;
+    Ok(sum_of(&rt, receiving)?)
 }

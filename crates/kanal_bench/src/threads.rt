@@ -73,6 +73,15 @@ fn start_receivers<R: Threads + Wait + Copy + Send + 'static>(
     Ok(started)
 }
 
+/// The sum of what the receiving threads got, when all have ended.
+fn sum_of<R: Threads>(rt: &R, receiving: Vec<JoinHandle<u64>>) -> u64 {
+    let mut sum = 0u64;
+    for thread in receiving {
+        sum = sum.wrapping_add(thread.join(rt));
+    }
+    sum
+}
+
 /// Sends and receives in threads of their own, and joins them all.
 pub fn in_threads<R: Threads + Wait + Copy + Send + 'static>(
     rt: R,
@@ -89,9 +98,5 @@ pub fn in_threads<R: Threads + Wait + Copy + Send + 'static>(
     for thread in sending {
         thread.join(&rt);
     }
-    let mut sum = 0u64;
-    for thread in receiving {
-        sum = sum.wrapping_add(thread.join(&rt));
-    }
-    Ok(sum)
+    Ok(sum_of(&rt, receiving))
 }

@@ -4,10 +4,11 @@
 //! there is none is the memory of a wait asked for.
 use super::AsyncReceiver;
 use crate::async_sender::blocking::wait;
-use crate::steps;
-use crate::steps::Received;
 use kanal_core::error::ReceiveError;
-use kanal_core::internal::{Outcome, Reason};
+use kanal_core::internal::{Outcome, Reason, Ticket};
+use kanal_steps::seat::Seat;
+use kanal_steps::steps;
+use kanal_steps::steps::Received;
 use std::sync::Wait;
 
 /// What the end of a receiver's wait answers.
@@ -18,6 +19,15 @@ pub(crate) fn answer_of<T: Drop>(outcome: Outcome<T>) -> Result<T, ReceiveError>
         Outcome::Ended(_reason, _message) => Err(ReceiveError::Closed),
         Outcome::Taken => Err(ReceiveError::Closed),
     }
+}
+
+/// What a receive with the seat of a wait came to, where it was not refused.
+#[derive(Drop)]
+pub(crate) enum Seated<T> {
+    /// The front message.
+    Got(T),
+    /// The receiver waits.
+    Waits(Ticket),
 }
 
 impl<T: Drop> AsyncReceiver<T> {
@@ -34,15 +44,27 @@ impl<T: Drop> AsyncReceiver<T> {
         let Some((waiting, seat)) = wait(self.alloc) else {
             return Err(ReceiveError::NoMemory);
         };
+        match self.recv_seated(rt, seat)? {
+            Seated::Got(message) => Ok(message),
+            Seated::Waits(_ticket) => answer_of(waiting.outcome(rt)),
+        }
+    }
+
+    /// Takes the front message, or starts a wait with the seat where there is none.
+    pub(super) fn recv_seated<R: Wait>(
+        &self,
+        rt: &R,
+        seat: Box<Seat<T>>,
+    ) -> Result<Seated<T>, ReceiveError> {
         let mut guard = self.shared.lock(rt);
         match steps::recv(&mut guard, seat) {
             Received::Got(message, settled, _seat) => {
                 self.shared.release(guard, settled);
-                Ok(message)
+                Ok(Seated::Got(message))
             },
-            Received::Waits(_ticket) => {
+            Received::Waits(ticket) => {
                 self.shared.unlock(guard);
-                answer_of(waiting.outcome(rt))
+                Ok(Seated::Waits(ticket))
             },
             Received::Refused(error, _seat) => {
                 self.shared.unlock(guard);

@@ -2,14 +2,14 @@
 //!
 //! Stands on the steps, on how a blocked call waits, and on the clock that the caller hands in.
 use super::AsyncReceiver;
-use super::blocking::answer_of;
+use super::blocking::{Seated, answer_of};
 use crate::async_sender::blocking::wait;
 use crate::backoff::Waiting;
 use crate::clock::{Clock, deadline};
-use crate::steps;
-use crate::steps::{Received, Tried};
 use kanal_core::error::{ReceiveError, ReceiveErrorTimeout};
 use kanal_core::internal::{Outcome, Ticket};
+use kanal_steps::steps;
+use kanal_steps::steps::Tried;
 use std::sync::Wait;
 use std::time;
 use std::time::Duration;
@@ -63,21 +63,13 @@ impl<T: Drop> AsyncReceiver<T> {
         let Some((waiting, seat)) = wait(self.alloc) else {
             return Err(ReceiveErrorTimeout::NoMemory);
         };
-        let mut guard = self.shared.lock(rt);
-        match steps::recv(&mut guard, seat) {
-            Received::Got(message, settled, _seat) => {
-                self.shared.release(guard, settled);
-                Ok(message)
-            },
-            Received::Waits(ticket) => {
-                self.shared.unlock(guard);
+        match self.recv_seated(rt, seat) {
+            Ok(Seated::Got(message)) => Ok(message),
+            Ok(Seated::Waits(ticket)) => {
                 let looked = waiting.outcome_until(rt, clock, deadline);
                 self.end_wait(rt, ticket, looked)
             },
-            Received::Refused(error, _seat) => {
-                self.shared.unlock(guard);
-                Err(timed(error))
-            },
+            Err(error) => Err(timed(error)),
         }
     }
 

@@ -2,14 +2,16 @@
 //!
 //! Stands on the steps and on how a blocked call waits. The message is offered first; only where
 //! there is no place for it is the memory of a wait asked for.
+ghost use Rattle.std.specs.Prelude.{◌≡◌, IfErr};
+
 use super::AsyncSender;
 use crate::backoff::Waiting;
-use crate::seat::Seat;
-use crate::steps;
-use crate::steps::Sent;
 use kanal_core::error::SendError;
-use kanal_core::internal::{Outcome, Reason};
+use kanal_core::internal::{Outcome, Reason, Ticket};
 use kanal_core::signal;
+use kanal_steps::seat::Seat;
+use kanal_steps::steps;
+use kanal_steps::steps::Sent;
 use std::alloc::Global;
 use std::sync::Wait;
 
@@ -49,19 +51,36 @@ impl<T: Drop> AsyncSender<T> {
         let Some((waiting, seat)) = wait(self.alloc) else {
             return Err(SendError::NoMemory);
         };
+        match self.send_seated(rt, message, seat) {
+            Ok(None) => Ok(()),
+            Ok(Some(_ticket)) => answer_of(waiting.outcome(rt)),
+            Err((error, _message)) => Err(error),
+        }
+    }
+
+    /// Offers the message with the seat of a wait: `None` where it entered, and the wait's ticket where
+    /// there was no place. A refused message comes back.
+    pub(super) fn send_seated<R: Wait>(
+        &self,
+        rt: &R,
+        message: T,
+        seat: Box<Seat<T>>,
+    ) -> Result<Option<Ticket>, (SendError, T)>
+        ensures refused { IfErr result (λ e. e.1 ≡ message) }
+    {
         let mut guard = self.shared.lock(rt);
         match steps::send(&mut guard, message, seat) {
             Sent::Entered(settled, _seat) => {
                 self.shared.release(guard, settled);
-                Ok(())
+                Ok(None)
             },
-            Sent::Waits(_ticket) => {
+            Sent::Waits(ticket) => {
                 self.shared.unlock(guard);
-                answer_of(waiting.outcome(rt))
+                Ok(Some(ticket))
             },
-            Sent::Refused(error, _message, _seat) => {
+            Sent::Refused(error, back, _seat) => {
                 self.shared.unlock(guard);
-                Err(error)
+                Err((error, back))
             },
         }
     }

@@ -8,8 +8,6 @@ use super::AsyncSender;
 use super::blocking::wait;
 use crate::backoff::Waiting;
 use crate::clock::{Clock, deadline};
-use crate::steps;
-use crate::steps::Sent;
 use kanal_core::error::{SendError, SendErrorTimeout};
 use kanal_core::internal::{Outcome, Reason, Ticket};
 use std::sync::Wait;
@@ -101,19 +99,13 @@ impl<T: Drop> AsyncSender<T> {
         let Some(message) = option.take() else {
             unreachable!()
         };
-        let mut guard = self.shared.lock(rt);
-        match steps::send(&mut guard, message, seat) {
-            Sent::Entered(settled, _seat) => {
-                self.shared.release(guard, settled);
-                Ok(())
-            },
-            Sent::Waits(ticket) => {
-                self.shared.unlock(guard);
+        match self.send_seated(rt, message, seat) {
+            Ok(None) => Ok(()),
+            Ok(Some(ticket)) => {
                 let looked = waiting.outcome_until(rt, clock, deadline);
                 self.end_wait(rt, ticket, looked, option)
             },
-            Sent::Refused(error, back, _seat) => {
-                self.shared.unlock(guard);
+            Err((error, back)) => {
                 *option = Some(back);
                 Err(timed(error))
             },

@@ -6,13 +6,14 @@ ghost use Rattle.kanal.specs.Futures.{receive_is_over, receive_source, receive_w
 
 use super::{Started, State, Wakers};
 use crate::async_receiver::AsyncReceiver;
-use crate::async_receiver::blocking::answer_of;
-use crate::shared::Acquired;
-use crate::steps;
-use crate::steps::{Received, Tried};
+use crate::async_receiver::blocking::{Seated, answer_of};
+use crate::shared::{Acquired, Shared};
 use futures::Future;
 use futures::task::{Context, Poll};
 use kanal_core::error::ReceiveError;
+use kanal_steps::seat::Seat;
+use kanal_steps::steps;
+use kanal_steps::steps::{Received, Tried};
 use std::{fmt, mem};
 
 /// Receives a message, as `AsyncReceiver::recv` answers it.
@@ -27,6 +28,29 @@ pub struct ReceiveFuture<'a, T> {
     receiver: &'a AsyncReceiver<T>,
     state: State<(), T>,
     wakers: Wakers,
+}
+
+/// Takes the front message, or starts a wait with the seat where there is none, and releases the lock.
+fn recv_seated<T: Drop>(
+    shared: &Shared<T>,
+    acquired: Acquired<'_, T>,
+    seat: Box<Seat<T>>,
+) -> Result<Seated<T>, ReceiveError> {
+    let mut acquired = acquired;
+    match steps::recv(&mut acquired.core, seat) {
+        Received::Got(message, settled, _seat) => {
+            shared.release_acquired(acquired, settled);
+            Ok(Seated::Got(message))
+        },
+        Received::Waits(ticket) => {
+            shared.release_acquired(acquired, None);
+            Ok(Seated::Waits(ticket))
+        },
+        Received::Refused(error, _seat) => {
+            shared.release_acquired(acquired, None);
+            Err(error)
+        },
+    }
 }
 
 impl<T: Drop> Drop for ReceiveFuture<'_, T> {
@@ -109,26 +133,18 @@ impl<'a, T: Drop> ReceiveFuture<'a, T> {
         ensures registered { OnPending result (Covers cx.new (λ s. s ≡ receive_source self.new)) }
         ensures kept { Keeps cx.old cx.new }
     {
-        let mut acquired = acquired;
         let shared = self.receiver.shared();
         let Some((end, seat)) = self.wakers.cell(self.receiver.alloc(), cx) else {
             shared.release_acquired(acquired, None);
             return Poll::Ready(Err(ReceiveError::NoMemory));
         };
-        match steps::recv(&mut acquired.core, seat) {
-            Received::Got(message, settled, _seat) => {
-                shared.release_acquired(acquired, settled);
-                Poll::Ready(Ok(message))
-            },
-            Received::Waits(ticket) => {
-                shared.release_acquired(acquired, None);
+        match recv_seated(shared, acquired, seat) {
+            Ok(Seated::Got(message)) => Poll::Ready(Ok(message)),
+            Ok(Seated::Waits(ticket)) => {
                 self.state = State::Waiting(Started { ticket, end });
                 Poll::Pending
             },
-            Received::Refused(error, _seat) => {
-                shared.release_acquired(acquired, None);
-                Poll::Ready(Err(error))
-            },
+            Err(error) => Poll::Ready(Err(error)),
         }
     }
 

@@ -7,12 +7,14 @@ ghost use Rattle.kanal.specs.Futures.{send_is_over, send_source};
 use super::{Started, State, Wakers};
 use crate::async_sender::AsyncSender;
 use crate::async_sender::blocking::answer_of;
-use crate::shared::Acquired;
-use crate::steps;
-use crate::steps::{Sent, Tried};
+use crate::shared::{Acquired, Shared};
 use futures::Future;
 use futures::task::{Context, Poll};
 use kanal_core::error::SendError;
+use kanal_core::internal::Ticket;
+use kanal_steps::seat::Seat;
+use kanal_steps::steps;
+use kanal_steps::steps::{Sent, Tried};
 use std::{fmt, mem};
 
 /// Sends a message, as `AsyncSender::send` answers it.
@@ -27,6 +29,31 @@ pub struct SendFuture<'a, T> {
     sender: &'a AsyncSender<T>,
     state: State<T, T>,
     wakers: Wakers,
+}
+
+/// Offers the message with the seat of a wait, and releases the lock: `None` where it entered, and the
+/// wait's ticket where there was no place.
+fn send_seated<T: Drop>(
+    shared: &Shared<T>,
+    acquired: Acquired<'_, T>,
+    message: T,
+    seat: Box<Seat<T>>,
+) -> Result<Option<Ticket>, SendError> {
+    let mut acquired = acquired;
+    match steps::send(&mut acquired.core, message, seat) {
+        Sent::Entered(settled, _seat) => {
+            shared.release_acquired(acquired, settled);
+            Ok(None)
+        },
+        Sent::Waits(ticket) => {
+            shared.release_acquired(acquired, None);
+            Ok(Some(ticket))
+        },
+        Sent::Refused(error, _message, _seat) => {
+            shared.release_acquired(acquired, None);
+            Err(error)
+        },
+    }
 }
 
 impl<T: Drop> Drop for SendFuture<'_, T> {
@@ -92,26 +119,18 @@ impl<'a, T: Drop> SendFuture<'a, T> {
         ensures registered { OnPending result (Covers cx.new (λ s. s ≡ send_source self.new)) }
         ensures kept { Keeps cx.old cx.new }
     {
-        let mut acquired = acquired;
         let shared = self.sender.shared();
         let Some((end, seat)) = self.wakers.cell(self.sender.alloc(), cx) else {
             shared.release_acquired(acquired, None);
             return Poll::Ready(Err(SendError::NoMemory));
         };
-        match steps::send(&mut acquired.core, message, seat) {
-            Sent::Entered(settled, _seat) => {
-                shared.release_acquired(acquired, settled);
-                Poll::Ready(Ok(()))
-            },
-            Sent::Waits(ticket) => {
-                shared.release_acquired(acquired, None);
+        match send_seated(shared, acquired, message, seat) {
+            Ok(None) => Poll::Ready(Ok(())),
+            Ok(Some(ticket)) => {
                 self.state = State::Waiting(Started { ticket, end });
                 Poll::Pending
             },
-            Sent::Refused(error, _message, _seat) => {
-                shared.release_acquired(acquired, None);
-                Poll::Ready(Err(error))
-            },
+            Err(error) => Poll::Ready(Err(error)),
         }
     }
 

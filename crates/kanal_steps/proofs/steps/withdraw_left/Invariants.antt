@@ -1,8 +1,8 @@
 use Rattle.std.proofs.Common.{◌≡◌, List, map}
 use Rattle.kanal_core.specs.declared.internal.outcome.Waiter.{Waiter}
-use Rattle.kanal.specs.Leaving.{LeaveInTurn, entry_of, kept_by}
-use Rattle.kanal.specs.Steps.{Boxed}
-use Rattle.kanal.proofs.steps.withdraw_left.Given as goal
+use Rattle.kanal_steps.specs.Leaving.{LeaveInTurn, entry_of, kept_by}
+use Rattle.kanal_steps.specs.Steps.{Boxed}
+use Rattle.kanal_steps.proofs.steps.withdraw_left.Given as goal
 
 -- the chain keeps what has left so far
 abbrev pub invariant-loop : goal.invariant-loop

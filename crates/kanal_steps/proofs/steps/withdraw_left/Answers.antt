@@ -1,7 +1,7 @@
 use Rattle.std.proofs.Common.{◌∷◌, sym, ap, ◌∙◌}
-use Rattle.kanal.specs.Leaving.{entry_of}
-use Rattle.kanal.proofs.Withdrawing.{leave-to, without-none}
-use Rattle.kanal.proofs.steps.withdraw_left.Goals as goal
+use Rattle.kanal_steps.specs.Leaving.{entry_of}
+use Rattle.kanal_steps.proofs.Withdrawing.{leave-to, without-none}
+use Rattle.kanal_steps.proofs.steps.withdraw_left.Goals as goal
 
 pub returns-in_default-withdraw : goal.returns-in_default-withdraw
 returns-in_default-withdraw g c =

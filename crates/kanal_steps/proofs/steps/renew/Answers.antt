@@ -1,5 +1,5 @@
-use Rattle.kanal.proofs.Renewing.{line-with}
-use Rattle.kanal.proofs.steps.renew.Goals as goal
+use Rattle.kanal_steps.proofs.Renewing.{line-with}
+use Rattle.kanal_steps.proofs.steps.renew.Goals as goal
 
 pub returns-clause-line : goal.returns-clause-line
 returns-clause-line g c = line-with c.args.core.now c.args.ticket _

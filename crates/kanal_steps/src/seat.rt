@@ -5,7 +5,7 @@
 //! lock was released.
 ghost use Rattle.kanal_core.specs.CellRule.{HasNotSettled};
 ghost use Rattle.kanal_core.specs.CellEnds.{settle_view};
-ghost use Rattle.kanal.specs.Renewing.{Swaps};
+ghost use Rattle.kanal_steps.specs.Renewing.{Swaps};
 
 use crate::settler::Settler;
 use futures::task::Waker;
@@ -29,8 +29,14 @@ pub struct Seat<T> {
 }
 
 impl<T: Drop> Seat<T> {
-    /// A seat over a fresh end; `None` where there is no memory for it.
-    pub(crate) fn new(alloc: Global, end: SettleEnd<Outcome<T>>) -> Option<Box<Self>>
+    /// A seat over an end that has not settled; `None` where there is no memory for it.
+    ///
+    /// # Examples
+    /// ```text
+    /// let (waiting, settling) = signal::new(alloc).ok()?;
+    /// let seat = Seat::new(alloc, settling)?;
+    /// ```
+    pub fn new(alloc: Global, end: SettleEnd<Outcome<T>>) -> Option<Box<Self>>
         requires { HasNotSettled (settle_view end) }
     {
         let seat = Seat {
@@ -42,7 +48,12 @@ impl<T: Drop> Seat<T> {
     }
 
     /// Swaps the waker that settling wakes for the spare one, if there is a spare.
-    pub(crate) fn renew(&mut self, spare: &mut Option<Waker>)
+    ///
+    /// # Examples
+    /// ```text
+    /// seat.renew(&mut spare)   leaves in `spare` the waker that the seat had
+    /// ```
+    pub fn renew(&mut self, spare: &mut Option<Waker>)
         ensures swapped { Swaps spare.old self.old self.new spare.new }
     {
         if let Some(waker) = spare.take() {
@@ -56,8 +67,13 @@ impl<T: Drop> Seat<T> {
     }
 }
 
-/// Settles a wait that left the core.
-pub(crate) fn settle<T: Drop>(settled: Settled<T, Box<Seat<T>>>) {
+/// Settles a wait that left the core: its waiter has the outcome, and is woken. The lock is released.
+///
+/// # Examples
+/// ```text
+/// settle(settled)   hands `settled.outcome` to who waits
+/// ```
+pub fn settle<T: Drop>(settled: Settled<T, Box<Seat<T>>>) {
     let Settled {
         ticket: _,
         w,
@@ -73,16 +89,27 @@ pub(crate) fn settle<T: Drop>(settled: Settled<T, Box<Seat<T>>>) {
     drop(next);
 }
 
-/// Settles all waits that a step ended, oldest first.
-pub(crate) fn settle_all<T: Drop>(ended: Ended<T, Box<Seat<T>>>) {
+/// Settles all waits that a step ended, oldest first. The lock is released.
+///
+/// # Examples
+/// ```text
+/// settle_all(ended)   hands each its outcome
+/// ```
+pub fn settle_all<T: Drop>(ended: Ended<T, Box<Seat<T>>>) {
     let mut waits = ended;
     while let Some(settled) = waits.next() {
         settle(settled);
     }
 }
 
-/// Lets the seats of the chain go, one after the other.
-pub(crate) fn let_go<T: Drop>(chain: Option<Box<Seat<T>>>) {
+/// Lets the seats of the chain go, one after the other, with the messages in them. The lock is
+/// released.
+///
+/// # Examples
+/// ```text
+/// let_go(withdrawn)   drops what `steps::withdraw_left` handed out
+/// ```
+pub fn let_go<T: Drop>(chain: Option<Box<Seat<T>>>) {
     let mut chain = chain;
     while let Some(seat) = chain {
         let Seat {

@@ -4,7 +4,7 @@ use Rattle.std.proofs.lemmas.Bool.{cases_Bool, eqb-true}
 use Rattle.kanal_core.specs.declared.internal.outcome.Outcome.{Outcome}
 use Rattle.kanal_core.specs.Line.{Line}
 use Rattle.kanal_core.specs.Moves.{Moved, quiet, drop_receiver, drop_sender}
-use Rattle.kanal.specs.Steps.{then, times}
+use Rattle.kanal_steps.specs.Steps.{then, times}
 
 module _ {T : Type 0} (move : Line T → Moved T) where
   -- a move that changes nothing may be made any number of times

@@ -13,11 +13,11 @@ use Rattle.kanal_core.specs.Line.{Line, has_place, last_word}
 use Rattle.kanal_core.specs.Moves.{Moved, quiet, wait_send, wait_recv}
 use Rattle.kanal_core.specs.Channel.{settlements}
 use Rattle.kanal_core.specs.Calls.{Enters, TakesFront, Stays, IsFull, IsEmpty, OldestLeft}
-use Rattle.kanal.specs.declared.steps.Sent.{Sent}
-use Rattle.kanal.specs.declared.steps.Sent.TheVariants.{Entered, Waits as SendWaits, Refused as SendRefused}
-use Rattle.kanal.specs.declared.steps.Received.{Received}
-use Rattle.kanal.specs.declared.steps.Received.TheVariants.{Got, Waits as ReceiveWaits, Refused as ReceiveRefused}
-use Rattle.kanal.specs.declared.seat.Seat.{Seat}
+use Rattle.kanal_steps.specs.declared.steps.Sent.{Sent}
+use Rattle.kanal_steps.specs.declared.steps.Sent.TheVariants.{Entered, Waits as SendWaits, Refused as SendRefused}
+use Rattle.kanal_steps.specs.declared.steps.Received.{Received}
+use Rattle.kanal_steps.specs.declared.steps.Received.TheVariants.{Got, Waits as ReceiveWaits, Refused as ReceiveRefused}
+use Rattle.kanal_steps.specs.declared.seat.Seat.{Seat}
 
 -- a seat in memory of its own
 abbrev pub Boxed : Type 0 → Type 0

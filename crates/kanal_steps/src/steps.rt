@@ -1,8 +1,8 @@
 //! The steps of the handles, each a function that is lent the core.
 //!
 //! Stands on the core's contracts. A step says in the line's terms what it did, and hands out all
-//! that left the core; nothing is settled or let go here, since the lock is held. No other module
-//! changes a core but by the core's own calls.
+//! that left the core; nothing is settled or let go here, since the lock is held. A handle changes a
+//! core by a step or by the core's own calls, and by nothing else.
 ghost use Rattle.std.specs.Prelude.{◌≡◌, ◌≢◌, ◌↔◌, ◌++◌, List, [], ◌∷◌, IsSome, Some, None, Ok, true, cond, map, length, IfOk, IfErr, IsErrOf, MatchOption};
 ghost use Rattle.kanal_core.specs.Line.{messages};
 ghost use Rattle.kanal_core.specs.Moves.{drain, drop_receiver, drop_sender};
@@ -10,9 +10,9 @@ ghost use Rattle.kanal_core.specs.Channel.{line_of, settlement, settlements, tak
 ghost use Rattle.kanal_core.specs.Waiters.{sender_first, waiter_of};
 ghost use Rattle.kanal_core.specs.Calls.{IsFull, IsEmpty, MovesTo, OldestLeft};
 ghost use Rattle.kanal_core.specs.declared.internal.outcome.Waiter.{Waiter};
-ghost use Rattle.kanal.specs.Leaving.{LeaveInTurn, entry_of, kept_by, kept_from};
-ghost use Rattle.kanal.specs.Renewing.{Renews};
-ghost use Rattle.kanal.specs.Steps.{Boxed, TriesToSend, TriesToReceive, Sends, SendSeats, ReceivesLate, Receives, ReceiveSeats, all_of, times};
+ghost use Rattle.kanal_steps.specs.Leaving.{LeaveInTurn, entry_of, kept_by, kept_from};
+ghost use Rattle.kanal_steps.specs.Renewing.{Renews};
+ghost use Rattle.kanal_steps.specs.Steps.{Boxed, TriesToSend, TriesToReceive, Sends, SendSeats, ReceivesLate, Receives, ReceiveSeats, all_of, times};
 
 use crate::seat::{Core, Seat};
 use futures::task::Waker;
@@ -21,9 +21,9 @@ use kanal_core::internal::{Ended, Offer, Settled, Take, Ticket, Waiter};
 
 /// What a call that doesn't wait answers, and the wait that its step settled.
 #[derive(Drop)]
-pub(crate) struct Tried<T, A> {
-    pub(crate) answer: A,
-    pub(crate) settled: Option<Settled<T, Box<Seat<T>>>>,
+pub struct Tried<T, A> {
+    pub answer: A,
+    pub settled: Option<Settled<T, Box<Seat<T>>>>,
 }
 
 impl<T: Drop, A> Tried<T, A> {
@@ -40,7 +40,7 @@ impl<T: Drop, A> Tried<T, A> {
 
 /// What a send came to.
 #[derive(Drop)]
-pub(crate) enum Sent<T> {
+pub enum Sent<T> {
     /// The message is in the line or with the receiver of this wait; the seat comes back.
     Entered(Option<Settled<T, Box<Seat<T>>>>, Box<Seat<T>>),
     /// The message waits.
@@ -51,7 +51,7 @@ pub(crate) enum Sent<T> {
 
 /// What a receive came to.
 #[derive(Drop)]
-pub(crate) enum Received<T> {
+pub enum Received<T> {
     /// The front message, and the wait of a sender that was settled; the seat comes back.
     Got(T, Option<Settled<T, Box<Seat<T>>>>, Box<Seat<T>>),
     /// The receiver waits.
@@ -61,7 +61,19 @@ pub(crate) enum Received<T> {
 }
 
 /// Offers the option's message. The option is empty after it exactly if the message entered.
-pub(crate) fn try_send<T: Drop>(
+///
+/// The caller knows that the option holds a message. `Ok(false)` says that there was no place.
+///
+/// # Errors
+/// `Closed` and `ReceiveClosed` where no receiver is left, and `NoMemory` where a buffer without limit
+/// can't grow. The option holds the same message then, and the core is as it was.
+///
+/// # Examples
+/// ```text
+/// try_send(&mut core, &mut Some(7)).answer   is  Ok(true)    in a new core for one message
+/// try_send(&mut core, &mut Some(8)).answer   is  Ok(false)   after that
+/// ```
+pub fn try_send<T: Drop>(
     core: &mut Core<T>,
     option: &mut Option<T>,
 ) -> Tried<T, Result<bool, SendError>>
@@ -91,8 +103,17 @@ pub(crate) fn try_send<T: Drop>(
     Tried::of(answer)
 }
 
-/// Takes the front message, if there is one.
-pub(crate) fn try_recv<T: Drop>(core: &mut Core<T>) -> Tried<T, Result<Option<T>, ReceiveError>>
+/// Takes the front message, if there is one; `Ok(None)` says that there was none.
+///
+/// # Errors
+/// `Closed` where no receiver is left, and `SendClosed` where no message and no sender is.
+///
+/// # Examples
+/// ```text
+/// try_recv(&mut core).answer   is  Ok(None)      in a new core
+/// try_recv(&mut core).answer   is  Ok(Some(7))   after 7 entered
+/// ```
+pub fn try_recv<T: Drop>(core: &mut Core<T>) -> Tried<T, Result<Option<T>, ReceiveError>>
     ensures step { TriesToReceive (line_of core.old) result.answer (settlements result.settled) (line_of core.new) }
     ensures waiter { OldestLeft core.old.waiters result.settled core.new.waiters }
 {
@@ -108,7 +129,15 @@ pub(crate) fn try_recv<T: Drop>(core: &mut Core<T>) -> Tried<T, Result<Option<T>
 }
 
 /// Takes the front message for a call whose deadline has passed.
-pub(crate) fn recv_late<T: Drop>(core: &mut Core<T>) -> Tried<T, Result<T, ReceiveErrorTimeout>>
+///
+/// # Errors
+/// `Closed` where no receiver is left, and `Timeout` where no message is there, whoever sends.
+///
+/// # Examples
+/// ```text
+/// recv_late(&mut core).answer   is  Err(Timeout)   in a new core
+/// ```
+pub fn recv_late<T: Drop>(core: &mut Core<T>) -> Tried<T, Result<T, ReceiveErrorTimeout>>
     ensures step { ReceivesLate (line_of core.old) result.answer (settlements result.settled) (line_of core.new) }
     ensures waiter { OldestLeft core.old.waiters result.settled core.new.waiters }
 {
@@ -137,7 +166,16 @@ fn wait_send<T: Drop>(core: &mut Core<T>, message: T, seat: Box<Seat<T>>) -> Sen
 }
 
 /// Offers the message, and starts its wait where there is no place for it.
-pub(crate) fn send<T: Drop>(core: &mut Core<T>, message: T, seat: Box<Seat<T>>) -> Sent<T>
+///
+/// A send is refused as `try_send` is, and where its wait finds no memory or no ticket. Message and
+/// seat come back then, and the core is as it was.
+///
+/// # Examples
+/// ```text
+/// send(&mut core, 7, seat)   answers  Entered(None, seat)   in a new core for one message
+/// send(&mut core, 8, seat)   answers  Waits(ticket)         after that
+/// ```
+pub fn send<T: Drop>(core: &mut Core<T>, message: T, seat: Box<Seat<T>>) -> Sent<T>
     ensures step { Sends (line_of core.old) message result (line_of core.new) }
     ensures seats { SendSeats core.old.waiters message seat result core.new.waiters }
 {
@@ -165,7 +203,15 @@ fn wait_recv<T: Drop>(core: &mut Core<T>, seat: Box<Seat<T>>) -> Received<T>
 }
 
 /// Takes the front message, and starts a wait where there is none.
-pub(crate) fn recv<T: Drop>(core: &mut Core<T>, seat: Box<Seat<T>>) -> Received<T>
+///
+/// A receive is refused as `try_recv` is, and where its wait finds no memory or no ticket. The seat
+/// comes back then, and the core is as it was.
+///
+/// # Examples
+/// ```text
+/// recv(&mut core, seat)   answers  Waits(ticket)   in a new core
+/// ```
+pub fn recv<T: Drop>(core: &mut Core<T>, seat: Box<Seat<T>>) -> Received<T>
     ensures step { Receives (line_of core.old) result (line_of core.new) }
     ensures seats { ReceiveSeats core.old.waiters seat result core.new.waiters }
 {
@@ -179,7 +225,12 @@ pub(crate) fn recv<T: Drop>(core: &mut Core<T>, seat: Box<Seat<T>>) -> Received<
 
 /// Swaps the waker of the wait with the ticket for the spare one, if there is a spare, and answers
 /// whether the ticket waits.
-pub(crate) fn renew<T: Drop>(core: &mut Core<T>, ticket: Ticket, spare: &mut Option<Waker>) -> bool
+///
+/// # Examples
+/// ```text
+/// renew(&mut core, ticket, &mut spare)   answers  true   while the ticket waits
+/// ```
+pub fn renew<T: Drop>(core: &mut Core<T>, ticket: Ticket, spare: &mut Option<Waker>) -> bool
     ensures line { line_of core.new ≡ line_of core.old }
     ensures waits { (result ≡ true) ↔ IsSome (waiter_of ticket core.old.waiters) }
     ensures renewed { Renews ticket spare.old core.old.waiters core.new.waiters spare.new }
@@ -191,8 +242,18 @@ pub(crate) fn renew<T: Drop>(core: &mut Core<T>, ticket: Ticket, spare: &mut Opt
     true
 }
 
-/// Moves the whole line to the vector's end, and hands out the sends whose messages it took.
-pub(crate) fn drain<T: Drop>(
+/// Moves the whole line to the vector's end, and hands out the sends whose messages it took, with how
+/// many messages there were.
+///
+/// # Errors
+/// `Closed` where no receiver is left, and `NoMemory` where the vector has too little room and can't
+/// grow. Core and vector are as they were then.
+///
+/// # Examples
+/// ```text
+/// drain(&mut core, &mut messages)   answers  Ok((2, ended))   after two messages entered
+/// ```
+pub fn drain<T: Drop>(
     core: &mut Core<T>,
     into: &mut Vec<T>,
 ) -> Result<(usize, Ended<T, Box<Seat<T>>>), ReceiveError>
@@ -211,10 +272,12 @@ pub(crate) fn drain<T: Drop>(
 }
 
 /// Makes so many drops of senders, and hands out the waits that the last one ended.
-pub(crate) fn drop_senders<T: Drop>(
-    core: &mut Core<T>,
-    count: u64,
-) -> Option<Ended<T, Box<Seat<T>>>>
+///
+/// # Examples
+/// ```text
+/// drop_senders(&mut core, 1)   answers  Some(ended)   in a core with one sender
+/// ```
+pub fn drop_senders<T: Drop>(core: &mut Core<T>, count: u64) -> Option<Ended<T, Box<Seat<T>>>>
     ensures step { MovesTo (times drop_sender count (line_of core.old)) (map settlement (all_of result)) (line_of core.new) }
 {
     let mut left = count;
@@ -230,10 +293,12 @@ pub(crate) fn drop_senders<T: Drop>(
 }
 
 /// Makes so many drops of receivers, and hands out the waits that the last one ended.
-pub(crate) fn drop_receivers<T: Drop>(
-    core: &mut Core<T>,
-    count: u64,
-) -> Option<Ended<T, Box<Seat<T>>>>
+///
+/// # Examples
+/// ```text
+/// drop_receivers(&mut core, 1)   answers  Some(ended)   in a core with one receiver
+/// ```
+pub fn drop_receivers<T: Drop>(core: &mut Core<T>, count: u64) -> Option<Ended<T, Box<Seat<T>>>>
     ensures step { MovesTo (times drop_receiver count (line_of core.old)) (map settlement (all_of result)) (line_of core.new) }
 {
     let mut left = count;
@@ -263,8 +328,14 @@ fn keep<T: Drop>(waiter: Waiter<T, Box<Seat<T>>>, next: Option<Box<Seat<T>>>) ->
     seat
 }
 
-/// Withdraws all waits that were left, and hands out their entries, each in its own seat.
-pub(crate) fn withdraw_left<T: Drop>(core: &mut Core<T>) -> Option<Box<Seat<T>>>
+/// Withdraws all waits that were left, and hands out their entries, each in its own seat: the last
+/// that left is the first of the chain. It asks for no memory.
+///
+/// # Examples
+/// ```text
+/// withdraw_left(&mut core)   answers  None   where everybody who waits still does
+/// ```
+pub fn withdraw_left<T: Drop>(core: &mut Core<T>) -> Option<Box<Seat<T>>>
     ensures withdrawn { (gone : List (Waiter T (Boxed T))) × LeaveInTurn core.old gone core.new × (kept_by result ≡ map entry_of gone) }
 {
     let mut chain = None;

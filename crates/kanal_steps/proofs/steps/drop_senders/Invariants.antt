@@ -1,12 +1,12 @@
 use Rattle.std.proofs.Common.{◌≡◌}
 use Rattle.kanal_core.specs.Channel.{line_of}
-use Rattle.kanal_core.specs.Moves.{drop_receiver}
-use Rattle.kanal.specs.Steps.{times}
-use Rattle.kanal.proofs.steps.drop_receivers.Given as goal
+use Rattle.kanal_core.specs.Moves.{drop_sender}
+use Rattle.kanal_steps.specs.Steps.{times}
+use Rattle.kanal_steps.proofs.steps.drop_senders.Given as goal
 
 -- nobody has ended yet, and the drops that are left come to the same
 abbrev pub invariant-loop-left : goal.invariant-loop-left
-invariant-loop-left g l = times drop_receiver l.left (line_of l.core) ≡ times drop_receiver l.fn.count (line_of l.fn.core)
+invariant-loop-left g l = times drop_sender l.left (line_of l.core) ≡ times drop_sender l.fn.count (line_of l.fn.core)
 
 abbrev pub decreases-loop-left : goal.decreases-loop-left
 decreases-loop-left g l = l.left

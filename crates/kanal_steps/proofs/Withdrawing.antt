@@ -6,7 +6,7 @@ use Rattle.kanal_core.specs.declared.internal.outcome.Waiter.{Waiter}
 use Rattle.kanal_core.specs.Channel.{Channel, line_of}
 use Rattle.kanal_core.specs.Waiters.{same_ticket, waiter_of, without}
 use Rattle.kanal_core.specs.Calls.{Withdraws}
-use Rattle.kanal.specs.Leaving.{LeaveInTurn}
+use Rattle.kanal_steps.specs.Leaving.{LeaveInTurn}
 
 some-none : {X : Type 0} {a : X} → Some a ≡ None → ⊥
 some-none e = cc

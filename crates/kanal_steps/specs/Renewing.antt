@@ -5,8 +5,8 @@ use Rattle.kanal_core.specs.CellEnds.{kept_waker}
 use Rattle.kanal_core.specs.Waiters.{waiter_of, with_w}
 use Rattle.kanal_core.specs.declared.internal.outcome.Ticket.{Ticket}
 use Rattle.kanal_core.specs.declared.internal.outcome.Waiter.{Waiter}
-use Rattle.kanal.specs.declared.seat.Seat.{Seat, Seat'}
-use Rattle.kanal.specs.Steps.{Boxed}
+use Rattle.kanal_steps.specs.declared.seat.Seat.{Seat, Seat'}
+use Rattle.kanal_steps.specs.Steps.{Boxed}
 
 -- the waker that a seat's settling will wake
 abbrev pub waker_of : {T : Type 0} → Seat T → Option Waker

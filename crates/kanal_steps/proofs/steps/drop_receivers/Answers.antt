@@ -1,8 +1,8 @@
 use Rattle.std.proofs.Common.{◌≡◌, ◌-◌, suc, ap, sym, ◌∙◌, arith}
 use Rattle.kanal_core.specs.Channel.{line_of, settlement}
 use Rattle.kanal_core.specs.Moves.{drop_receiver}
-use Rattle.kanal.proofs.Drops.{no-receiver, settles-none, times-last, times-on}
-use Rattle.kanal.proofs.steps.drop_receivers.Goals as goal
+use Rattle.kanal_steps.proofs.Drops.{no-receiver, settles-none, times-last, times-on}
+use Rattle.kanal_steps.proofs.steps.drop_receivers.Goals as goal
 
 pub returns-then-is_last : goal.returns-then-is_last
 returns-then-is_last g c =

@@ -14,6 +14,8 @@ use kanal_steps::steps;
 use std::sync::atomic::AtomicU64;
 use std::sync::atomic::Ordering::SeqCst;
 use std::sync::{MutexGuard, Wait};
+use std::thread::Parker;
+use std::time::Duration;
 
 #[cfg(test)]
 mod ended;
@@ -23,8 +25,14 @@ mod held;
 /// How often a call looks for notices after it released the lock.
 const LOOKS: u32 = 64;
 
-/// How often a call tries a lock that is held before it sleeps.
-const TRIES: u32 = 64;
+/// How often a call tries a lock that is held before it naps.
+const TRIES: u32 = 7;
+
+/// How often it naps before it sleeps until the lock is released.
+const NAPS: u32 = 16;
+
+/// How long a nap is, in nanoseconds.
+const NAP: u64 = 100_000;
 
 /// The lock round the core, and how many notices there are of each kind.
 #[derive(Drop)]
@@ -122,18 +130,29 @@ impl<T: Drop> Shared<T> {
         unreachable!()
     }
 
-    /// Waits for a lock that was held: with growing pauses and then yields between the tries, and then
-    /// asleep.
+    /// Waits for a lock that was held: with pauses between the tries, then with naps, and then asleep.
     #[cold]
     fn contend<R: Wait>(&self, rt: &R) -> MutexGuard<'_, Core<T>> {
+        let napper = Parker::new();
+        for _ in 0..NAPS {
+            if let Some(guard) = self.try_often() {
+                return guard;
+            }
+            napper.park_timeout(rt, Duration::from_nanos(NAP));
+        }
+        self.core.lock(rt)
+    }
+
+    /// Tries to get the lock, with growing pauses and then yields between.
+    fn try_often(&self) -> Option<MutexGuard<'_, Core<T>>> {
         let backoff = Backoff::new();
         for _ in 0..TRIES {
             backoff.snooze();
             if let Some(guard) = self.core.try_lock() {
-                return guard;
+                return Some(guard);
             }
         }
-        self.core.lock(rt)
+        None
     }
 
     /// Tries once to get the lock, and applies the notices; `None` where it is held.

@@ -1,126 +1,147 @@
 //! Each call of the handles for tasks, with ample memory.
-use futures::executor::block_on;
+use crate::given::{endless, ends, equal, holds, receive_in_task, send_in_task};
 use kanal::error::{CloseError, NewError, ReceiveError};
-use kanal::{bounded_async, unbounded_async};
-use std::test::Fail;
+use kanal::{AsyncReceiver, AsyncSender, bounded_async};
+use std::alloc::AllocGlobal;
+use std::process::Abort;
+use std::random::RandomSource;
+use std::sync::Wait;
 
 #[test]
-fn a_send_and_a_receive(rt: HostRuntime) -> Result<(), Fail> {
-    let (sender, receiver) = bounded_async::<u64>(rt.alloc(), 1)?;
-    assert_eq!(rt; block_on(&rt, sender.send(7))?, Ok(()));
-    assert_eq!(rt; block_on(&rt, receiver.recv())?, Ok(7));
+fn a_send_and_a_receive(rt: HostRuntime) {
+    let (sender, receiver) = ends::<u64>(&rt, 1);
+    equal(&rt, send_in_task(&rt, &sender, 7), Ok(()));
+    equal(&rt, receive_in_task(&rt, &receiver), Ok(7));
     drop(sender);
-    assert_eq!(rt;
-        block_on(&rt, receiver.recv())?,
-        Err(ReceiveError::SendClosed)
+    equal(
+        &rt,
+        receive_in_task(&rt, &receiver),
+        Err(ReceiveError::SendClosed),
     );
-    Ok(())
 }
 
-#[test]
-fn a_channel_without_a_limit(rt: HostRuntime) -> Result<(), Fail> {
-    let (sender, receiver) = unbounded_async::<u64>(rt.alloc())?;
+/// Sends the numbers below a hundred, each in a task.
+fn send_a_hundred<R: Abort + Wait + RandomSource + AllocGlobal>(rt: &R, sender: &AsyncSender<u64>) {
     for number in 0..100 {
-        assert_eq!(rt; block_on(&rt, sender.send(number))?, Ok(()));
+        equal(rt, send_in_task(rt, sender, number), Ok(()));
     }
+}
+
+/// Receives them, each in a task.
+fn receive_a_hundred<R: Abort + Wait + RandomSource + AllocGlobal>(
+    rt: &R,
+    receiver: &AsyncReceiver<u64>,
+) {
     for number in 0..100 {
-        assert_eq!(rt; block_on(&rt, receiver.recv())?, Ok(number));
+        equal(rt, receive_in_task(rt, receiver), Ok(number));
     }
-    Ok(())
 }
 
 #[test]
-fn the_largest_size_is_refused(rt: HostRuntime) -> Result<(), Fail> {
-    let refused = bounded_async::<u64>(rt.alloc(), usize::MAX);
-    assert!(rt; matches!(refused, Err(NewError::TooLarge)));
-    Ok(())
+fn a_channel_without_a_limit(rt: HostRuntime) {
+    let (sender, receiver) = endless::<u64>(&rt);
+    send_a_hundred(&rt, &sender);
+    receive_a_hundred(&rt, &receiver);
+}
+
+/// How the making of a channel with so many places ends.
+fn refusal_of(rt: &impl AllocGlobal, capacity: usize) -> Option<NewError> {
+    bounded_async::<u64>(rt.alloc(), capacity).err()
 }
 
 #[test]
-fn sends_that_do_not_wait(rt: HostRuntime) -> Result<(), Fail> {
-    let (sender, _receiver) = bounded_async::<u64>(rt.alloc(), 2)?;
+fn the_largest_size_is_refused(rt: HostRuntime) {
+    equal(&rt, refusal_of(&rt, usize::MAX), Some(NewError::TooLarge));
+}
+
+#[test]
+fn sends_that_do_not_wait(rt: HostRuntime) {
+    let (sender, _receiver) = ends::<u64>(&rt, 2);
     let mut option = Some(2);
-    assert_eq!(rt; sender.try_send(&rt, 1), Ok(true));
-    assert_eq!(rt; sender.try_send_option(&rt, &mut option), Ok(true));
-    assert_eq!(rt; option, None);
+    equal(&rt, sender.try_send(&rt, 1), Ok(true));
+    equal(&rt, sender.try_send_option(&rt, &mut option), Ok(true));
+    equal(&rt, option, None);
     option = Some(3);
-    assert_eq!(rt; sender.try_send_option(&rt, &mut option), Ok(false));
-    assert_eq!(rt; option, Some(3));
-    Ok(())
+    equal(&rt, sender.try_send_option(&rt, &mut option), Ok(false));
+    equal(&rt, option, Some(3));
 }
 
 #[test]
-fn sends_that_do_not_wait_for_the_lock(rt: HostRuntime) -> Result<(), Fail> {
-    let (sender, _receiver) = bounded_async::<u64>(rt.alloc(), 2)?;
+fn sends_that_do_not_wait_for_the_lock(rt: HostRuntime) {
+    let (sender, _receiver) = ends::<u64>(&rt, 2);
     let mut option = Some(2);
-    assert_eq!(rt; sender.try_send_realtime(1), Ok(true));
-    assert_eq!(rt; sender.try_send_option_realtime(&mut option), Ok(true));
-    assert_eq!(rt; option, None);
-    assert_eq!(rt; sender.try_send_realtime(3), Ok(false));
-    Ok(())
+    equal(&rt, sender.try_send_realtime(1), Ok(true));
+    equal(&rt, sender.try_send_option_realtime(&mut option), Ok(true));
+    equal(&rt, option, None);
+    equal(&rt, sender.try_send_realtime(3), Ok(false));
 }
 
 #[test]
-fn receives_that_do_not_wait(rt: HostRuntime) -> Result<(), Fail> {
-    let (sender, receiver) = bounded_async::<u64>(rt.alloc(), 2)?;
-    assert_eq!(rt; receiver.try_recv(&rt), Ok(None));
-    assert_eq!(rt; sender.try_send(&rt, 1), Ok(true));
-    assert_eq!(rt; sender.try_send(&rt, 2), Ok(true));
-    assert_eq!(rt; receiver.try_recv(&rt), Ok(Some(1)));
-    assert_eq!(rt; receiver.try_recv_realtime(), Ok(Some(2)));
-    assert_eq!(rt; receiver.try_recv_realtime(), Ok(None));
-    Ok(())
+fn receives_that_do_not_wait(rt: HostRuntime) {
+    let (sender, receiver) = ends::<u64>(&rt, 2);
+    equal(&rt, receiver.try_recv(&rt), Ok(None));
+    equal(&rt, sender.try_send(&rt, 1), Ok(true));
+    equal(&rt, sender.try_send(&rt, 2), Ok(true));
+    equal(&rt, receiver.try_recv(&rt), Ok(Some(1)));
+    equal(&rt, receiver.try_recv_realtime(), Ok(Some(2)));
+    equal(&rt, receiver.try_recv_realtime(), Ok(None));
 }
 
 #[test]
-fn a_drain(rt: HostRuntime) -> Result<(), Fail> {
-    let (sender, receiver) = bounded_async::<u64>(rt.alloc(), 2)?;
+fn a_drain(rt: HostRuntime) {
+    let (sender, receiver) = ends::<u64>(&rt, 2);
     let mut messages = Vec::new(rt.alloc());
-    assert_eq!(rt; sender.try_send(&rt, 1), Ok(true));
-    assert_eq!(rt; sender.try_send(&rt, 2), Ok(true));
-    assert_eq!(rt; receiver.drain_into(&rt, &mut messages), Ok(2));
-    assert_eq!(rt; messages.as_slice(), [1, 2].as_slice());
-    Ok(())
+    equal(&rt, sender.try_send(&rt, 1), Ok(true));
+    equal(&rt, sender.try_send(&rt, 2), Ok(true));
+    equal(&rt, receiver.drain_into(&rt, &mut messages), Ok(2));
+    equal(&rt, messages.as_slice(), [1, 2].as_slice());
+}
+
+/// Asks all questions of a sender, with one message in two places.
+fn ask_a_sender<R: Abort + Wait>(rt: &R, sender: &AsyncSender<u64>) {
+    equal(rt, sender.len(rt), 1);
+    holds(rt, !sender.is_empty(rt));
+    holds(rt, !sender.is_full(rt));
+    holds(rt, sender.is_bounded(rt));
+    equal(rt, sender.capacity(rt), 2);
+    equal(rt, sender.receiver_count(rt), 1);
+    equal(rt, sender.sender_count(rt), 1);
+    holds(rt, !sender.is_closed(rt));
+    holds(rt, !sender.is_disconnected(rt));
 }
 
 #[test]
-fn a_sender_asks(rt: HostRuntime) -> Result<(), Fail> {
-    let (sender, _receiver) = bounded_async::<u64>(rt.alloc(), 2)?;
-    assert_eq!(rt; sender.try_send(&rt, 7), Ok(true));
-    assert_eq!(rt; sender.len(&rt), 1);
-    assert!(rt; !sender.is_empty(&rt));
-    assert!(rt; !sender.is_full(&rt));
-    assert!(rt; sender.is_bounded(&rt));
-    assert_eq!(rt; sender.capacity(&rt), 2);
-    assert_eq!(rt; sender.receiver_count(&rt), 1);
-    assert_eq!(rt; sender.sender_count(&rt), 1);
-    assert!(rt; !sender.is_closed(&rt));
-    assert!(rt; !sender.is_disconnected(&rt));
-    Ok(())
+fn a_sender_asks(rt: HostRuntime) {
+    let (sender, _receiver) = ends::<u64>(&rt, 2);
+    equal(&rt, sender.try_send(&rt, 7), Ok(true));
+    ask_a_sender(&rt, &sender);
+}
+
+/// Asks all questions of a receiver, with no message.
+fn ask_a_receiver<R: Abort + Wait>(rt: &R, receiver: &AsyncReceiver<u64>) {
+    equal(rt, receiver.len(rt), 0);
+    holds(rt, receiver.is_empty(rt));
+    holds(rt, !receiver.is_full(rt));
+    holds(rt, !receiver.is_bounded(rt));
+    equal(rt, receiver.capacity(rt), usize::MAX);
+    equal(rt, receiver.receiver_count(rt), 1);
+    equal(rt, receiver.sender_count(rt), 1);
+    holds(rt, !receiver.is_closed(rt));
+    holds(rt, !receiver.is_disconnected(rt));
+    holds(rt, !receiver.is_terminated(rt));
 }
 
 #[test]
-fn a_receiver_asks(rt: HostRuntime) -> Result<(), Fail> {
-    let (_sender, receiver) = unbounded_async::<u64>(rt.alloc())?;
-    assert_eq!(rt; receiver.len(&rt), 0);
-    assert!(rt; receiver.is_empty(&rt));
-    assert!(rt; !receiver.is_full(&rt));
-    assert!(rt; !receiver.is_bounded(&rt));
-    assert_eq!(rt; receiver.capacity(&rt), usize::MAX);
-    assert_eq!(rt; receiver.receiver_count(&rt), 1);
-    assert_eq!(rt; receiver.sender_count(&rt), 1);
-    assert!(rt; !receiver.is_closed(&rt));
-    assert!(rt; !receiver.is_disconnected(&rt));
-    assert!(rt; !receiver.is_terminated(&rt));
-    Ok(())
+fn a_receiver_asks(rt: HostRuntime) {
+    let (_sender, receiver) = endless::<u64>(&rt);
+    ask_a_receiver(&rt, &receiver);
 }
 
 #[test]
-fn a_close_comes_once(rt: HostRuntime) -> Result<(), Fail> {
-    let (sender, receiver) = bounded_async::<u64>(rt.alloc(), 1)?;
-    assert_eq!(rt; sender.close(&rt), Ok(()));
-    assert_eq!(rt; receiver.close(&rt), Err(CloseError()));
-    assert!(rt; sender.is_closed(&rt));
-    assert!(rt; receiver.is_terminated(&rt));
-    Ok(())
+fn a_close_comes_once(rt: HostRuntime) {
+    let (sender, receiver) = ends::<u64>(&rt, 1);
+    equal(&rt, sender.close(&rt), Ok(()));
+    equal(&rt, receiver.close(&rt), Err(CloseError()));
+    holds(&rt, sender.is_closed(&rt));
+    holds(&rt, receiver.is_terminated(&rt));
 }

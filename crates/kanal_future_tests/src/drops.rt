@@ -1,12 +1,13 @@
 //! Messages that count their drops, read while the handles live.
+use crate::given::{ends, equal, holds, new_task};
 use futures::task::Poll;
 use futures::test::MockTask;
-use kanal::{AsyncReceiver, AsyncSender, bounded_async};
-use std::alloc::{AllocError, Global};
+use kanal::{AsyncReceiver, AsyncSender, ReceiveFuture};
+use std::alloc::{AllocGlobal, Global};
+use std::process::Abort;
 use std::sync::Arc;
 use std::sync::atomic::AtomicU64;
 use std::sync::atomic::Ordering::SeqCst;
-use std::test::Fail;
 
 /// A message that adds one to a counter when it is dropped.
 struct Counted {
@@ -20,91 +21,89 @@ impl Drop for Counted {
     }
 }
 
+/// A counter at 0.
+fn counter(rt: &(impl Abort + AllocGlobal)) -> Arc<AtomicU64, Global> {
+    Arc::new(rt.alloc(), AtomicU64::new(0)).expect(rt, "memory for a counter")
+}
+
 /// A message for this counter.
-fn message(drops: &Arc<AtomicU64, Global>) -> Result<Counted, AllocError> {
-    let drops = Arc::try_clone(drops)?;
-    Ok(Counted { drops })
+fn message(rt: &impl Abort, drops: &Arc<AtomicU64, Global>) -> Counted {
+    let drops = Arc::try_clone(drops).expect(rt, "a count of the counter");
+    Counted { drops }
 }
 
-/// Makes a future that sends such a message, and drops it without a poll.
-fn drop_unpolled(
-    sender: &AsyncSender<Counted>,
-    drops: &Arc<AtomicU64, Global>,
-) -> Result<(), AllocError> {
-    let sending = sender.send(message(drops)?);
+/// Makes a future that sends the message, and drops it without a poll.
+fn drop_unpolled(sender: &AsyncSender<Counted>, message: Counted) {
+    let sending = sender.send(message);
     drop(sending);
-    Ok(())
 }
 
-/// Polls a send of such a message once, and drops the future; whether it waited.
-fn drop_waiting(
-    task: &MockTask,
-    sender: &AsyncSender<Counted>,
-    drops: &Arc<AtomicU64, Global>,
-) -> Result<bool, AllocError> {
-    let mut sending = sender.send(message(drops)?);
+/// Polls a send of the message once, and drops the future; whether it waited.
+fn drop_waiting(task: &MockTask, sender: &AsyncSender<Counted>, message: Counted) -> bool {
+    let mut sending = sender.send(message);
     let polled = task.poll(&mut sending);
     drop(sending);
-    Ok(polled == Poll::Pending)
+    polled == Poll::Pending
+}
+
+/// Polls a receive once; whether it waits.
+fn is_waiting(task: &MockTask, receiving: &mut ReceiveFuture<'_, Counted>) -> bool {
+    matches!(task.poll(receiving), Poll::Pending)
 }
 
 /// Polls a receive once, and drops the future; whether it waited.
 fn drop_waiting_receive(task: &MockTask, receiver: &AsyncReceiver<Counted>) -> bool {
     let mut receiving = receiver.recv();
-    let is_pending = matches!(task.poll(&mut receiving), Poll::Pending);
+    let is_pending = is_waiting(task, &mut receiving);
     drop(receiving);
     is_pending
 }
 
 #[test]
-fn sends_that_were_not_polled(rt: HostRuntime) -> Result<(), Fail> {
-    let drops = Arc::new(rt.alloc(), AtomicU64::new(0))?;
-    let (sender, receiver) = bounded_async::<Counted>(rt.alloc(), 10)?;
+fn sends_that_were_not_polled(rt: HostRuntime) {
+    let drops = counter(&rt);
+    let (sender, receiver) = ends::<Counted>(&rt, 10);
     for _ in 0..10 {
-        drop_unpolled(&sender, &drops)?;
+        drop_unpolled(&sender, message(&rt, &drops));
     }
-    assert_eq!(rt; drops.load(SeqCst), 10);
-    assert_eq!(rt; receiver.close(&rt), Ok(()));
-    assert_eq!(rt; drops.load(SeqCst), 10);
-    Ok(())
+    equal(&rt, drops.load(SeqCst), 10);
+    equal(&rt, receiver.close(&rt), Ok(()));
+    equal(&rt, drops.load(SeqCst), 10);
 }
 
 #[test]
-fn sends_that_waited(rt: HostRuntime) -> Result<(), Fail> {
-    let drops = Arc::new(rt.alloc(), AtomicU64::new(0))?;
-    let (sender, receiver) = bounded_async::<Counted>(rt.alloc(), 0)?;
-    let task = MockTask::new(&rt)?;
+fn sends_that_waited(rt: HostRuntime) {
+    let drops = counter(&rt);
+    let (sender, receiver) = ends::<Counted>(&rt, 0);
+    let task = new_task(&rt);
     for _ in 0..10 {
-        assert!(rt; drop_waiting(&task, &sender, &drops)?);
+        holds(&rt, drop_waiting(&task, &sender, message(&rt, &drops)));
     }
-    assert_eq!(rt; drops.load(SeqCst), 10);
-    assert_eq!(rt; receiver.close(&rt), Ok(()));
-    assert_eq!(rt; drops.load(SeqCst), 10);
-    Ok(())
+    equal(&rt, drops.load(SeqCst), 10);
+    equal(&rt, receiver.close(&rt), Ok(()));
+    equal(&rt, drops.load(SeqCst), 10);
 }
 
 #[test]
-fn receives_that_waited(rt: HostRuntime) -> Result<(), Fail> {
-    let (sender, receiver) = bounded_async::<Counted>(rt.alloc(), 10)?;
-    let task = MockTask::new(&rt)?;
+fn receives_that_waited(rt: HostRuntime) {
+    let (sender, receiver) = ends::<Counted>(&rt, 10);
+    let task = new_task(&rt);
     for _ in 0..10 {
-        assert!(rt; drop_waiting_receive(&task, &receiver));
+        holds(&rt, drop_waiting_receive(&task, &receiver));
     }
-    assert_eq!(rt; sender.close(&rt), Ok(()));
-    Ok(())
+    equal(&rt, sender.close(&rt), Ok(()));
 }
 
 /// A message that a receive holds is dropped with its future, once.
 #[test]
-fn a_receive_that_was_served(rt: HostRuntime) -> Result<(), Fail> {
-    let drops = Arc::new(rt.alloc(), AtomicU64::new(0))?;
-    let (sender, receiver) = bounded_async::<Counted>(rt.alloc(), 0)?;
-    let task = MockTask::new(&rt)?;
+fn a_receive_that_was_served(rt: HostRuntime) {
+    let drops = counter(&rt);
+    let (sender, receiver) = ends::<Counted>(&rt, 0);
+    let task = new_task(&rt);
     let mut receiving = receiver.recv();
-    assert!(rt; matches!(task.poll(&mut receiving), Poll::Pending));
-    assert_eq!(rt; sender.try_send(&rt, message(&drops)?), Ok(true));
-    assert_eq!(rt; drops.load(SeqCst), 0);
+    holds(&rt, is_waiting(&task, &mut receiving));
+    equal(&rt, sender.try_send(&rt, message(&rt, &drops)), Ok(true));
+    equal(&rt, drops.load(SeqCst), 0);
     drop(receiving);
-    assert_eq!(rt; drops.load(SeqCst), 1);
-    Ok(())
+    equal(&rt, drops.load(SeqCst), 1);
 }

@@ -11,6 +11,8 @@ mod conversions;
 #[cfg(test)]
 mod drops;
 #[cfg(test)]
+mod given;
+#[cfg(test)]
 mod moved;
 #[cfg(test)]
 mod polls;

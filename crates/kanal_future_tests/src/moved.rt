@@ -1,70 +1,66 @@
 //! Futures and streams that are polled in another thread than the one that made them.
-use futures::StreamExt;
+use crate::given::{ends, equal, new_task, poll_next};
 use futures::task::Poll;
-use futures::test::MockTask;
 use kanal::error::{ReceiveError, SendError};
-use kanal::{ReceiveFuture, ReceiveStream, SendFuture, bounded_async};
+use kanal::{ReceiveFuture, ReceiveStream, SendFuture};
 use std::alloc::AllocGlobal;
+use std::process::Abort;
 use std::random::RandomSource;
-use std::test::Fail;
 use std::thread;
 use std::thread::Threads;
 
-/// What a poll answered; `None` where it was pending or there was no memory for its task.
+/// What a poll answered; `None` where it was pending.
 type Polled<A> = Option<A>;
 
 /// Polls the send once, in a task that is made for it.
-fn poll_send<R: RandomSource + AllocGlobal>(
+fn poll_send<R: Abort + RandomSource + AllocGlobal>(
     rt: &R,
     mut future: SendFuture<'_, u64>,
 ) -> Polled<Result<(), SendError>> {
-    let task = MockTask::new(rt).ok()?;
-    match task.poll(&mut future) {
+    match new_task(rt).poll(&mut future) {
         Poll::Ready(answer) => Some(answer),
         Poll::Pending => None,
     }
 }
 
 /// Polls the receive once, in a task that is made for it.
-fn poll_receive<R: RandomSource + AllocGlobal>(
+fn poll_receive<R: Abort + RandomSource + AllocGlobal>(
     rt: &R,
     mut future: ReceiveFuture<'_, u64>,
 ) -> Polled<Result<u64, ReceiveError>> {
-    let task = MockTask::new(rt).ok()?;
-    match task.poll(&mut future) {
+    match new_task(rt).poll(&mut future) {
         Poll::Ready(answer) => Some(answer),
         Poll::Pending => None,
     }
 }
 
 /// Polls the stream once, in a task that is made for it.
-fn poll_stream<R: RandomSource + AllocGlobal>(
+fn poll_stream<R: Abort + RandomSource + AllocGlobal>(
     rt: &R,
     mut stream: ReceiveStream<'_, u64>,
 ) -> Polled<Option<u64>> {
-    let task = MockTask::new(rt).ok()?;
-    match task.poll(&mut stream.next()) {
+    match poll_next(&new_task(rt), &mut stream) {
         Poll::Ready(answer) => Some(answer),
         Poll::Pending => None,
     }
 }
 
 /// The same, each in a thread of its own.
-fn send_there<R: Threads + RandomSource + AllocGlobal + Sync>(
+fn send_there<R: Threads + Abort + RandomSource + AllocGlobal + Sync>(
     rt: &R,
     future: SendFuture<'_, u64>,
 ) -> Polled<Result<(), SendError>> {
     thread::join(rt, move || poll_send(rt, future), || ()).0
 }
 
-fn receive_there<R: Threads + RandomSource + AllocGlobal + Sync>(
+fn receive_there<R: Threads + Abort + RandomSource + AllocGlobal + Sync>(
     rt: &R,
     future: ReceiveFuture<'_, u64>,
 ) -> Polled<Result<u64, ReceiveError>> {
     thread::join(rt, move || poll_receive(rt, future), || ()).0
 }
 
-fn next_there<R: Threads + RandomSource + AllocGlobal + Sync>(
+fn next_there<R: Threads + Abort + RandomSource + AllocGlobal + Sync>(
     rt: &R,
     stream: ReceiveStream<'_, u64>,
 ) -> Polled<Option<u64>> {
@@ -72,33 +68,30 @@ fn next_there<R: Threads + RandomSource + AllocGlobal + Sync>(
 }
 
 #[test]
-fn futures_in_a_thread(rt: HostRuntime) -> Result<(), Fail> {
-    let (sender, receiver) = bounded_async::<u64>(rt.alloc(), 1)?;
-    assert_eq!(rt; send_there(&rt, sender.send(7)), Some(Ok(())));
-    assert_eq!(rt; receive_there(&rt, receiver.recv()), Some(Ok(7)));
-    assert_eq!(rt; receive_there(&rt, receiver.recv()), None);
-    Ok(())
+fn futures_in_a_thread(rt: HostRuntime) {
+    let (sender, receiver) = ends::<u64>(&rt, 1);
+    equal(&rt, send_there(&rt, sender.send(7)), Some(Ok(())));
+    equal(&rt, receive_there(&rt, receiver.recv()), Some(Ok(7)));
+    equal(&rt, receive_there(&rt, receiver.recv()), None);
 }
 
 #[test]
-fn a_stream_in_a_thread(rt: HostRuntime) -> Result<(), Fail> {
-    let (sender, receiver) = bounded_async::<u64>(rt.alloc(), 1)?;
-    assert_eq!(rt; sender.try_send(&rt, 7), Ok(true));
-    assert_eq!(rt; next_there(&rt, receiver.stream()), Some(Some(7)));
-    assert_eq!(rt; next_there(&rt, receiver.stream()), None);
+fn a_stream_in_a_thread(rt: HostRuntime) {
+    let (sender, receiver) = ends::<u64>(&rt, 1);
+    equal(&rt, sender.try_send(&rt, 7), Ok(true));
+    equal(&rt, next_there(&rt, receiver.stream()), Some(Some(7)));
+    equal(&rt, next_there(&rt, receiver.stream()), None);
     drop(sender);
-    assert_eq!(rt; next_there(&rt, receiver.stream()), Some(None));
-    Ok(())
+    equal(&rt, next_there(&rt, receiver.stream()), Some(None));
 }
 
 /// A wait that was started in one thread is polled to its end in another.
 #[test]
-fn a_started_receive_in_a_thread(rt: HostRuntime) -> Result<(), Fail> {
-    let (sender, receiver) = bounded_async::<u64>(rt.alloc(), 0)?;
-    let task = MockTask::new(&rt)?;
+fn a_started_receive_in_a_thread(rt: HostRuntime) {
+    let (sender, receiver) = ends::<u64>(&rt, 0);
+    let task = new_task(&rt);
     let mut receiving = receiver.recv();
-    assert_eq!(rt; task.poll(&mut receiving), Poll::Pending);
-    assert_eq!(rt; sender.try_send(&rt, 7), Ok(true));
-    assert_eq!(rt; receive_there(&rt, receiving), Some(Ok(7)));
-    Ok(())
+    equal(&rt, task.poll(&mut receiving), Poll::Pending);
+    equal(&rt, sender.try_send(&rt, 7), Ok(true));
+    equal(&rt, receive_there(&rt, receiving), Some(Ok(7)));
 }

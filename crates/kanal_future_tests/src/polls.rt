@@ -1,143 +1,138 @@
 //! What polls answer.
+use crate::given::{ends, equal, new_task};
 use futures::task::Poll;
-use futures::test::MockTask;
-use kanal::bounded_async;
 use kanal::error::{ReceiveError, SendError};
 use std::mem;
-use std::test::Fail;
 
 #[test]
-fn a_send_answers_once(rt: HostRuntime) -> Result<(), Fail> {
-    let (sender, _receiver) = bounded_async::<u64>(rt.alloc(), 1)?;
-    let task = MockTask::new(&rt)?;
+fn a_send_answers_once(rt: HostRuntime) {
+    let (sender, _receiver) = ends::<u64>(&rt, 1);
+    let task = new_task(&rt);
     let mut sending = sender.send(7);
-    assert_eq!(rt; task.poll(&mut sending), Poll::Ready(Ok(())));
-    assert_eq!(rt;
+    equal(&rt, task.poll(&mut sending), Poll::Ready(Ok(())));
+    equal(
+        &rt,
         task.poll(&mut sending),
-        Poll::Ready(Err(SendError::Finished))
+        Poll::Ready(Err(SendError::Finished)),
     );
-    Ok(())
 }
 
 #[test]
-fn a_receive_answers_once(rt: HostRuntime) -> Result<(), Fail> {
-    let (sender, receiver) = bounded_async::<u64>(rt.alloc(), 1)?;
-    let task = MockTask::new(&rt)?;
-    assert_eq!(rt; sender.try_send(&rt, 7), Ok(true));
+fn a_receive_answers_once(rt: HostRuntime) {
+    let (sender, receiver) = ends::<u64>(&rt, 1);
+    let task = new_task(&rt);
+    equal(&rt, sender.try_send(&rt, 7), Ok(true));
     let mut receiving = receiver.recv();
-    assert_eq!(rt; task.poll(&mut receiving), Poll::Ready(Ok(7)));
-    assert_eq!(rt;
+    equal(&rt, task.poll(&mut receiving), Poll::Ready(Ok(7)));
+    equal(
+        &rt,
         task.poll(&mut receiving),
-        Poll::Ready(Err(ReceiveError::Finished))
+        Poll::Ready(Err(ReceiveError::Finished)),
     );
-    Ok(())
 }
 
 #[test]
-fn a_forgotten_send_leaves_its_message(rt: HostRuntime) -> Result<(), Fail> {
-    let (sender, receiver) = bounded_async::<u64>(rt.alloc(), 0)?;
-    let task = MockTask::new(&rt)?;
+fn a_forgotten_send_leaves_its_message(rt: HostRuntime) {
+    let (sender, receiver) = ends::<u64>(&rt, 0);
+    let task = new_task(&rt);
     let mut sending = sender.send(5);
-    assert_eq!(rt; task.poll(&mut sending), Poll::Pending);
+    equal(&rt, task.poll(&mut sending), Poll::Pending);
     mem::forget(sending);
-    assert_eq!(rt; receiver.try_recv(&rt), Ok(Some(5)));
-    Ok(())
+    equal(&rt, receiver.try_recv(&rt), Ok(Some(5)));
 }
 
 #[test]
-fn a_forgotten_send_goes_with_the_last_sender(rt: HostRuntime) -> Result<(), Fail> {
-    let (sender, receiver) = bounded_async::<u64>(rt.alloc(), 0)?;
-    let task = MockTask::new(&rt)?;
+fn a_forgotten_send_goes_with_the_last_sender(rt: HostRuntime) {
+    let (sender, receiver) = ends::<u64>(&rt, 0);
+    let task = new_task(&rt);
     let mut sending = sender.send(5);
-    assert_eq!(rt; task.poll(&mut sending), Poll::Pending);
+    equal(&rt, task.poll(&mut sending), Poll::Pending);
     mem::forget(sending);
     drop(sender);
     let mut receiving = receiver.recv();
-    assert_eq!(rt;
+    equal(
+        &rt,
         task.poll(&mut receiving),
-        Poll::Ready(Err(ReceiveError::SendClosed))
+        Poll::Ready(Err(ReceiveError::SendClosed)),
     );
-    Ok(())
 }
 
 #[test]
-fn a_waiting_send_is_taken(rt: HostRuntime) -> Result<(), Fail> {
-    let (sender, receiver) = bounded_async::<u64>(rt.alloc(), 0)?;
-    let task = MockTask::new(&rt)?;
+fn a_waiting_send_is_taken(rt: HostRuntime) {
+    let (sender, receiver) = ends::<u64>(&rt, 0);
+    let task = new_task(&rt);
     let mut sending = sender.send(5);
     let mut receiving = receiver.recv();
-    assert_eq!(rt; task.poll(&mut sending), Poll::Pending);
-    assert_eq!(rt; task.poll(&mut receiving), Poll::Ready(Ok(5)));
-    assert_eq!(rt; task.poll(&mut sending), Poll::Ready(Ok(())));
-    Ok(())
+    equal(&rt, task.poll(&mut sending), Poll::Pending);
+    equal(&rt, task.poll(&mut receiving), Poll::Ready(Ok(5)));
+    equal(&rt, task.poll(&mut sending), Poll::Ready(Ok(())));
 }
 
 #[test]
-fn a_waiting_receive_is_given(rt: HostRuntime) -> Result<(), Fail> {
-    let (sender, receiver) = bounded_async::<u64>(rt.alloc(), 0)?;
-    let task = MockTask::new(&rt)?;
+fn a_waiting_receive_is_given(rt: HostRuntime) {
+    let (sender, receiver) = ends::<u64>(&rt, 0);
+    let task = new_task(&rt);
     let mut receiving = receiver.recv();
     let mut sending = sender.send(5);
-    assert_eq!(rt; task.poll(&mut receiving), Poll::Pending);
-    assert_eq!(rt; task.poll(&mut sending), Poll::Ready(Ok(())));
-    assert_eq!(rt; task.poll(&mut receiving), Poll::Ready(Ok(5)));
-    Ok(())
+    equal(&rt, task.poll(&mut receiving), Poll::Pending);
+    equal(&rt, task.poll(&mut sending), Poll::Ready(Ok(())));
+    equal(&rt, task.poll(&mut receiving), Poll::Ready(Ok(5)));
 }
 
 #[test]
-fn a_dropped_receive_is_given_nothing(rt: HostRuntime) -> Result<(), Fail> {
-    let (sender, receiver) = bounded_async::<u64>(rt.alloc(), 0)?;
-    let task = MockTask::new(&rt)?;
+fn a_dropped_receive_is_given_nothing(rt: HostRuntime) {
+    let (sender, receiver) = ends::<u64>(&rt, 0);
+    let task = new_task(&rt);
     let mut receiving = receiver.recv();
-    assert_eq!(rt; task.poll(&mut receiving), Poll::Pending);
+    equal(&rt, task.poll(&mut receiving), Poll::Pending);
     drop(receiving);
-    assert_eq!(rt; sender.try_send(&rt, 1), Ok(false));
-    Ok(())
+    equal(&rt, sender.try_send(&rt, 1), Ok(false));
 }
 
 #[test]
-fn a_dropped_send_leaves_nothing(rt: HostRuntime) -> Result<(), Fail> {
-    let (sender, receiver) = bounded_async::<u64>(rt.alloc(), 0)?;
-    let task = MockTask::new(&rt)?;
+fn a_dropped_send_leaves_nothing(rt: HostRuntime) {
+    let (sender, receiver) = ends::<u64>(&rt, 0);
+    let task = new_task(&rt);
     let mut sending = sender.send(5);
-    assert_eq!(rt; task.poll(&mut sending), Poll::Pending);
+    equal(&rt, task.poll(&mut sending), Poll::Pending);
     drop(sending);
-    assert_eq!(rt; receiver.try_recv(&rt), Ok(None));
-    Ok(())
+    equal(&rt, receiver.try_recv(&rt), Ok(None));
 }
 
 #[test]
-fn the_last_receiver_ends_a_send(rt: HostRuntime) -> Result<(), Fail> {
-    let (sender, receiver) = bounded_async::<u64>(rt.alloc(), 0)?;
-    let task = MockTask::new(&rt)?;
+fn the_last_receiver_ends_a_send(rt: HostRuntime) {
+    let (sender, receiver) = ends::<u64>(&rt, 0);
+    let task = new_task(&rt);
     let mut sending = sender.send(5);
-    assert_eq!(rt; task.poll(&mut sending), Poll::Pending);
+    equal(&rt, task.poll(&mut sending), Poll::Pending);
     drop(receiver);
-    assert_eq!(rt;
+    equal(
+        &rt,
         task.poll(&mut sending),
-        Poll::Ready(Err(SendError::ReceiveClosed))
+        Poll::Ready(Err(SendError::ReceiveClosed)),
     );
-    assert_eq!(rt;
+    equal(
+        &rt,
         task.poll(&mut sending),
-        Poll::Ready(Err(SendError::Finished))
+        Poll::Ready(Err(SendError::Finished)),
     );
-    Ok(())
 }
 
 #[test]
-fn a_closed_channel_refuses_both(rt: HostRuntime) -> Result<(), Fail> {
-    let (sender, receiver) = bounded_async::<u64>(rt.alloc(), 1)?;
-    let task = MockTask::new(&rt)?;
-    assert_eq!(rt; receiver.close(&rt), Ok(()));
+fn a_closed_channel_refuses_both(rt: HostRuntime) {
+    let (sender, receiver) = ends::<u64>(&rt, 1);
+    let task = new_task(&rt);
+    equal(&rt, receiver.close(&rt), Ok(()));
     let mut sending = sender.send(5);
     let mut receiving = receiver.recv();
-    assert_eq!(rt;
+    equal(
+        &rt,
         task.poll(&mut sending),
-        Poll::Ready(Err(SendError::Closed))
+        Poll::Ready(Err(SendError::Closed)),
     );
-    assert_eq!(rt;
+    equal(
+        &rt,
         task.poll(&mut receiving),
-        Poll::Ready(Err(ReceiveError::Closed))
+        Poll::Ready(Err(ReceiveError::Closed)),
     );
-    Ok(())
 }

@@ -1,30 +1,26 @@
 //! The texts of what a task uses.
-use kanal::bounded_async;
-use std::alloc::Global;
+use crate::given::{ends, equal};
+use std::alloc::AllocGlobal;
 use std::fmt::Debug;
 use std::process::Abort;
-use std::test::Fail;
 
-/// Checks the debug text of a value.
-fn shows<D: Debug>(rt: &impl Abort, alloc: Global, value: &D, expected: &str) -> Result<(), Fail> {
-    let text = format!(in alloc; "{value:?}")?;
-    assert_eq!(rt; text.as_str(), expected);
-    Ok(())
+/// Ends the test unless the value is named so.
+fn shows<D: Debug>(rt: &(impl Abort + AllocGlobal), value: &D, expected: &str) {
+    let text = format!(in rt.alloc(); "{value:?}").expect(rt, "memory for a text");
+    equal(rt, text.as_str(), expected);
 }
 
 #[test]
-fn handles_show_their_kind(rt: HostRuntime) -> Result<(), Fail> {
-    let (sender, receiver) = bounded_async::<u64>(rt.alloc(), 1)?;
-    shows(&rt, rt.alloc(), &sender, "AsyncSender { .. }")?;
-    shows(&rt, rt.alloc(), &receiver, "AsyncReceiver { .. }")?;
-    Ok(())
+fn handles_show_their_kind(rt: HostRuntime) {
+    let (sender, receiver) = ends::<u64>(&rt, 1);
+    shows(&rt, &sender, "AsyncSender { .. }");
+    shows(&rt, &receiver, "AsyncReceiver { .. }");
 }
 
 #[test]
-fn futures_and_streams_show_their_kind(rt: HostRuntime) -> Result<(), Fail> {
-    let (sender, receiver) = bounded_async::<u64>(rt.alloc(), 1)?;
-    shows(&rt, rt.alloc(), &sender.send(1), "SendFuture { .. }")?;
-    shows(&rt, rt.alloc(), &receiver.recv(), "ReceiveFuture { .. }")?;
-    shows(&rt, rt.alloc(), &receiver.stream(), "ReceiveStream { .. }")?;
-    Ok(())
+fn futures_and_streams_show_their_kind(rt: HostRuntime) {
+    let (sender, receiver) = ends::<u64>(&rt, 1);
+    shows(&rt, &sender.send(1), "SendFuture { .. }");
+    shows(&rt, &receiver.recv(), "ReceiveFuture { .. }");
+    shows(&rt, &receiver.stream(), "ReceiveStream { .. }");
 }

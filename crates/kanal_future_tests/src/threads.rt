@@ -1,22 +1,21 @@
 //! One channel between threads that block and tasks that are run in threads.
-use futures::StreamExt;
-use futures::executor::block_on;
-use kanal::{AsyncReceiver, AsyncSender, Sender, bounded, bounded_async};
-use std::alloc::{AllocError, AllocGlobal};
+use crate::given::{ends, equal, holds, next_in_task, receive_in_task, send_in_task, sync_ends};
+use kanal::{AsyncReceiver, AsyncSender, Sender};
+use std::alloc::AllocGlobal;
+use std::process::Abort;
 use std::random::RandomSource;
 use std::sync::Wait;
-use std::test::Fail;
 use std::thread;
 use std::thread::{JoinHandle, Threads};
 
 /// Sends the numbers below the end, each in a task; whether all were sent.
-fn send_in_tasks<R: Wait + RandomSource + AllocGlobal>(
+fn send_in_tasks<R: Wait + Abort + RandomSource + AllocGlobal>(
     rt: &R,
     sender: &AsyncSender<u64>,
     end: u64,
 ) -> bool {
     for number in 0..end {
-        if !matches!(block_on(rt, sender.send(number)), Ok(Ok(()))) {
+        if send_in_task(rt, sender, number).is_err() {
             return false;
         }
     }
@@ -24,13 +23,12 @@ fn send_in_tasks<R: Wait + RandomSource + AllocGlobal>(
 }
 
 /// Sends the numbers below the end, each in a task, in a thread.
-fn start_tasks<R: Threads + Wait + RandomSource + AllocGlobal + Copy + Send + 'static>(
+fn start_tasks<R: Threads + Wait + Abort + RandomSource + AllocGlobal + Copy + Send + 'static>(
     rt: R,
     sender: AsyncSender<u64>,
     end: u64,
-) -> Result<JoinHandle<bool>, AllocError> {
-    let thread = thread::spawn(&rt, move || send_in_tasks(&rt, &sender, end))?;
-    Ok(thread)
+) -> JoinHandle<bool> {
+    thread::spawn(&rt, move || send_in_tasks(&rt, &sender, end)).expect(&rt, "a thread")
 }
 
 /// Sends the numbers below the end, in a thread that blocks; whether all were sent.
@@ -44,76 +42,78 @@ fn send_blocking<R: Wait>(rt: &R, sender: &Sender<u64>, end: u64) -> bool {
 }
 
 /// The same, in a thread of its own.
-fn start_blocking<R: Threads + Wait + Copy + Send + 'static>(
+fn start_blocking<R: Threads + Wait + Abort + Copy + Send + 'static>(
     rt: R,
     sender: Sender<u64>,
     end: u64,
-) -> Result<JoinHandle<bool>, AllocError> {
-    let thread = thread::spawn(&rt, move || send_blocking(&rt, &sender, end))?;
-    Ok(thread)
+) -> JoinHandle<bool> {
+    thread::spawn(&rt, move || send_blocking(&rt, &sender, end)).expect(&rt, "a thread")
 }
 
 /// Receives the numbers below the end, each in a task; whether they came in order.
-fn receives_in_tasks<R: Wait + RandomSource + AllocGlobal>(
+fn receives_in_tasks<R: Wait + Abort + RandomSource + AllocGlobal>(
     rt: &R,
     receiver: &AsyncReceiver<u64>,
     end: u64,
 ) -> bool {
     for number in 0..end {
-        match block_on(rt, receiver.recv()) {
-            Ok(Ok(message)) if message == number => {},
-            _ => return false,
+        if receive_in_task(rt, receiver) != Ok(number) {
+            return false;
+        }
+    }
+    true
+}
+
+/// Receives the numbers below the end, and blocks; whether they came in order.
+fn receives_blocking<R: Wait>(rt: &R, receiver: &AsyncReceiver<u64>, end: u64) -> bool {
+    for number in 0..end {
+        if receiver.as_sync().recv(rt) != Ok(number) {
+            return false;
         }
     }
     true
 }
 
 #[test]
-fn a_thread_sends_to_a_task(rt: HostRuntime) -> Result<(), Fail> {
+fn a_thread_sends_to_a_task(rt: HostRuntime) {
     for size in 0..3 {
-        let (sender, receiver) = bounded::<u64>(rt.alloc(), size)?;
-        let thread = start_blocking(rt, sender, 100)?;
-        assert!(rt; receives_in_tasks(&rt, receiver.as_async(), 100));
-        assert!(rt; thread.join(&rt));
+        let (sender, receiver) = sync_ends::<u64>(&rt, size);
+        let thread = start_blocking(rt, sender, 100);
+        holds(&rt, receives_in_tasks(&rt, receiver.as_async(), 100));
+        holds(&rt, thread.join(&rt));
     }
-    Ok(())
 }
 
 #[test]
-fn a_task_sends_to_a_thread(rt: HostRuntime) -> Result<(), Fail> {
+fn a_task_sends_to_a_thread(rt: HostRuntime) {
     for size in 0..3 {
-        let (sender, receiver) = bounded_async::<u64>(rt.alloc(), size)?;
-        let thread = start_tasks(rt, sender, 100)?;
-        for number in 0..100 {
-            assert_eq!(rt; receiver.as_sync().recv(&rt), Ok(number));
-        }
-        assert!(rt; thread.join(&rt));
+        let (sender, receiver) = ends::<u64>(&rt, size);
+        let thread = start_tasks(rt, sender, 100);
+        holds(&rt, receives_blocking(&rt, &receiver, 100));
+        holds(&rt, thread.join(&rt));
     }
-    Ok(())
 }
 
 #[test]
-fn a_task_sends_to_a_task(rt: HostRuntime) -> Result<(), Fail> {
+fn a_task_sends_to_a_task(rt: HostRuntime) {
     for size in 0..3 {
-        let (sender, receiver) = bounded_async::<u64>(rt.alloc(), size)?;
-        let thread = start_tasks(rt, sender, 100)?;
-        assert!(rt; receives_in_tasks(&rt, &receiver, 100));
-        assert!(rt; thread.join(&rt));
+        let (sender, receiver) = ends::<u64>(&rt, size);
+        let thread = start_tasks(rt, sender, 100);
+        holds(&rt, receives_in_tasks(&rt, &receiver, 100));
+        holds(&rt, thread.join(&rt));
     }
-    Ok(())
 }
 
 #[test]
-fn a_stream_goes_to_the_end(rt: HostRuntime) -> Result<(), Fail> {
-    let (sender, receiver) = bounded_async::<u64>(rt.alloc(), 0)?;
-    let thread = start_tasks(rt, sender, 3)?;
+fn a_stream_goes_to_the_end(rt: HostRuntime) {
+    let (sender, receiver) = ends::<u64>(&rt, 0);
+    let thread = start_tasks(rt, sender, 3);
     let mut stream = receiver.stream();
     for number in 0..3 {
-        assert_eq!(rt; block_on(&rt, stream.next())?, Some(number));
+        equal(&rt, next_in_task(&rt, &mut stream), Some(number));
     }
-    assert_eq!(rt; block_on(&rt, stream.next())?, None);
-    assert!(rt; stream.is_terminated(&rt));
-    assert_eq!(rt; block_on(&rt, stream.next())?, None);
-    assert!(rt; thread.join(&rt));
-    Ok(())
+    equal(&rt, next_in_task(&rt, &mut stream), None);
+    holds(&rt, stream.is_terminated(&rt));
+    equal(&rt, next_in_task(&rt, &mut stream), None);
+    holds(&rt, thread.join(&rt));
 }

@@ -1,81 +1,80 @@
 //! Each call of a thread's views of the handles for tasks, with ample memory.
+use crate::given::{ends, equal, holds};
 use kanal::error::{CloseError, ReceiveErrorTimeout, SendErrorTimeout};
-use kanal::{AsyncReceiver, SystemClock, bounded_async};
+use kanal::{AsyncReceiver, ReceiverView, SenderView, SystemClock};
+use std::process::Abort;
 use std::sync::Wait;
-use std::test::Fail;
 use std::time::Duration;
 
 #[test]
-fn sends(rt: HostRuntime) -> Result<(), Fail> {
-    let (sender, _receiver) = bounded_async::<u64>(rt.alloc(), 2)?;
+fn sends(rt: HostRuntime) {
+    let (sender, _receiver) = ends::<u64>(&rt, 2);
     let view = sender.as_sync();
     let mut option = Some(2);
-    assert_eq!(rt; view.send(&rt, 0), Ok(()));
-    assert_eq!(rt; view.try_send(&rt, 1), Ok(true));
-    assert_eq!(rt; view.try_send_option(&rt, &mut option), Ok(false));
-    assert_eq!(rt; option, Some(2));
-    Ok(())
+    equal(&rt, view.send(&rt, 0), Ok(()));
+    equal(&rt, view.try_send(&rt, 1), Ok(true));
+    equal(&rt, view.try_send_option(&rt, &mut option), Ok(false));
+    equal(&rt, option, Some(2));
 }
 
 #[test]
-fn sends_that_do_not_wait_for_the_lock(rt: HostRuntime) -> Result<(), Fail> {
-    let (sender, _receiver) = bounded_async::<u64>(rt.alloc(), 2)?;
+fn sends_that_do_not_wait_for_the_lock(rt: HostRuntime) {
+    let (sender, _receiver) = ends::<u64>(&rt, 2);
     let view = sender.as_sync();
     let mut option = Some(2);
-    assert_eq!(rt; view.try_send_realtime(1), Ok(true));
-    assert_eq!(rt; view.try_send_option_realtime(&mut option), Ok(true));
-    assert_eq!(rt; option, None);
-    Ok(())
+    equal(&rt, view.try_send_realtime(1), Ok(true));
+    equal(&rt, view.try_send_option_realtime(&mut option), Ok(true));
+    equal(&rt, option, None);
 }
 
 #[test]
-fn sends_until_a_deadline(rt: HostRuntime) -> Result<(), Fail> {
-    let (sender, _receiver) = bounded_async::<u64>(rt.alloc(), 1)?;
+fn sends_until_a_deadline(rt: HostRuntime) {
+    let (sender, _receiver) = ends::<u64>(&rt, 1);
     let view = sender.as_sync();
     let clock = SystemClock::new(&rt);
     let mut option = Some(2);
     let short = Duration::from_nanos(1);
-    assert_eq!(rt; view.send_timeout(&rt, 1, short, &clock), Ok(()));
+    equal(&rt, view.send_timeout(&rt, 1, short, &clock), Ok(()));
     let late = view.send_option_timeout(&rt, &mut option, short, &clock);
-    assert_eq!(rt; late, Err(SendErrorTimeout::Timeout));
-    assert_eq!(rt; option, Some(2));
-    Ok(())
+    equal(&rt, late, Err(SendErrorTimeout::Timeout));
+    equal(&rt, option, Some(2));
 }
 
 #[test]
-fn receives(rt: HostRuntime) -> Result<(), Fail> {
-    let (sender, receiver) = bounded_async::<u64>(rt.alloc(), 3)?;
+fn receives(rt: HostRuntime) {
+    let (sender, receiver) = ends::<u64>(&rt, 3);
     let view = receiver.as_sync();
-    assert_eq!(rt; sender.try_send(&rt, 1), Ok(true));
-    assert_eq!(rt; sender.try_send(&rt, 2), Ok(true));
-    assert_eq!(rt; sender.try_send(&rt, 3), Ok(true));
-    assert_eq!(rt; view.recv(&rt), Ok(1));
-    assert_eq!(rt; view.try_recv(&rt), Ok(Some(2)));
-    assert_eq!(rt; view.try_recv_realtime(), Ok(Some(3)));
-    Ok(())
+    equal(&rt, sender.try_send(&rt, 1), Ok(true));
+    equal(&rt, sender.try_send(&rt, 2), Ok(true));
+    equal(&rt, sender.try_send(&rt, 3), Ok(true));
+    equal(&rt, view.recv(&rt), Ok(1));
+    equal(&rt, view.try_recv(&rt), Ok(Some(2)));
+    equal(&rt, view.try_recv_realtime(), Ok(Some(3)));
 }
 
 #[test]
-fn a_receive_until_a_deadline(rt: HostRuntime) -> Result<(), Fail> {
-    let (sender, receiver) = bounded_async::<u64>(rt.alloc(), 1)?;
+fn a_receive_until_a_deadline(rt: HostRuntime) {
+    let (sender, receiver) = ends::<u64>(&rt, 1);
     let view = receiver.as_sync();
     let clock = SystemClock::new(&rt);
     let long = Duration::from_secs(60);
-    assert_eq!(rt; sender.try_send(&rt, 1), Ok(true));
-    assert_eq!(rt; view.recv_timeout(&rt, long, &clock), Ok(1));
+    equal(&rt, sender.try_send(&rt, 1), Ok(true));
+    equal(&rt, view.recv_timeout(&rt, long, &clock), Ok(1));
     let late = view.recv_timeout(&rt, Duration::from_nanos(1), &clock);
-    assert_eq!(rt; late, Err(ReceiveErrorTimeout::Timeout));
-    Ok(())
+    equal(&rt, late, Err(ReceiveErrorTimeout::Timeout));
 }
 
 #[test]
-fn a_drain(rt: HostRuntime) -> Result<(), Fail> {
-    let (sender, receiver) = bounded_async::<u64>(rt.alloc(), 2)?;
+fn a_drain(rt: HostRuntime) {
+    let (sender, receiver) = ends::<u64>(&rt, 2);
     let mut messages = Vec::new(rt.alloc());
-    assert_eq!(rt; sender.try_send(&rt, 1), Ok(true));
-    assert_eq!(rt; receiver.as_sync().drain_into(&rt, &mut messages), Ok(1));
-    assert_eq!(rt; messages.as_slice(), [1].as_slice());
-    Ok(())
+    equal(&rt, sender.try_send(&rt, 1), Ok(true));
+    equal(
+        &rt,
+        receiver.as_sync().drain_into(&rt, &mut messages),
+        Ok(1),
+    );
+    equal(&rt, messages.as_slice(), [1].as_slice());
 }
 
 /// The sum of the next messages, at most so many of them.
@@ -89,55 +88,61 @@ fn sum_of<R: Wait>(rt: &R, receiver: &AsyncReceiver<u64>, most: usize) -> u64 {
 }
 
 #[test]
-fn messages_one_after_the_other(rt: HostRuntime) -> Result<(), Fail> {
-    let (sender, receiver) = bounded_async::<u64>(rt.alloc(), 4)?;
+fn messages_one_after_the_other(rt: HostRuntime) {
+    let (sender, receiver) = ends::<u64>(&rt, 4);
     for message in 1..=4 {
-        assert_eq!(rt; sender.try_send(&rt, message), Ok(true));
+        equal(&rt, sender.try_send(&rt, message), Ok(true));
     }
     drop(sender);
-    assert_eq!(rt; sum_of(&rt, &receiver, 3), 6);
-    assert_eq!(rt; sum_of(&rt, &receiver, 3), 4);
-    Ok(())
+    equal(&rt, sum_of(&rt, &receiver, 3), 6);
+    equal(&rt, sum_of(&rt, &receiver, 3), 4);
+}
+
+/// Asks all questions of a sender's view, with one message in two places.
+fn ask_a_senders_view<R: Abort + Wait>(rt: &R, view: &SenderView<'_, u64>) {
+    equal(rt, view.len(rt), 1);
+    holds(rt, !view.is_empty(rt));
+    holds(rt, !view.is_full(rt));
+    holds(rt, view.is_bounded(rt));
+    equal(rt, view.capacity(rt), 2);
+    equal(rt, view.receiver_count(rt), 1);
+    equal(rt, view.sender_count(rt), 1);
+    holds(rt, !view.is_closed(rt));
+    holds(rt, !view.is_disconnected(rt));
 }
 
 #[test]
-fn a_senders_view_asks(rt: HostRuntime) -> Result<(), Fail> {
-    let (sender, _receiver) = bounded_async::<u64>(rt.alloc(), 2)?;
+fn a_senders_view_asks(rt: HostRuntime) {
+    let (sender, _receiver) = ends::<u64>(&rt, 2);
     let view = sender.as_sync();
-    assert_eq!(rt; view.send(&rt, 7), Ok(()));
-    assert_eq!(rt; view.len(&rt), 1);
-    assert!(rt; !view.is_empty(&rt));
-    assert!(rt; !view.is_full(&rt));
-    assert!(rt; view.is_bounded(&rt));
-    assert_eq!(rt; view.capacity(&rt), 2);
-    assert_eq!(rt; view.receiver_count(&rt), 1);
-    assert_eq!(rt; view.sender_count(&rt), 1);
-    assert!(rt; !view.is_closed(&rt));
-    assert!(rt; !view.is_disconnected(&rt));
-    Ok(())
+    equal(&rt, view.send(&rt, 7), Ok(()));
+    ask_a_senders_view(&rt, &view);
+}
+
+/// Asks all questions of a receiver's view, with no place and no message.
+fn ask_a_receivers_view<R: Abort + Wait>(rt: &R, view: &ReceiverView<'_, u64>) {
+    equal(rt, view.len(rt), 0);
+    holds(rt, view.is_empty(rt));
+    holds(rt, view.is_full(rt));
+    holds(rt, view.is_bounded(rt));
+    equal(rt, view.capacity(rt), 0);
+    equal(rt, view.receiver_count(rt), 1);
+    equal(rt, view.sender_count(rt), 1);
+    holds(rt, !view.is_closed(rt));
+    holds(rt, !view.is_disconnected(rt));
+    holds(rt, !view.is_terminated(rt));
 }
 
 #[test]
-fn a_receivers_view_asks(rt: HostRuntime) -> Result<(), Fail> {
-    let (_sender, receiver) = bounded_async::<u64>(rt.alloc(), 0)?;
+fn a_receivers_view_asks(rt: HostRuntime) {
+    let (_sender, receiver) = ends::<u64>(&rt, 0);
     let view = receiver.as_sync();
-    assert_eq!(rt; view.len(&rt), 0);
-    assert!(rt; view.is_empty(&rt));
-    assert!(rt; view.is_full(&rt));
-    assert!(rt; view.is_bounded(&rt));
-    assert_eq!(rt; view.capacity(&rt), 0);
-    assert_eq!(rt; view.receiver_count(&rt), 1);
-    assert_eq!(rt; view.sender_count(&rt), 1);
-    assert!(rt; !view.is_closed(&rt));
-    assert!(rt; !view.is_disconnected(&rt));
-    assert!(rt; !view.is_terminated(&rt));
-    Ok(())
+    ask_a_receivers_view(&rt, &view);
 }
 
 #[test]
-fn a_close_comes_once(rt: HostRuntime) -> Result<(), Fail> {
-    let (sender, receiver) = bounded_async::<u64>(rt.alloc(), 1)?;
-    assert_eq!(rt; sender.as_sync().close(&rt), Ok(()));
-    assert_eq!(rt; receiver.as_sync().close(&rt), Err(CloseError()));
-    Ok(())
+fn a_close_comes_once(rt: HostRuntime) {
+    let (sender, receiver) = ends::<u64>(&rt, 1);
+    equal(&rt, sender.as_sync().close(&rt), Ok(()));
+    equal(&rt, receiver.as_sync().close(&rt), Err(CloseError()));
 }

@@ -2,12 +2,12 @@
 //!
 //! The test task tells whether it was woken since its last poll began, not how often; a poll that
 //! looks at nothing forgets the wake, and then there is none left.
-use futures::StreamExt;
+use crate::given::{ends, equal, holds, new_task, poll_next};
 use futures::task::Poll;
 use futures::test::MockTask;
-use kanal::bounded_async;
+use kanal::ReceiveStream;
 use kanal::error::ReceiveError;
-use std::test::Fail;
+use std::process::Abort;
 
 /// Whether the task was woken, and after it forgot that, was not woken again.
 fn was_woken_once(task: &MockTask) -> bool {
@@ -17,86 +17,89 @@ fn was_woken_once(task: &MockTask) -> bool {
 }
 
 #[test]
-fn the_waker_of_the_last_poll_is_woken(rt: HostRuntime) -> Result<(), Fail> {
-    let (sender, receiver) = bounded_async::<u64>(rt.alloc(), 0)?;
-    let first = MockTask::new(&rt)?;
-    let second = MockTask::new(&rt)?;
+fn the_waker_of_the_last_poll_is_woken(rt: HostRuntime) {
+    let (sender, receiver) = ends::<u64>(&rt, 0);
+    let first = new_task(&rt);
+    let second = new_task(&rt);
     let mut receiving = receiver.recv();
-    assert_eq!(rt; first.poll(&mut receiving), Poll::Pending);
-    assert_eq!(rt; second.poll(&mut receiving), Poll::Pending);
-    assert_eq!(rt; sender.try_send(&rt, 3), Ok(true));
-    assert!(rt; was_woken_once(&second));
-    assert!(rt; !first.is_woken());
-    assert_eq!(rt; second.poll(&mut receiving), Poll::Ready(Ok(3)));
-    Ok(())
+    equal(&rt, first.poll(&mut receiving), Poll::Pending);
+    equal(&rt, second.poll(&mut receiving), Poll::Pending);
+    equal(&rt, sender.try_send(&rt, 3), Ok(true));
+    holds(&rt, was_woken_once(&second));
+    holds(&rt, !first.is_woken());
+    equal(&rt, second.poll(&mut receiving), Poll::Ready(Ok(3)));
 }
 
 #[test]
-fn a_send_wakes_by_its_last_waker(rt: HostRuntime) -> Result<(), Fail> {
-    let (sender, receiver) = bounded_async::<u64>(rt.alloc(), 0)?;
-    let first = MockTask::new(&rt)?;
-    let second = MockTask::new(&rt)?;
+fn a_send_wakes_by_its_last_waker(rt: HostRuntime) {
+    let (sender, receiver) = ends::<u64>(&rt, 0);
+    let first = new_task(&rt);
+    let second = new_task(&rt);
     let mut sending = sender.send(3);
-    assert_eq!(rt; first.poll(&mut sending), Poll::Pending);
-    assert_eq!(rt; second.poll(&mut sending), Poll::Pending);
-    assert_eq!(rt; receiver.try_recv(&rt), Ok(Some(3)));
-    assert!(rt; was_woken_once(&second));
-    assert!(rt; !first.is_woken());
-    assert_eq!(rt; second.poll(&mut sending), Poll::Ready(Ok(())));
-    Ok(())
+    equal(&rt, first.poll(&mut sending), Poll::Pending);
+    equal(&rt, second.poll(&mut sending), Poll::Pending);
+    equal(&rt, receiver.try_recv(&rt), Ok(Some(3)));
+    holds(&rt, was_woken_once(&second));
+    holds(&rt, !first.is_woken());
+    equal(&rt, second.poll(&mut sending), Poll::Ready(Ok(())));
 }
 
 #[test]
-fn a_pending_receive_does_not_wake_its_task(rt: HostRuntime) -> Result<(), Fail> {
-    let (_sender, receiver) = bounded_async::<u64>(rt.alloc(), 0)?;
-    let task = MockTask::new(&rt)?;
+fn a_pending_receive_does_not_wake_its_task(rt: HostRuntime) {
+    let (_sender, receiver) = ends::<u64>(&rt, 0);
+    let task = new_task(&rt);
     let mut receiving = receiver.recv();
     for _ in 0..3 {
-        assert_eq!(rt; task.poll(&mut receiving), Poll::Pending);
-        assert!(rt; !task.is_woken());
+        equal(&rt, task.poll(&mut receiving), Poll::Pending);
+        holds(&rt, !task.is_woken());
     }
-    Ok(())
 }
 
 #[test]
-fn a_pending_send_does_not_wake_its_task(rt: HostRuntime) -> Result<(), Fail> {
-    let (sender, _receiver) = bounded_async::<u64>(rt.alloc(), 0)?;
-    let task = MockTask::new(&rt)?;
+fn a_pending_send_does_not_wake_its_task(rt: HostRuntime) {
+    let (sender, _receiver) = ends::<u64>(&rt, 0);
+    let task = new_task(&rt);
     let mut sending = sender.send(7);
     for _ in 0..3 {
-        assert_eq!(rt; task.poll(&mut sending), Poll::Pending);
-        assert!(rt; !task.is_woken());
+        equal(&rt, task.poll(&mut sending), Poll::Pending);
+        holds(&rt, !task.is_woken());
     }
-    Ok(())
+}
+
+/// Polls three times for the stream's next message: each poll is pending, and wakes nobody.
+fn wait_for_next(rt: &impl Abort, task: &MockTask, stream: &mut ReceiveStream<'_, u64>) {
+    for _ in 0..3 {
+        equal(rt, poll_next(task, stream), Poll::Pending);
+        holds(rt, !task.is_woken());
+    }
 }
 
 #[test]
-fn a_pending_stream_does_not_wake_its_task(rt: HostRuntime) -> Result<(), Fail> {
-    let (sender, receiver) = bounded_async::<u64>(rt.alloc(), 0)?;
-    let task = MockTask::new(&rt)?;
+fn a_pending_stream_does_not_wake_its_task(rt: HostRuntime) {
+    let (sender, receiver) = ends::<u64>(&rt, 0);
+    let task = new_task(&rt);
     let mut stream = receiver.stream();
     for message in 0..3 {
-        for _ in 0..3 {
-            assert_eq!(rt; task.poll(&mut stream.next()), Poll::Pending);
-            assert!(rt; !task.is_woken());
-        }
-        assert_eq!(rt; sender.try_send(&rt, message), Ok(true));
-        assert!(rt; was_woken_once(&task));
-        assert_eq!(rt; task.poll(&mut stream.next()), Poll::Ready(Some(message)));
-        assert!(rt; !task.is_woken());
+        wait_for_next(&rt, &task, &mut stream);
+        equal(&rt, sender.try_send(&rt, message), Ok(true));
+        holds(&rt, was_woken_once(&task));
+        equal(
+            &rt,
+            poll_next(&task, &mut stream),
+            Poll::Ready(Some(message)),
+        );
+        holds(&rt, !task.is_woken());
     }
-    Ok(())
 }
 
 #[test]
-fn a_close_wakes_a_waiting_receive(rt: HostRuntime) -> Result<(), Fail> {
-    let (sender, receiver) = bounded_async::<u64>(rt.alloc(), 0)?;
-    let task = MockTask::new(&rt)?;
+fn a_close_wakes_a_waiting_receive(rt: HostRuntime) {
+    let (sender, receiver) = ends::<u64>(&rt, 0);
+    let task = new_task(&rt);
     let mut receiving = receiver.recv();
-    assert_eq!(rt; task.poll(&mut receiving), Poll::Pending);
-    assert_eq!(rt; sender.close(&rt), Ok(()));
-    assert!(rt; was_woken_once(&task));
+    equal(&rt, task.poll(&mut receiving), Poll::Pending);
+    equal(&rt, sender.close(&rt), Ok(()));
+    holds(&rt, was_woken_once(&task));
     let ended = task.poll(&mut receiving);
-    assert_eq!(rt; ended, Poll::Ready(Err(ReceiveError::Closed)));
-    Ok(())
+    equal(&rt, ended, Poll::Ready(Err(ReceiveError::Closed)));
 }

@@ -1,11 +1,12 @@
 //! Messages that count their drops, read while the handles live.
-use kanal::bounded;
+use crate::given::{ends, equal};
+use kanal::Sender;
 use kanal::error::SendError;
-use std::alloc::Global;
-use std::sync::Arc;
+use std::alloc::{AllocGlobal, Global};
+use std::process::Abort;
 use std::sync::atomic::AtomicU64;
 use std::sync::atomic::Ordering::SeqCst;
-use std::test::Fail;
+use std::sync::{Arc, Wait};
 
 struct Counted {
     drops: Arc<AtomicU64, Global>,
@@ -18,85 +19,78 @@ impl Drop for Counted {
     }
 }
 
-#[test]
-fn a_close_drops_the_buffer(rt: HostRuntime) -> Result<(), Fail> {
-    let drops = Arc::new(rt.alloc(), AtomicU64::new(0))?;
-    let (sender, receiver) = bounded::<Counted>(rt.alloc(), 10)?;
+/// A counter at 0.
+fn counter(rt: &(impl Abort + AllocGlobal)) -> Arc<AtomicU64, Global> {
+    Arc::new(rt.alloc(), AtomicU64::new(0)).expect(rt, "memory for a counter")
+}
+
+/// A message for this counter.
+fn message(rt: &impl Abort, drops: &Arc<AtomicU64, Global>) -> Counted {
+    let drops = Arc::try_clone(drops).expect(rt, "a count of the counter");
+    Counted { drops }
+}
+
+/// Offers ten messages, of which each is answered so.
+fn offer_ten<R: Abort + Wait>(
+    rt: &R,
+    sender: &Sender<Counted>,
+    drops: &Arc<AtomicU64, Global>,
+    expected: Result<bool, SendError>,
+) {
     for _ in 0..10 {
-        let message = Counted {
-            drops: Arc::try_clone(&drops)?,
-        };
-        assert_eq!(rt; sender.try_send(&rt, message), Ok(true));
+        equal(rt, sender.try_send(rt, message(rt, drops)), expected);
     }
-    assert_eq!(rt; drops.load(SeqCst), 0);
-    assert_eq!(rt; receiver.close(&rt), Ok(()));
-    assert_eq!(rt; drops.load(SeqCst), 10);
-    Ok(())
 }
 
 #[test]
-fn a_closed_channel_drops_what_is_sent(rt: HostRuntime) -> Result<(), Fail> {
-    let drops = Arc::new(rt.alloc(), AtomicU64::new(0))?;
-    let (sender, receiver) = bounded::<Counted>(rt.alloc(), 10)?;
-    assert_eq!(rt; receiver.close(&rt), Ok(()));
-    for _ in 0..10 {
-        let message = Counted {
-            drops: Arc::try_clone(&drops)?,
-        };
-        assert_eq!(rt; sender.try_send(&rt, message), Err(SendError::Closed));
-    }
-    assert_eq!(rt; drops.load(SeqCst), 10);
-    Ok(())
+fn a_close_drops_the_buffer(rt: HostRuntime) {
+    let drops = counter(&rt);
+    let (sender, receiver) = ends::<Counted>(&rt, 10);
+    offer_ten(&rt, &sender, &drops, Ok(true));
+    equal(&rt, drops.load(SeqCst), 0);
+    equal(&rt, receiver.close(&rt), Ok(()));
+    equal(&rt, drops.load(SeqCst), 10);
 }
 
 #[test]
-fn a_send_to_no_receiver_drops_the_message(rt: HostRuntime) -> Result<(), Fail> {
-    let drops = Arc::new(rt.alloc(), AtomicU64::new(0))?;
-    let (sender, receiver) = bounded::<Counted>(rt.alloc(), 10)?;
+fn a_closed_channel_drops_what_is_sent(rt: HostRuntime) {
+    let drops = counter(&rt);
+    let (sender, receiver) = ends::<Counted>(&rt, 10);
+    equal(&rt, receiver.close(&rt), Ok(()));
+    offer_ten(&rt, &sender, &drops, Err(SendError::Closed));
+    equal(&rt, drops.load(SeqCst), 10);
+}
+
+#[test]
+fn a_send_to_no_receiver_drops_the_message(rt: HostRuntime) {
+    let drops = counter(&rt);
+    let (sender, receiver) = ends::<Counted>(&rt, 10);
     drop(receiver);
-    for _ in 0..10 {
-        let message = Counted {
-            drops: Arc::try_clone(&drops)?,
-        };
-        assert_eq!(rt;
-            sender.try_send(&rt, message),
-            Err(SendError::ReceiveClosed)
-        );
-    }
-    assert_eq!(rt; drops.load(SeqCst), 10);
-    Ok(())
+    offer_ten(&rt, &sender, &drops, Err(SendError::ReceiveClosed));
+    equal(&rt, drops.load(SeqCst), 10);
 }
 
 #[test]
-fn the_last_handle_drops_the_buffer(rt: HostRuntime) -> Result<(), Fail> {
-    let drops = Arc::new(rt.alloc(), AtomicU64::new(0))?;
-    let (sender, receiver) = bounded::<Counted>(rt.alloc(), 10)?;
-    for _ in 0..10 {
-        let message = Counted {
-            drops: Arc::try_clone(&drops)?,
-        };
-        assert_eq!(rt; sender.try_send(&rt, message), Ok(true));
-    }
+fn the_last_handle_drops_the_buffer(rt: HostRuntime) {
+    let drops = counter(&rt);
+    let (sender, receiver) = ends::<Counted>(&rt, 10);
+    offer_ten(&rt, &sender, &drops, Ok(true));
     drop(receiver);
-    assert_eq!(rt; drops.load(SeqCst), 0);
+    equal(&rt, drops.load(SeqCst), 0);
     drop(sender);
-    assert_eq!(rt; drops.load(SeqCst), 10);
-    Ok(())
+    equal(&rt, drops.load(SeqCst), 10);
 }
 
 #[test]
-fn a_full_buffer_drops_what_has_no_place(rt: HostRuntime) -> Result<(), Fail> {
-    let drops = Arc::new(rt.alloc(), AtomicU64::new(0))?;
-    let (sender, _receiver) = bounded::<Counted>(rt.alloc(), 0)?;
-    let first = Counted {
-        drops: Arc::try_clone(&drops)?,
-    };
-    let second = Counted {
-        drops: Arc::try_clone(&drops)?,
-    };
-    assert_eq!(rt; sender.try_send(&rt, first), Ok(false));
-    assert_eq!(rt; drops.load(SeqCst), 1);
-    assert_eq!(rt; sender.try_send_realtime(second), Ok(false));
-    assert_eq!(rt; drops.load(SeqCst), 2);
-    Ok(())
+fn a_full_buffer_drops_what_has_no_place(rt: HostRuntime) {
+    let drops = counter(&rt);
+    let (sender, _receiver) = ends::<Counted>(&rt, 0);
+    equal(&rt, sender.try_send(&rt, message(&rt, &drops)), Ok(false));
+    equal(&rt, drops.load(SeqCst), 1);
+    equal(
+        &rt,
+        sender.try_send_realtime(message(&rt, &drops)),
+        Ok(false),
+    );
+    equal(&rt, drops.load(SeqCst), 2);
 }

@@ -6,6 +6,8 @@ mod calls;
 #[cfg(test)]
 mod drops;
 #[cfg(test)]
+mod given;
+#[cfg(test)]
 mod questions;
 #[cfg(test)]
 mod texts;

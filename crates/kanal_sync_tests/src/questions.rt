@@ -1,137 +1,141 @@
 //! Questions, clones and closes, each with its answer.
+use crate::given::{endless, ends, equal, holds};
 use kanal::error::{CloseError, ReceiveError, SendError};
-use kanal::{bounded, unbounded};
-use std::test::Fail;
+use kanal::{Receiver, Sender};
+use std::process::Abort;
+use std::sync::Wait;
 
-#[test]
-fn a_sender_asks(rt: HostRuntime) -> Result<(), Fail> {
-    let (sender, _receiver) = bounded::<u64>(rt.alloc(), 2)?;
-    assert_eq!(rt; sender.try_send(&rt, 7), Ok(true));
-    assert_eq!(rt; sender.len(&rt), 1);
-    assert!(rt; !sender.is_empty(&rt));
-    assert!(rt; !sender.is_full(&rt));
-    assert!(rt; sender.is_bounded(&rt));
-    assert_eq!(rt; sender.capacity(&rt), 2);
-    assert_eq!(rt; sender.receiver_count(&rt), 1);
-    assert_eq!(rt; sender.sender_count(&rt), 1);
-    assert!(rt; !sender.is_closed(&rt));
-    assert!(rt; !sender.is_disconnected(&rt));
-    Ok(())
+/// Asks all questions of a sender, with one message in two places.
+fn ask_a_sender<R: Abort + Wait>(rt: &R, sender: &Sender<u64>) {
+    equal(rt, sender.len(rt), 1);
+    holds(rt, !sender.is_empty(rt));
+    holds(rt, !sender.is_full(rt));
+    holds(rt, sender.is_bounded(rt));
+    equal(rt, sender.capacity(rt), 2);
+    equal(rt, sender.receiver_count(rt), 1);
+    equal(rt, sender.sender_count(rt), 1);
+    holds(rt, !sender.is_closed(rt));
+    holds(rt, !sender.is_disconnected(rt));
 }
 
 #[test]
-fn a_receiver_asks(rt: HostRuntime) -> Result<(), Fail> {
-    let (_sender, receiver) = unbounded::<u64>(rt.alloc())?;
-    assert_eq!(rt; receiver.len(&rt), 0);
-    assert!(rt; receiver.is_empty(&rt));
-    assert!(rt; !receiver.is_full(&rt));
-    assert!(rt; !receiver.is_bounded(&rt));
-    assert_eq!(rt; receiver.capacity(&rt), usize::MAX);
-    assert_eq!(rt; receiver.receiver_count(&rt), 1);
-    assert_eq!(rt; receiver.sender_count(&rt), 1);
-    assert!(rt; !receiver.is_closed(&rt));
-    assert!(rt; !receiver.is_disconnected(&rt));
-    Ok(())
+fn a_sender_asks(rt: HostRuntime) {
+    let (sender, _receiver) = ends::<u64>(&rt, 2);
+    equal(&rt, sender.try_send(&rt, 7), Ok(true));
+    ask_a_sender(&rt, &sender);
+}
+
+/// Asks all questions of a receiver, with no message.
+fn ask_a_receiver<R: Abort + Wait>(rt: &R, receiver: &Receiver<u64>) {
+    equal(rt, receiver.len(rt), 0);
+    holds(rt, receiver.is_empty(rt));
+    holds(rt, !receiver.is_full(rt));
+    holds(rt, !receiver.is_bounded(rt));
+    equal(rt, receiver.capacity(rt), usize::MAX);
+    equal(rt, receiver.receiver_count(rt), 1);
+    equal(rt, receiver.sender_count(rt), 1);
+    holds(rt, !receiver.is_closed(rt));
+    holds(rt, !receiver.is_disconnected(rt));
 }
 
 #[test]
-fn clones_are_counted(rt: HostRuntime) -> Result<(), Fail> {
-    let (sender, receiver) = bounded::<u64>(rt.alloc(), 1)?;
-    let other = sender.clone(&rt)?;
-    let another = receiver.clone(&rt)?;
-    assert_eq!(rt; receiver.sender_count(&rt), 2);
-    assert_eq!(rt; sender.receiver_count(&rt), 2);
+fn a_receiver_asks(rt: HostRuntime) {
+    let (_sender, receiver) = endless::<u64>(&rt);
+    ask_a_receiver(&rt, &receiver);
+}
+
+#[test]
+fn clones_are_counted(rt: HostRuntime) {
+    let (sender, receiver) = ends::<u64>(&rt, 1);
+    let other = sender.clone(&rt).expect(&rt, "a clone");
+    let another = receiver.clone(&rt).expect(&rt, "a clone");
+    equal(&rt, receiver.sender_count(&rt), 2);
+    equal(&rt, sender.receiver_count(&rt), 2);
     drop(other);
     drop(another);
-    assert_eq!(rt; receiver.sender_count(&rt), 1);
-    assert_eq!(rt; sender.receiver_count(&rt), 1);
-    Ok(())
+    equal(&rt, receiver.sender_count(&rt), 1);
+    equal(&rt, sender.receiver_count(&rt), 1);
 }
 
 #[test]
-fn a_close_comes_once(rt: HostRuntime) -> Result<(), Fail> {
-    let (sender, receiver) = bounded::<u64>(rt.alloc(), 1)?;
-    assert_eq!(rt; sender.close(&rt), Ok(()));
-    assert_eq!(rt; receiver.close(&rt), Err(CloseError()));
-    assert!(rt; sender.is_closed(&rt));
-    assert!(rt; receiver.is_disconnected(&rt));
-    Ok(())
+fn a_close_comes_once(rt: HostRuntime) {
+    let (sender, receiver) = ends::<u64>(&rt, 1);
+    equal(&rt, sender.close(&rt), Ok(()));
+    equal(&rt, receiver.close(&rt), Err(CloseError()));
+    holds(&rt, sender.is_closed(&rt));
+    holds(&rt, receiver.is_disconnected(&rt));
 }
 
 #[test]
-fn terminated_after_the_last_message(rt: HostRuntime) -> Result<(), Fail> {
-    let (sender, receiver) = unbounded::<u64>(rt.alloc())?;
-    assert_eq!(rt; sender.send(&rt, 1), Ok(()));
+fn terminated_after_the_last_message(rt: HostRuntime) {
+    let (sender, receiver) = endless::<u64>(&rt);
+    equal(&rt, sender.send(&rt, 1), Ok(()));
     drop(sender);
-    assert!(rt; receiver.is_disconnected(&rt));
-    assert!(rt; !receiver.is_terminated(&rt));
-    assert_eq!(rt; receiver.recv(&rt), Ok(1));
-    assert!(rt; receiver.is_terminated(&rt));
-    assert_eq!(rt; receiver.recv(&rt), Err(ReceiveError::SendClosed));
-    Ok(())
+    holds(&rt, receiver.is_disconnected(&rt));
+    holds(&rt, !receiver.is_terminated(&rt));
+    equal(&rt, receiver.recv(&rt), Ok(1));
+    holds(&rt, receiver.is_terminated(&rt));
+    equal(&rt, receiver.recv(&rt), Err(ReceiveError::SendClosed));
 }
 
 #[test]
-fn full_and_empty_without_a_buffer(rt: HostRuntime) -> Result<(), Fail> {
-    let (sender, receiver) = bounded::<u64>(rt.alloc(), 0)?;
-    assert!(rt; receiver.is_full(&rt));
-    assert!(rt; receiver.is_empty(&rt));
-    assert!(rt; sender.is_full(&rt));
-    assert!(rt; sender.is_empty(&rt));
-    Ok(())
+fn full_and_empty_without_a_buffer(rt: HostRuntime) {
+    let (sender, receiver) = ends::<u64>(&rt, 0);
+    holds(&rt, receiver.is_full(&rt));
+    holds(&rt, receiver.is_empty(&rt));
+    holds(&rt, sender.is_full(&rt));
+    holds(&rt, sender.is_empty(&rt));
 }
 
 #[test]
-fn the_buffer_outlives_the_last_receiver(rt: HostRuntime) -> Result<(), Fail> {
-    let (sender, receiver) = bounded::<u64>(rt.alloc(), 1)?;
-    assert_eq!(rt; sender.try_send(&rt, 1), Ok(true));
+fn the_buffer_outlives_the_last_receiver(rt: HostRuntime) {
+    let (sender, receiver) = ends::<u64>(&rt, 1);
+    equal(&rt, sender.try_send(&rt, 1), Ok(true));
     drop(receiver);
-    assert!(rt; sender.is_disconnected(&rt));
-    assert!(rt; !sender.is_closed(&rt));
-    assert_eq!(rt; sender.len(&rt), 1);
-    assert_eq!(rt; sender.close(&rt), Ok(()));
-    assert_eq!(rt; sender.len(&rt), 0);
-    Ok(())
+    holds(&rt, sender.is_disconnected(&rt));
+    holds(&rt, !sender.is_closed(&rt));
+    equal(&rt, sender.len(&rt), 1);
+    equal(&rt, sender.close(&rt), Ok(()));
+    equal(&rt, sender.len(&rt), 0);
 }
 
 #[test]
-fn a_clone_after_a_close_counts_nothing(rt: HostRuntime) -> Result<(), Fail> {
-    let (sender, receiver) = bounded::<u64>(rt.alloc(), 1)?;
-    assert_eq!(rt; sender.close(&rt), Ok(()));
-    let other = sender.clone(&rt)?;
-    let another = receiver.clone(&rt)?;
-    assert_eq!(rt; another.sender_count(&rt), 0);
-    assert_eq!(rt; other.receiver_count(&rt), 0);
-    Ok(())
+fn a_clone_after_a_close_counts_nothing(rt: HostRuntime) {
+    let (sender, receiver) = ends::<u64>(&rt, 1);
+    equal(&rt, sender.close(&rt), Ok(()));
+    let other = sender.clone(&rt).expect(&rt, "a clone");
+    let another = receiver.clone(&rt).expect(&rt, "a clone");
+    equal(&rt, another.sender_count(&rt), 0);
+    equal(&rt, other.receiver_count(&rt), 0);
 }
 
 #[test]
-fn a_closed_channel_refuses_each_receive(rt: HostRuntime) -> Result<(), Fail> {
-    let (sender, receiver) = bounded::<u64>(rt.alloc(), 1)?;
+fn a_closed_channel_refuses_each_receive(rt: HostRuntime) {
+    let (sender, receiver) = ends::<u64>(&rt, 1);
     let mut messages = Vec::new(rt.alloc());
-    assert_eq!(rt; sender.close(&rt), Ok(()));
-    assert_eq!(rt; receiver.recv(&rt), Err(ReceiveError::Closed));
-    assert_eq!(rt; receiver.try_recv(&rt), Err(ReceiveError::Closed));
-    assert_eq!(rt; receiver.try_recv_realtime(), Err(ReceiveError::Closed));
-    assert_eq!(rt;
+    equal(&rt, sender.close(&rt), Ok(()));
+    equal(&rt, receiver.recv(&rt), Err(ReceiveError::Closed));
+    equal(&rt, receiver.try_recv(&rt), Err(ReceiveError::Closed));
+    equal(&rt, receiver.try_recv_realtime(), Err(ReceiveError::Closed));
+    equal(
+        &rt,
         receiver.drain_into(&rt, &mut messages),
-        Err(ReceiveError::Closed)
+        Err(ReceiveError::Closed),
     );
-    Ok(())
 }
 
 #[test]
-fn a_closed_channel_refuses_each_send(rt: HostRuntime) -> Result<(), Fail> {
-    let (sender, receiver) = bounded::<u64>(rt.alloc(), 1)?;
+fn a_closed_channel_refuses_each_send(rt: HostRuntime) {
+    let (sender, receiver) = ends::<u64>(&rt, 1);
     let mut option = Some(3);
-    assert_eq!(rt; receiver.close(&rt), Ok(()));
-    assert_eq!(rt; sender.send(&rt, 1), Err(SendError::Closed));
-    assert_eq!(rt; sender.try_send(&rt, 2), Err(SendError::Closed));
-    assert_eq!(rt; sender.try_send_realtime(2), Err(SendError::Closed));
-    assert_eq!(rt;
+    equal(&rt, receiver.close(&rt), Ok(()));
+    equal(&rt, sender.send(&rt, 1), Err(SendError::Closed));
+    equal(&rt, sender.try_send(&rt, 2), Err(SendError::Closed));
+    equal(&rt, sender.try_send_realtime(2), Err(SendError::Closed));
+    equal(
+        &rt,
         sender.try_send_option_realtime(&mut option),
-        Err(SendError::Closed)
+        Err(SendError::Closed),
     );
-    assert_eq!(rt; option, Some(3));
-    Ok(())
+    equal(&rt, option, Some(3));
 }

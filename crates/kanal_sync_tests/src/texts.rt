@@ -1,36 +1,32 @@
 //! The texts of the errors that the calls answer, and of the handles.
-use kanal::bounded;
+use crate::given::{ends, equal};
 use kanal::error::{CloseError, NewError, ReceiveError, SendError, TooMany};
-use std::alloc::Global;
+use std::alloc::AllocGlobal;
 use std::error::Error;
 use std::fmt::Debug;
 use std::process::Abort;
-use std::test::Fail;
 
-/// Checks the text of an error.
-fn prints<E: Error>(rt: &impl Abort, alloc: Global, error: &E, expected: &str) -> Result<(), Fail> {
-    let text = format!(in alloc; "{error}")?;
-    assert_eq!(rt; text.as_str(), expected);
-    Ok(())
+/// Ends the test unless the error is shown so.
+fn prints<E: Error>(rt: &(impl Abort + AllocGlobal), error: &E, expected: &str) {
+    let text = format!(in rt.alloc(); "{error}").expect(rt, "memory for a text");
+    equal(rt, text.as_str(), expected);
 }
 
-/// Checks the debug text of a value.
-fn shows<D: Debug>(rt: &impl Abort, alloc: Global, value: &D, expected: &str) -> Result<(), Fail> {
-    let text = format!(in alloc; "{value:?}")?;
-    assert_eq!(rt; text.as_str(), expected);
-    Ok(())
+/// Ends the test unless the value is named so.
+fn shows<D: Debug>(rt: &(impl Abort + AllocGlobal), value: &D, expected: &str) {
+    let text = format!(in rt.alloc(); "{value:?}").expect(rt, "memory for a text");
+    equal(rt, text.as_str(), expected);
 }
 
 #[test]
-fn handles_show_their_kind(rt: HostRuntime) -> Result<(), Fail> {
-    let (sender, receiver) = bounded::<u64>(rt.alloc(), 1)?;
-    shows(&rt, rt.alloc(), &sender, "Sender { .. }")?;
-    shows(&rt, rt.alloc(), &receiver, "Receiver { .. }")?;
-    Ok(())
+fn handles_show_their_kind(rt: HostRuntime) {
+    let (sender, receiver) = ends::<u64>(&rt, 1);
+    shows(&rt, &sender, "Sender { .. }");
+    shows(&rt, &receiver, "Receiver { .. }");
 }
 
 #[test]
-fn errors_of_a_send(rt: HostRuntime) -> Result<(), Fail> {
+fn errors_of_a_send(rt: HostRuntime) {
     for (error, text) in [
         (SendError::Closed, "send to a closed channel"),
         (SendError::ReceiveClosed, "send to a half closed channel"),
@@ -38,13 +34,12 @@ fn errors_of_a_send(rt: HostRuntime) -> Result<(), Fail> {
         (SendError::TooMany, "too many"),
         (SendError::Finished, "already finished"),
     ] {
-        prints(&rt, rt.alloc(), &error, text)?;
+        prints(&rt, &error, text);
     }
-    Ok(())
 }
 
 #[test]
-fn errors_of_a_receive(rt: HostRuntime) -> Result<(), Fail> {
+fn errors_of_a_receive(rt: HostRuntime) {
     for (error, text) in [
         (ReceiveError::Closed, "receive from a closed channel"),
         (
@@ -55,17 +50,14 @@ fn errors_of_a_receive(rt: HostRuntime) -> Result<(), Fail> {
         (ReceiveError::TooMany, "too many"),
         (ReceiveError::Finished, "already finished"),
     ] {
-        prints(&rt, rt.alloc(), &error, text)?;
+        prints(&rt, &error, text);
     }
-    Ok(())
 }
 
 #[test]
-fn errors_of_the_other_calls(rt: HostRuntime) -> Result<(), Fail> {
-    let alloc = rt.alloc();
-    prints(&rt, alloc, &NewError::TooLarge, "capacity too large")?;
-    prints(&rt, alloc, &NewError::NoMemory, "no memory")?;
-    prints(&rt, alloc, &CloseError(), "channel is already closed")?;
-    prints(&rt, alloc, &TooMany, "too many")?;
-    Ok(())
+fn errors_of_the_other_calls(rt: HostRuntime) {
+    prints(&rt, &NewError::TooLarge, "capacity too large");
+    prints(&rt, &NewError::NoMemory, "no memory");
+    prints(&rt, &CloseError(), "channel is already closed");
+    prints(&rt, &TooMany, "too many");
 }

@@ -1,13 +1,14 @@
 //! Messages that count their drops, sent by a thread that may wait: taken, or refused by a close or
 //! by the last receiver's drop. The answer is the same where the end comes before the wait.
+use crate::given::{ends, equal, holds};
 use crate::threads::{Sent, TURNS, pass_turns};
 use kanal::error::SendError;
-use kanal::{Receiver, Sender, bounded};
-use std::alloc::{AllocError, Global};
+use kanal::{Receiver, Sender};
+use std::alloc::{AllocGlobal, Global};
+use std::process::Abort;
 use std::sync::atomic::AtomicU64;
 use std::sync::atomic::Ordering::SeqCst;
 use std::sync::{Arc, Wait};
-use std::test::Fail;
 use std::thread;
 use std::thread::{JoinHandle, Threads};
 
@@ -23,14 +24,23 @@ impl Drop for Counted {
     }
 }
 
+/// A counter at 0.
+fn counter(rt: &(impl Abort + AllocGlobal)) -> Arc<AtomicU64, Global> {
+    Arc::new(rt.alloc(), AtomicU64::new(0)).expect(rt, "memory for a counter")
+}
+
+/// The same counter once more.
+fn shared(rt: &impl Abort, drops: &Arc<AtomicU64, Global>) -> Arc<AtomicU64, Global> {
+    Arc::try_clone(drops).expect(rt, "a count of the counter")
+}
+
 /// Sends the message in a thread of its own.
-fn start_send<R: Threads + Wait + Copy + Send + 'static>(
+fn start_send<R: Threads + Wait + Abort + Copy + Send + 'static>(
     rt: R,
     sender: Sender<Counted>,
     message: Counted,
-) -> Result<JoinHandle<Sent>, AllocError> {
-    let thread = thread::spawn(&rt, move || sender.send(&rt, message))?;
-    Ok(thread)
+) -> JoinHandle<Sent> {
+    thread::spawn(&rt, move || sender.send(&rt, message)).expect(&rt, "a thread")
 }
 
 /// A thread that sends one message to a channel with no buffer.
@@ -43,72 +53,83 @@ struct Sending {
 
 impl Sending {
     /// Starts the thread, and lets it run for so many turns.
-    fn start<R: Threads + Wait + Copy + Send + 'static>(
+    fn start<R: Threads + Wait + Abort + AllocGlobal + Copy + Send + 'static>(
         rt: R,
-        alloc: Global,
         turns: u32,
-    ) -> Result<Self, Fail> {
-        let drops = Arc::new(alloc, AtomicU64::new(0))?;
-        let (sender, receiver) = bounded::<Counted>(alloc, 0)?;
+    ) -> Self {
+        let drops = counter(&rt);
+        let (sender, receiver) = ends::<Counted>(&rt, 0);
         let message = Counted {
-            drops: Arc::try_clone(&drops)?,
+            drops: shared(&rt, &drops),
         };
-        let thread = start_send(rt, sender, message)?;
+        let thread = start_send(rt, sender, message);
         pass_turns(turns);
-        Ok(Sending {
+        Sending {
             thread,
             receiver,
             drops,
-        })
+        }
     }
-}
 
-#[test]
-fn a_taken_message_is_dropped_by_its_receiver(rt: HostRuntime) -> Result<(), Fail> {
-    for turns in TURNS {
+    /// The receiver takes the message, and then drops it.
+    fn take<R: Threads + Wait + Abort>(self, rt: &R) {
         let Sending {
             thread,
             receiver,
             drops,
-        } = Sending::start(rt, rt.alloc(), turns)?;
-        let got = receiver.recv(&rt);
-        assert!(rt; got.is_ok());
-        assert_eq!(rt; thread.join(&rt), Ok(()));
-        assert_eq!(rt; drops.load(SeqCst), 0);
+        } = self;
+        let got = receiver.recv(rt);
+        holds(rt, got.is_ok());
+        equal(rt, thread.join(rt), Ok(()));
+        equal(rt, drops.load(SeqCst), 0);
         drop(got);
-        assert_eq!(rt; drops.load(SeqCst), 1);
+        equal(rt, drops.load(SeqCst), 1);
     }
-    Ok(())
-}
 
-#[test]
-fn a_close_ends_a_send_and_its_message_is_dropped(rt: HostRuntime) -> Result<(), Fail> {
-    for turns in TURNS {
+    /// The receiver closes the channel.
+    fn close<R: Threads + Wait + Abort>(self, rt: &R) {
         let Sending {
             thread,
             receiver,
             drops,
-        } = Sending::start(rt, rt.alloc(), turns)?;
-        assert_eq!(rt; receiver.close(&rt), Ok(()));
-        assert_eq!(rt; thread.join(&rt), Err(SendError::Closed));
-        assert_eq!(rt; drops.load(SeqCst), 1);
+        } = self;
+        equal(rt, receiver.close(rt), Ok(()));
+        equal(rt, thread.join(rt), Err(SendError::Closed));
+        equal(rt, drops.load(SeqCst), 1);
     }
-    Ok(())
-}
 
-#[test]
-fn the_last_receiver_ends_a_send_and_its_message_is_dropped(rt: HostRuntime) -> Result<(), Fail> {
-    for turns in TURNS {
+    /// The receiver is dropped.
+    fn leave<R: Threads + Wait + Abort>(self, rt: &R) {
         let Sending {
             thread,
             receiver,
             drops,
-        } = Sending::start(rt, rt.alloc(), turns)?;
+        } = self;
         drop(receiver);
-        assert_eq!(rt; thread.join(&rt), Err(SendError::ReceiveClosed));
-        assert_eq!(rt; drops.load(SeqCst), 1);
+        equal(rt, thread.join(rt), Err(SendError::ReceiveClosed));
+        equal(rt, drops.load(SeqCst), 1);
     }
-    Ok(())
+}
+
+#[test]
+fn a_taken_message_is_dropped_by_its_receiver(rt: HostRuntime) {
+    for turns in TURNS {
+        Sending::start(rt, turns).take(&rt);
+    }
+}
+
+#[test]
+fn a_close_ends_a_send_and_its_message_is_dropped(rt: HostRuntime) {
+    for turns in TURNS {
+        Sending::start(rt, turns).close(&rt);
+    }
+}
+
+#[test]
+fn the_last_receiver_ends_a_send_and_its_message_is_dropped(rt: HostRuntime) {
+    for turns in TURNS {
+        Sending::start(rt, turns).leave(&rt);
+    }
 }
 
 /// How many messages go through a buffer.
@@ -129,13 +150,12 @@ fn send_many<R: Wait>(rt: &R, sender: &Sender<Counted>, drops: &Arc<AtomicU64, G
 }
 
 /// Sends so many messages in a thread of its own.
-fn start_many<R: Threads + Wait + Copy + Send + 'static>(
+fn start_many<R: Threads + Wait + Abort + Copy + Send + 'static>(
     rt: R,
     sender: Sender<Counted>,
     drops: Arc<AtomicU64, Global>,
-) -> Result<JoinHandle<u64>, AllocError> {
-    let thread = thread::spawn(&rt, move || send_many(&rt, &sender, &drops))?;
-    Ok(thread)
+) -> JoinHandle<u64> {
+    thread::spawn(&rt, move || send_many(&rt, &sender, &drops)).expect(&rt, "a thread")
 }
 
 /// Receives and drops at most so many messages. How many came.
@@ -151,30 +171,28 @@ fn receive_many<R: Wait>(rt: &R, receiver: &Receiver<Counted>, limit: u64) -> u6
 }
 
 #[test]
-fn each_message_through_a_buffer_is_dropped_once(rt: HostRuntime) -> Result<(), Fail> {
+fn each_message_through_a_buffer_is_dropped_once(rt: HostRuntime) {
     for capacity in [1, 4] {
-        let drops = Arc::new(rt.alloc(), AtomicU64::new(0))?;
-        let (sender, receiver) = bounded::<Counted>(rt.alloc(), capacity)?;
-        let thread = start_many(rt, sender, Arc::try_clone(&drops)?)?;
-        assert_eq!(rt; receive_many(&rt, &receiver, MANY + 1), MANY);
-        assert_eq!(rt; thread.join(&rt), MANY);
-        assert_eq!(rt; drops.load(SeqCst), MANY);
+        let drops = counter(&rt);
+        let (sender, receiver) = ends::<Counted>(&rt, capacity);
+        let thread = start_many(rt, sender, shared(&rt, &drops));
+        equal(&rt, receive_many(&rt, &receiver, MANY + 1), MANY);
+        equal(&rt, thread.join(&rt), MANY);
+        equal(&rt, drops.load(SeqCst), MANY);
     }
-    Ok(())
 }
 
 /// The receiver goes after a part of the messages: those are dropped by it, the others are refused,
 /// or dropped with the channel.
 #[test]
-fn each_message_is_dropped_once_where_the_receiver_goes(rt: HostRuntime) -> Result<(), Fail> {
+fn each_message_is_dropped_once_where_the_receiver_goes(rt: HostRuntime) {
     for capacity in [1, 4] {
-        let drops = Arc::new(rt.alloc(), AtomicU64::new(0))?;
-        let (sender, receiver) = bounded::<Counted>(rt.alloc(), capacity)?;
-        let thread = start_many(rt, sender, Arc::try_clone(&drops)?)?;
-        assert_eq!(rt; receive_many(&rt, &receiver, 100), 100);
+        let drops = counter(&rt);
+        let (sender, receiver) = ends::<Counted>(&rt, capacity);
+        let thread = start_many(rt, sender, shared(&rt, &drops));
+        equal(&rt, receive_many(&rt, &receiver, 100), 100);
         drop(receiver);
-        assert!(rt; thread.join(&rt) < MANY);
-        assert_eq!(rt; drops.load(SeqCst), MANY);
+        holds(&rt, thread.join(&rt) < MANY);
+        equal(&rt, drops.load(SeqCst), MANY);
     }
-    Ok(())
 }

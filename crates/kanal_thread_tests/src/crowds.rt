@@ -1,9 +1,10 @@
 //! Several threads on each side: all that was sent arrives, once.
+use crate::given::{endless, ends, equal, holds};
 use crate::threads::{Sent, Tally, receive_all, start_numbers, start_receive_all};
-use kanal::{Receiver, Sender, bounded, unbounded};
-use std::alloc::Global;
+use kanal::{Receiver, Sender};
+use std::alloc::AllocGlobal;
+use std::process::Abort;
 use std::sync::Wait;
-use std::test::Fail;
 use std::thread::{JoinHandle, Threads};
 
 /// How many threads send, and how many receive.
@@ -19,35 +20,43 @@ const EACH: u64 = 100;
 /// The sum of the numbers of one sender.
 const SUM: u64 = 4950;
 
+/// A clone of the sender.
+fn one_more_sender<R: Wait + Abort>(rt: &R, sender: &Sender<u64>) -> Sender<u64> {
+    sender.clone(rt).expect(rt, "a clone")
+}
+
+/// A clone of the receiver.
+fn one_more_receiver<R: Wait + Abort>(rt: &R, receiver: &Receiver<u64>) -> Receiver<u64> {
+    receiver.clone(rt).expect(rt, "a clone")
+}
+
 /// Starts threads that send numbers, each through a clone.
-fn start_senders<R: Threads + Wait + Copy + Send + 'static>(
+fn start_senders<R: Threads + Wait + Abort + AllocGlobal + Copy + Send + 'static>(
     rt: R,
-    alloc: Global,
     sender: &Sender<u64>,
     threads: u64,
     first: u64,
-) -> Result<Vec<JoinHandle<Sent>>, Fail> {
-    let mut started = Vec::new(alloc);
+) -> Vec<JoinHandle<Sent>> {
+    let mut started = Vec::new(rt.alloc());
     for _ in 0..threads {
-        let theirs = sender.clone(&rt)?;
-        started.push(start_numbers(rt, theirs, first, EACH)?)?;
+        let thread = start_numbers(rt, one_more_sender(&rt, sender), first, EACH);
+        started.push(thread).expect(&rt, "memory for a thread");
     }
-    Ok(started)
+    started
 }
 
 /// Starts threads that receive until the channel ends, each through a clone.
-fn start_receivers<R: Threads + Wait + Copy + Send + 'static>(
+fn start_receivers<R: Threads + Wait + Abort + AllocGlobal + Copy + Send + 'static>(
     rt: R,
-    alloc: Global,
     receiver: &Receiver<u64>,
     threads: u64,
-) -> Result<Vec<JoinHandle<Tally>>, Fail> {
-    let mut started = Vec::new(alloc);
+) -> Vec<JoinHandle<Tally>> {
+    let mut started = Vec::new(rt.alloc());
     for _ in 0..threads {
-        let theirs = receiver.clone(&rt)?;
-        started.push(start_receive_all(rt, theirs)?)?;
+        let thread = start_receive_all(rt, one_more_receiver(&rt, receiver));
+        started.push(thread).expect(&rt, "memory for a thread");
     }
-    Ok(started)
+    started
 }
 
 /// Joins the threads that send, and tells whether all their sends went through.
@@ -71,20 +80,19 @@ fn join_receivers<R: Threads>(rt: &R, started: Vec<JoinHandle<Tally>>) -> Tally 
 }
 
 /// What the crowd's receivers got, where all its sends went through.
-fn exchange<R: Threads + Wait + Copy + Send + 'static>(
+fn exchange<R: Threads + Wait + Abort + AllocGlobal + Copy + Send + 'static>(
     rt: R,
-    alloc: Global,
     ends: (Sender<u64>, Receiver<u64>),
     crowd: Crowd,
-) -> Result<Option<Tally>, Fail> {
+) -> Option<Tally> {
     let (sender, receiver) = ends;
-    let sending = start_senders(rt, alloc, &sender, crowd.senders, 0)?;
+    let sending = start_senders(rt, &sender, crowd.senders, 0);
     drop(sender);
-    let receiving = start_receivers(rt, alloc, &receiver, crowd.receivers)?;
+    let receiving = start_receivers(rt, &receiver, crowd.receivers);
     drop(receiver);
     let all = join_senders(&rt, sending);
     let tally = join_receivers(&rt, receiving);
-    Ok(all.then_some(tally))
+    all.then_some(tally)
 }
 
 const ONE_TO_ONE: Crowd = Crowd {
@@ -121,52 +129,47 @@ const CROWDS: [(Crowd, Option<Tally>); 3] = [
     (FOUR_TO_FOUR, FROM_FOUR),
 ];
 
-#[test]
-fn crowds_without_a_buffer(rt: HostRuntime) -> Result<(), Fail> {
+/// Each crowd exchanges its numbers through a buffer with so many places.
+fn exchange_through<R: Threads + Wait + Abort + AllocGlobal + Copy + Send + 'static>(
+    rt: R,
+    capacity: usize,
+) {
     for (crowd, expected) in CROWDS {
-        let ends = bounded(rt.alloc(), 0)?;
-        assert_eq!(rt; exchange(rt, rt.alloc(), ends, crowd)?, expected);
+        equal(&rt, exchange(rt, ends(&rt, capacity), crowd), expected);
     }
-    Ok(())
 }
 
 #[test]
-fn crowds_with_a_buffer_of_one(rt: HostRuntime) -> Result<(), Fail> {
-    for (crowd, expected) in CROWDS {
-        let ends = bounded(rt.alloc(), 1)?;
-        assert_eq!(rt; exchange(rt, rt.alloc(), ends, crowd)?, expected);
-    }
-    Ok(())
+fn crowds_without_a_buffer(rt: HostRuntime) {
+    exchange_through(rt, 0);
 }
 
 #[test]
-fn crowds_with_a_buffer_of_four(rt: HostRuntime) -> Result<(), Fail> {
-    for (crowd, expected) in CROWDS {
-        let ends = bounded(rt.alloc(), 4)?;
-        assert_eq!(rt; exchange(rt, rt.alloc(), ends, crowd)?, expected);
-    }
-    Ok(())
+fn crowds_with_a_buffer_of_one(rt: HostRuntime) {
+    exchange_through(rt, 1);
 }
 
 #[test]
-fn crowds_without_a_limit(rt: HostRuntime) -> Result<(), Fail> {
+fn crowds_with_a_buffer_of_four(rt: HostRuntime) {
+    exchange_through(rt, 4);
+}
+
+#[test]
+fn crowds_without_a_limit(rt: HostRuntime) {
     for (crowd, expected) in CROWDS {
-        let ends = unbounded(rt.alloc())?;
-        assert_eq!(rt; exchange(rt, rt.alloc(), ends, crowd)?, expected);
+        equal(&rt, exchange(rt, endless(&rt), crowd), expected);
     }
-    Ok(())
 }
 
 /// Eight threads send 1 to 99 to this one.
 #[test]
-fn eight_senders_without_a_buffer(rt: HostRuntime) -> Result<(), Fail> {
-    let (sender, receiver) = bounded::<u64>(rt.alloc(), 0)?;
-    let started = start_senders(rt, rt.alloc(), &sender, 8, 1)?;
+fn eight_senders_without_a_buffer(rt: HostRuntime) {
+    let (sender, receiver) = ends::<u64>(&rt, 0);
+    let started = start_senders(rt, &sender, 8, 1);
     drop(sender);
-    let first = receiver.recv(&rt)?;
+    let first = receiver.recv(&rt).expect(&rt, "a number");
     let rest = receive_all(&rt, &receiver);
-    assert!(rt; join_senders(&rt, started));
-    assert_eq!(rt; rest.sum.wrapping_add(first), 39600);
-    assert_eq!(rt; rest.count, 8 * 99 - 1);
-    Ok(())
+    holds(&rt, join_senders(&rt, started));
+    equal(&rt, rest.sum.wrapping_add(first), 39600);
+    equal(&rt, rest.count, 8 * 99 - 1);
 }

@@ -10,6 +10,8 @@ mod crowds;
 #[cfg(test)]
 mod ends;
 #[cfg(test)]
+mod given;
+#[cfg(test)]
 mod order;
 #[cfg(test)]
 mod shared;

@@ -1,8 +1,9 @@
 //! First in, first out: one thread sends and this one receives.
+use crate::given::{ends, equal};
 use crate::threads::start_numbers;
-use kanal::{Receiver, Sender, bounded};
+use kanal::{Receiver, Sender};
+use std::process::Abort;
 use std::sync::Wait;
-use std::test::Fail;
 use std::thread::Threads;
 
 /// How many numbers are sent.
@@ -22,28 +23,24 @@ fn receive_in_order<R: Wait>(rt: &R, receiver: &Receiver<u64>) -> Option<u64> {
 }
 
 /// Sends in a thread of its own, and receives.
-fn pass_on<R: Threads + Wait + Copy + Send + 'static>(
+fn pass_on<R: Threads + Wait + Abort + Copy + Send + 'static>(
     rt: R,
     ends: (Sender<u64>, Receiver<u64>),
-) -> Result<Option<u64>, Fail> {
+) -> Option<u64> {
     let (sender, receiver) = ends;
-    let thread = start_numbers(rt, sender, 0, NUMBERS)?;
+    let thread = start_numbers(rt, sender, 0, NUMBERS);
     let came = receive_in_order(&rt, &receiver);
     drop(receiver);
-    thread.join(&rt)?;
-    Ok(came)
+    equal(&rt, thread.join(&rt), Ok(()));
+    came
 }
 
 #[test]
-fn numbers_come_in_order_without_a_buffer(rt: HostRuntime) -> Result<(), Fail> {
-    let ends = bounded(rt.alloc(), 0)?;
-    assert_eq!(rt; pass_on(rt, ends)?, Some(NUMBERS));
-    Ok(())
+fn numbers_come_in_order_without_a_buffer(rt: HostRuntime) {
+    equal(&rt, pass_on(rt, ends(&rt, 0)), Some(NUMBERS));
 }
 
 #[test]
-fn numbers_come_in_order_through_a_buffer(rt: HostRuntime) -> Result<(), Fail> {
-    let ends = bounded(rt.alloc(), 3)?;
-    assert_eq!(rt; pass_on(rt, ends)?, Some(NUMBERS));
-    Ok(())
+fn numbers_come_in_order_through_a_buffer(rt: HostRuntime) {
+    equal(&rt, pass_on(rt, ends(&rt, 3)), Some(NUMBERS));
 }

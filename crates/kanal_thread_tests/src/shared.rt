@@ -1,8 +1,8 @@
 //! One handle that several threads use at once, through a reference.
+use crate::given::{ends, equal, holds};
 use kanal::error::SendError;
-use kanal::{Receiver, Sender, bounded};
+use kanal::{Receiver, Sender};
 use std::sync::Wait;
-use std::test::Fail;
 use std::thread;
 use std::thread::Threads;
 
@@ -37,6 +37,12 @@ struct Counts {
     left: u64,
     right: u64,
 }
+
+/// Where all notes came.
+const ALL: Counts = Counts {
+    left: NOTES,
+    right: NOTES,
+};
 
 impl Counts {
     /// Counts one note, if it is the next of its party.
@@ -85,18 +91,13 @@ fn two_senders<R: Threads + Wait + Sync>(
 }
 
 #[test]
-fn two_threads_share_a_sender(rt: HostRuntime) -> Result<(), Fail> {
+fn two_threads_share_a_sender(rt: HostRuntime) {
     for capacity in [0, 2] {
-        let (sender, receiver) = bounded::<Note>(rt.alloc(), capacity)?;
+        let (sender, receiver) = ends::<Note>(&rt, capacity);
         let (sent, counts) = two_senders(&rt, &sender, &receiver);
-        let expected = Counts {
-            left: NOTES,
-            right: NOTES,
-        };
-        assert!(rt; sent);
-        assert_eq!(rt; counts, Some(expected));
+        holds(&rt, sent);
+        equal(&rt, counts, Some(ALL));
     }
-    Ok(())
 }
 
 /// Receives so many numbers as one thread sends to two receivers, which must rise. Their sum.
@@ -150,11 +151,10 @@ fn two_receivers<R: Threads + Wait + Sync>(
 }
 
 #[test]
-fn two_threads_share_a_receiver(rt: HostRuntime) -> Result<(), Fail> {
+fn two_threads_share_a_receiver(rt: HostRuntime) {
     for capacity in [0, 2] {
-        let (sender, receiver) = bounded::<u64>(rt.alloc(), capacity)?;
+        let (sender, receiver) = ends::<u64>(&rt, capacity);
         // The numbers below 400.
-        assert_eq!(rt; two_receivers(&rt, &sender, &receiver), Some(79800));
+        equal(&rt, two_receivers(&rt, &sender, &receiver), Some(79800));
     }
-    Ok(())
 }

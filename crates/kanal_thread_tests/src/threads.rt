@@ -3,7 +3,7 @@
 //! The tests of this crate start their threads here: one function starts one kind of thread.
 use kanal::error::{ReceiveError, SendError};
 use kanal::{Receiver, Sender};
-use std::alloc::AllocError;
+use std::process::Abort;
 use std::sync::Wait;
 use std::thread;
 use std::thread::{JoinHandle, Threads};
@@ -53,30 +53,27 @@ pub fn receive_all<R: Wait>(rt: &R, receiver: &Receiver<u64>) -> Tally {
 }
 
 /// Receives one number.
-pub fn start_receive<R: Threads + Wait + Copy + Send + 'static>(
+pub fn start_receive<R: Threads + Wait + Abort + Copy + Send + 'static>(
     rt: R,
     receiver: Receiver<u64>,
-) -> Result<JoinHandle<Got>, AllocError> {
-    let thread = thread::spawn(&rt, move || receiver.recv(&rt))?;
-    Ok(thread)
+) -> JoinHandle<Got> {
+    thread::spawn(&rt, move || receiver.recv(&rt)).expect(&rt, "a thread")
 }
 
 /// Sends the numbers from the first up to the one before the end.
-pub fn start_numbers<R: Threads + Wait + Copy + Send + 'static>(
+pub fn start_numbers<R: Threads + Wait + Abort + Copy + Send + 'static>(
     rt: R,
     sender: Sender<u64>,
     first: u64,
     end: u64,
-) -> Result<JoinHandle<Sent>, AllocError> {
-    let thread = thread::spawn(&rt, move || send_numbers(&rt, &sender, first, end))?;
-    Ok(thread)
+) -> JoinHandle<Sent> {
+    thread::spawn(&rt, move || send_numbers(&rt, &sender, first, end)).expect(&rt, "a thread")
 }
 
 /// Receives until the channel ends.
-pub fn start_receive_all<R: Threads + Wait + Copy + Send + 'static>(
+pub fn start_receive_all<R: Threads + Wait + Abort + Copy + Send + 'static>(
     rt: R,
     receiver: Receiver<u64>,
-) -> Result<JoinHandle<Tally>, AllocError> {
-    let thread = thread::spawn(&rt, move || receive_all(&rt, &receiver))?;
-    Ok(thread)
+) -> JoinHandle<Tally> {
+    thread::spawn(&rt, move || receive_all(&rt, &receiver)).expect(&rt, "a thread")
 }

@@ -1,8 +1,8 @@
 //! A send and a receive that wait, and what ends the wait well: the other side's call.
+use crate::given::{ends, equal, holds};
 use crate::threads::{pass_turns, start_numbers, start_receive};
-use kanal::{Receiver, Sender, bounded};
+use kanal::{Receiver, Sender};
 use std::sync::Wait;
-use std::test::Fail;
 use std::thread;
 
 /// How often a test looks before it gives up.
@@ -42,55 +42,50 @@ fn drain_a_waiter<R: Wait>(rt: &R, receiver: &Receiver<u64>, into: &mut Vec<u64>
 }
 
 #[test]
-fn a_send_waits_for_a_place(rt: HostRuntime) -> Result<(), Fail> {
-    let (sender, receiver) = bounded::<u64>(rt.alloc(), 1)?;
-    assert_eq!(rt; sender.send(&rt, 1), Ok(()));
-    let thread = start_numbers(rt, sender, 2, 3)?;
+fn a_send_waits_for_a_place(rt: HostRuntime) {
+    let (sender, receiver) = ends::<u64>(&rt, 1);
+    equal(&rt, sender.send(&rt, 1), Ok(()));
+    let thread = start_numbers(rt, sender, 2, 3);
     pass_turns(1000);
-    assert_eq!(rt; receiver.recv(&rt), Ok(1));
-    assert_eq!(rt; receiver.recv(&rt), Ok(2));
-    assert_eq!(rt; thread.join(&rt), Ok(()));
-    Ok(())
+    equal(&rt, receiver.recv(&rt), Ok(1));
+    equal(&rt, receiver.recv(&rt), Ok(2));
+    equal(&rt, thread.join(&rt), Ok(()));
 }
 
 #[test]
-fn a_receive_waits_for_a_message(rt: HostRuntime) -> Result<(), Fail> {
-    let (sender, receiver) = bounded::<u64>(rt.alloc(), 1)?;
-    let thread = start_receive(rt, receiver)?;
+fn a_receive_waits_for_a_message(rt: HostRuntime) {
+    let (sender, receiver) = ends::<u64>(&rt, 1);
+    let thread = start_receive(rt, receiver);
     pass_turns(1000);
-    assert_eq!(rt; sender.send(&rt, 7), Ok(()));
-    assert_eq!(rt; thread.join(&rt), Ok(7));
-    Ok(())
+    equal(&rt, sender.send(&rt, 7), Ok(()));
+    equal(&rt, thread.join(&rt), Ok(7));
 }
 
 /// With no buffer a message is taken only where a receiver waits.
 #[test]
-fn a_waiting_receiver_is_handed_the_message(rt: HostRuntime) -> Result<(), Fail> {
-    let (sender, receiver) = bounded::<u64>(rt.alloc(), 0)?;
-    let thread = start_receive(rt, receiver)?;
-    assert!(rt; send_to_a_waiter(&rt, &sender, 7));
-    assert_eq!(rt; thread.join(&rt), Ok(7));
-    Ok(())
+fn a_waiting_receiver_is_handed_the_message(rt: HostRuntime) {
+    let (sender, receiver) = ends::<u64>(&rt, 0);
+    let thread = start_receive(rt, receiver);
+    holds(&rt, send_to_a_waiter(&rt, &sender, 7));
+    equal(&rt, thread.join(&rt), Ok(7));
 }
 
 /// With no buffer a message is there only where a sender waits.
 #[test]
-fn a_waiting_sender_hands_over_its_message(rt: HostRuntime) -> Result<(), Fail> {
-    let (sender, receiver) = bounded::<u64>(rt.alloc(), 0)?;
-    let thread = start_numbers(rt, sender, 7, 8)?;
-    assert_eq!(rt; receive_from_a_waiter(&rt, &receiver), Some(7));
-    assert_eq!(rt; thread.join(&rt), Ok(()));
-    Ok(())
+fn a_waiting_sender_hands_over_its_message(rt: HostRuntime) {
+    let (sender, receiver) = ends::<u64>(&rt, 0);
+    let thread = start_numbers(rt, sender, 7, 8);
+    equal(&rt, receive_from_a_waiter(&rt, &receiver), Some(7));
+    equal(&rt, thread.join(&rt), Ok(()));
 }
 
 /// A drain takes the messages of waiting senders, too.
 #[test]
-fn a_drain_takes_a_waiting_senders_message(rt: HostRuntime) -> Result<(), Fail> {
-    let (sender, receiver) = bounded::<u64>(rt.alloc(), 0)?;
+fn a_drain_takes_a_waiting_senders_message(rt: HostRuntime) {
+    let (sender, receiver) = ends::<u64>(&rt, 0);
     let mut messages = Vec::new(rt.alloc());
-    let thread = start_numbers(rt, sender, 7, 8)?;
-    assert_eq!(rt; drain_a_waiter(&rt, &receiver, &mut messages), 1);
-    assert_eq!(rt; messages.as_slice(), [7].as_slice());
-    assert_eq!(rt; thread.join(&rt), Ok(()));
-    Ok(())
+    let thread = start_numbers(rt, sender, 7, 8);
+    equal(&rt, drain_a_waiter(&rt, &receiver, &mut messages), 1);
+    equal(&rt, messages.as_slice(), [7].as_slice());
+    equal(&rt, thread.join(&rt), Ok(()));
 }

@@ -7,6 +7,8 @@ mod clocks;
 #[cfg(test)]
 mod counted;
 #[cfg(test)]
+mod given;
+#[cfg(test)]
 mod meets;
 #[cfg(test)]
 mod receives;

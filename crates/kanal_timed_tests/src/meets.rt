@@ -1,13 +1,14 @@
 //! A deadline that meets a receiver: each message is received once or given up once.
 use crate::counted::Counted;
+use crate::given::{counter, ends, equal, holds, shared};
 use kanal::error::SendErrorTimeout;
-use kanal::{Clock, Sender, bounded};
-use std::alloc::{AllocError, Global};
+use kanal::{Clock, Receiver, Sender};
+use std::alloc::Global;
 use std::cell::Cell;
+use std::process::Abort;
 use std::sync::atomic::AtomicU64;
 use std::sync::atomic::Ordering::SeqCst;
 use std::sync::{Arc, Wait};
-use std::test::Fail;
 use std::thread::{JoinHandle, Threads};
 use std::time::Duration;
 use std::{thread, time};
@@ -64,37 +65,46 @@ fn send_all<R: Wait + time::Clock>(
     given_up
 }
 
-fn start<R: Threads + Wait + time::Clock + Copy + Send + 'static>(
+fn start<R: Threads + Wait + Abort + time::Clock + Copy + Send + 'static>(
     rt: R,
     sender: Sender<Counted>,
     drops: Arc<AtomicU64, Global>,
-) -> Result<JoinHandle<u64>, AllocError> {
-    let thread = thread::spawn(&rt, move || send_all(&rt, &sender, &drops))?;
-    Ok(thread)
+) -> JoinHandle<u64> {
+    thread::spawn(&rt, move || send_all(&rt, &sender, &drops)).expect(&rt, "a thread")
 }
 
-#[test]
-fn a_deadline_meets_a_receiver(rt: HostRuntime) -> Result<(), Fail> {
-    let drops = Arc::new(rt.alloc(), AtomicU64::new(0))?;
-    let (sender, receiver) = bounded::<Counted>(rt.alloc(), 0)?;
-    let thread = start(rt, sender, Arc::try_clone(&drops)?)?;
+/// Looks until the first message is given up.
+fn await_one_drop(drops: &AtomicU64) {
     for _ in 0..TURNS {
         if drops.load(SeqCst) == 1 {
             break;
         }
     }
+}
+
+/// Receives until the channel ends; answers how many messages came.
+fn receive_all<R: Wait>(rt: &R, receiver: &Receiver<Counted>) -> u64 {
     let mut received = 0u64;
     for _ in 0..TURNS {
-        match receiver.try_recv(&rt) {
+        match receiver.try_recv(rt) {
             Ok(Some(_message)) => received = received.wrapping_add(1),
             Ok(None) => {},
             Err(_) => break,
         }
     }
+    received
+}
+
+#[test]
+fn a_deadline_meets_a_receiver(rt: HostRuntime) {
+    let drops = counter(&rt);
+    let (sender, receiver) = ends::<Counted>(&rt, 0);
+    let thread = start(rt, sender, shared(&rt, &drops));
+    await_one_drop(&drops);
+    let received = receive_all(&rt, &receiver);
     let given_up = thread.join(&rt);
-    assert!(rt; received > 0);
-    assert!(rt; given_up > 0);
-    assert_eq!(rt; received.wrapping_add(given_up), ROUNDS);
-    assert_eq!(rt; drops.load(SeqCst), ROUNDS);
-    Ok(())
+    holds(&rt, received > 0);
+    holds(&rt, given_up > 0);
+    equal(&rt, received.wrapping_add(given_up), ROUNDS);
+    equal(&rt, drops.load(SeqCst), ROUNDS);
 }

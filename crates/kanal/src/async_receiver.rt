@@ -1,24 +1,16 @@
-//! The receiver of a channel for tasks: the receiving handle that holds the channel, with the bodies
-//! of all that a receiver does.
+//! The receiver of a channel for tasks: the receiving handle that holds the channel.
 //!
-//! Stands on the lock and the steps. It alone has a receiver's drop; the receiver for threads and the
-//! view are made over it.
+//! Stands on the shared channel; nothing is done here but handing on and counting. It alone has a
+//! receiver's drop; the receiver for threads and the view are made over it.
 ghost use Rattle.std.specs.Prelude.{◌≡◌, ◌++◌, List, length, Some, IfOk, IfErr, false, codes};
-ghost use Rattle.kanal.specs.Futures.{receive_is_over, stream_is_over};
+ghost use Rattle.kanal_shared.specs.Futures.{receive_is_over, stream_is_over};
 
-use crate::future::{ReceiveFuture, ReceiveStream};
 use crate::receiver::Receiver;
 use crate::receiver_view::ReceiverView;
-use crate::shared::Shared;
 use kanal_core::error::{CloseError, ReceiveError, TooMany};
-use kanal_steps::steps;
-use kanal_steps::steps::Tried;
-use std::alloc::Global;
+use kanal_shared::{ReceiveFuture, ReceiveStream, Shared};
 use std::fmt;
 use std::sync::{Arc, Wait};
-
-pub(crate) mod blocking;
-mod timed;
 
 /// Receives messages of a channel in a task.
 ///
@@ -26,30 +18,24 @@ mod timed;
 /// for nobody.
 pub struct AsyncReceiver<T> {
     shared: Arc<Shared<T>>,
-    alloc: Global,
 }
 
 impl<T: Drop> Drop for AsyncReceiver<T> {
     fn drop(self) {
-        let AsyncReceiver { shared, alloc: _ } = self;
+        let AsyncReceiver { shared } = self;
         shared.drop_receiver();
     }
 }
 
 impl<T: Drop> AsyncReceiver<T> {
     /// The first receiver of the channel.
-    pub(crate) fn new(shared: Arc<Shared<T>>, alloc: Global) -> Self {
-        AsyncReceiver { shared, alloc }
+    pub(crate) fn new(shared: Arc<Shared<T>>) -> Self {
+        AsyncReceiver { shared }
     }
 
     /// What all handles share.
     pub(crate) fn shared(&self) -> &Shared<T> {
         &self.shared
-    }
-
-    /// What the memory of a wait is asked of.
-    pub(crate) fn alloc(&self) -> Global {
-        self.alloc
     }
 
     /// A future that receives a message. It does nothing before its first poll, and waits for nobody.
@@ -62,7 +48,7 @@ impl<T: Drop> AsyncReceiver<T> {
     pub fn recv(&self) -> ReceiveFuture<'_, T>
         ensures fresh { receive_is_over result ≡ false }
     {
-        ReceiveFuture::new(self)
+        self.shared.recv()
     }
 
     /// The messages, one receive after the other, until one is refused. It waits for nobody.
@@ -75,7 +61,7 @@ impl<T: Drop> AsyncReceiver<T> {
     pub fn stream(&self) -> ReceiveStream<'_, T>
         ensures fresh { stream_is_over result ≡ false }
     {
-        ReceiveStream::new(self)
+        self.shared.stream()
     }
 
     /// Receives the front message, if there is one. `Ok(None)` says that there is none. It waits for
@@ -90,10 +76,7 @@ impl<T: Drop> AsyncReceiver<T> {
     /// receiver.try_recv(&rt)   answers  Ok(None)   in a new channel
     /// ```
     pub fn try_recv<R: Wait>(&self, rt: &R) -> Result<Option<T>, ReceiveError> {
-        let mut guard = self.shared.lock(rt);
-        let Tried { answer, settled } = steps::try_recv(&mut guard);
-        self.shared.release(guard, settled);
-        answer
+        self.shared.try_recv(rt)
     }
 
     /// Receives the front message, if there is one and the lock is free: it waits for nobody.
@@ -107,12 +90,7 @@ impl<T: Drop> AsyncReceiver<T> {
     /// receiver.try_recv_realtime()   answers  Ok(Some(1))   where 1 was sent
     /// ```
     pub fn try_recv_realtime(&self) -> Result<Option<T>, ReceiveError> {
-        let Some(mut acquired) = self.shared.try_lock() else {
-            return Ok(None);
-        };
-        let Tried { answer, settled } = steps::try_recv(&mut acquired.core);
-        self.shared.release_acquired(acquired, settled);
-        answer
+        self.shared.try_recv_realtime()
     }
 
     /// Moves all messages to the vector's end, those of waiting senders too, and answers how many
@@ -130,17 +108,7 @@ impl<T: Drop> AsyncReceiver<T> {
         ensures drained { IfOk result (λ n. (more : List T) × (into.new.items ≡ into.old.items ++ more) × (length more ≡ n)) }
         ensures refused { IfErr result (λ _. into.new.items ≡ into.old.items) }
     {
-        let mut guard = self.shared.lock(rt);
-        match steps::drain(&mut guard, into) {
-            Ok((count, ended)) => {
-                self.shared.release_all(guard, ended);
-                Ok(count)
-            },
-            Err(error) => {
-                self.shared.unlock(guard);
-                Err(error)
-            },
-        }
+        self.shared.drain_into(rt, into)
     }
 
     /// One more receiver of the channel. Where no receiver is left it stays so, and the answer is
@@ -159,8 +127,7 @@ impl<T: Drop> AsyncReceiver<T> {
             return Err(TooMany);
         };
         self.shared.add_receiver(rt)?;
-        let alloc = self.alloc;
-        Ok(AsyncReceiver { shared, alloc })
+        Ok(AsyncReceiver { shared })
     }
 
     /// One more receiver of the channel, for threads. It counts as `clone`, and waits for the lock.

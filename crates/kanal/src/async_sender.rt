@@ -1,24 +1,16 @@
-//! The sender of a channel for tasks: the sending handle that holds the channel, with the bodies of
-//! all that a sender does.
+//! The sender of a channel for tasks: the sending handle that holds the channel.
 //!
-//! Stands on the lock and the steps. It alone has a sender's drop; the sender for threads and the
-//! view are made over it.
+//! Stands on the shared channel; nothing is done here but handing on and counting. It alone has a
+//! sender's drop; the sender for threads and the view are made over it.
 ghost use Rattle.std.specs.Prelude.{◌≡◌, ◌≢◌, IsSome, Some, None, Ok, true, false, codes};
-ghost use Rattle.kanal.specs.Futures.{send_is_over};
+ghost use Rattle.kanal_shared.specs.Futures.{send_is_over};
 
-use crate::future::SendFuture;
 use crate::sender::Sender;
 use crate::sender_view::SenderView;
-use crate::shared::Shared;
 use kanal_core::error::{CloseError, SendError, TooMany};
-use kanal_steps::steps;
-use kanal_steps::steps::Tried;
-use std::alloc::Global;
+use kanal_shared::{SendFuture, Shared};
 use std::fmt;
 use std::sync::{Arc, Wait};
-
-pub(crate) mod blocking;
-mod timed;
 
 /// Sends messages to a channel from a task.
 ///
@@ -26,30 +18,24 @@ mod timed;
 /// nobody.
 pub struct AsyncSender<T> {
     shared: Arc<Shared<T>>,
-    alloc: Global,
 }
 
 impl<T: Drop> Drop for AsyncSender<T> {
     fn drop(self) {
-        let AsyncSender { shared, alloc: _ } = self;
+        let AsyncSender { shared } = self;
         shared.drop_sender();
     }
 }
 
 impl<T: Drop> AsyncSender<T> {
     /// The first sender of the channel.
-    pub(crate) fn new(shared: Arc<Shared<T>>, alloc: Global) -> Self {
-        AsyncSender { shared, alloc }
+    pub(crate) fn new(shared: Arc<Shared<T>>) -> Self {
+        AsyncSender { shared }
     }
 
     /// What all handles share.
     pub(crate) fn shared(&self) -> &Shared<T> {
         &self.shared
-    }
-
-    /// What the memory of a wait is asked of.
-    pub(crate) fn alloc(&self) -> Global {
-        self.alloc
     }
 
     /// A future that sends the message. It does nothing before its first poll, and waits for nobody.
@@ -62,7 +48,7 @@ impl<T: Drop> AsyncSender<T> {
     pub fn send(&self, message: T) -> SendFuture<'_, T>
         ensures fresh { send_is_over result ≡ false }
     {
-        SendFuture::new(self, message)
+        self.shared.send(message)
     }
 
     /// Sends the message where there is a place for it. `Ok(false)` says that there is none, and the
@@ -105,10 +91,7 @@ impl<T: Drop> AsyncSender<T> {
         ensures sent { result ≡ Ok true → option.new ≡ None }
         ensures kept { result ≢ Ok true → option.new ≡ option.old }
     {
-        let mut guard = self.shared.lock(rt);
-        let Tried { answer, settled } = steps::try_send(&mut guard, option);
-        self.shared.release(guard, settled);
-        answer
+        self.shared.try_send_option(rt, option)
     }
 
     /// Sends the message where there is a place for it and the lock is free: it waits for nobody.
@@ -145,12 +128,7 @@ impl<T: Drop> AsyncSender<T> {
         ensures sent { result ≡ Ok true → option.new ≡ None }
         ensures kept { result ≢ Ok true → option.new ≡ option.old }
     {
-        let Some(mut acquired) = self.shared.try_lock() else {
-            return Ok(false);
-        };
-        let Tried { answer, settled } = steps::try_send(&mut acquired.core, option);
-        self.shared.release_acquired(acquired, settled);
-        answer
+        self.shared.try_send_option_realtime(option)
     }
 
     /// One more sender of the channel. Where no sender is left it stays so, and the answer is still
@@ -169,8 +147,7 @@ impl<T: Drop> AsyncSender<T> {
             return Err(TooMany);
         };
         self.shared.add_sender(rt)?;
-        let alloc = self.alloc;
-        Ok(AsyncSender { shared, alloc })
+        Ok(AsyncSender { shared })
     }
 
     /// One more sender of the channel, for threads. It counts as `clone`, and waits for the lock.

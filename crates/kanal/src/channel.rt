@@ -7,9 +7,9 @@ use crate::async_receiver::AsyncReceiver;
 use crate::async_sender::AsyncSender;
 use crate::receiver::Receiver;
 use crate::sender::Sender;
-use crate::shared::Shared;
 use kanal_core::error::NewError;
 use kanal_core::internal::ChannelInternal;
+use kanal_shared::Shared;
 use kanal_steps::seat::Core;
 use std::alloc::Global;
 use std::sync::Arc;
@@ -21,14 +21,14 @@ fn handles<T: Drop>(
 ) -> Result<(AsyncSender<T>, AsyncReceiver<T>), NewError>
     ensures { IsErrOf result NewError.TooLarge → ⊥ }
 {
-    let Ok(shared) = Arc::new(alloc, Shared::new(core)) else {
+    let Ok(shared) = Arc::new(alloc, Shared::new(core, alloc)) else {
         return Err(NewError::NoMemory);
     };
     let Ok(other) = Arc::try_clone(&shared) else {
         return Err(NewError::NoMemory);
     };
-    let sender = AsyncSender::new(shared, alloc);
-    let receiver = AsyncReceiver::new(other, alloc);
+    let sender = AsyncSender::new(shared);
+    let receiver = AsyncReceiver::new(other);
     Ok((sender, receiver))
 }
 

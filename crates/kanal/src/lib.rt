@@ -4,32 +4,26 @@
 //! cloned and dropped, for threads and for tasks, and each kind is made of the other. A thread's blocked
 //! call sleeps until its wait is settled; a task's future is polled, and waits for nobody.
 //!
-//! Stands on `kanal_core`, whose errors, cells and core it hands on, and on the steps of
-//! `kanal_steps`. Data flows one way: a handle takes the lock, lends the core to one step, releases
-//! the lock, and only then settles or drops what left the core.
+//! Stands on `kanal_shared`, the channel behind its lock, whose clocks and futures it hands on, and on
+//! `kanal_core`, whose errors, cells and core it hands on. A handle counts itself and hands on each
+//! call; no lock is taken here.
 #![tactic(auto)]
 
 pub use kanal_core::{error, internal, signal};
 
 mod async_receiver;
 mod async_sender;
-mod backoff;
 mod channel;
-mod clock;
-mod future;
 mod messages;
-mod questions;
 mod receiver;
 mod receiver_view;
 mod sender;
 mod sender_view;
-mod shared;
 
 pub use async_receiver::AsyncReceiver;
 pub use async_sender::AsyncSender;
 pub use channel::{bounded, bounded_async, unbounded, unbounded_async};
-pub use clock::{Clock, SystemClock};
-pub use future::{ReceiveFuture, ReceiveStream, SendFuture};
+pub use kanal_shared::{Clock, ReceiveFuture, ReceiveStream, SendFuture, SystemClock};
 pub use messages::Messages;
 pub use receiver::Receiver;
 pub use receiver_view::ReceiverView;

@@ -24,6 +24,6 @@ impl<T: Drop, R: Wait> Iterator for Messages<'_, T, R> {
     /// Receives the next message; `None` where that is refused. It waits for the lock, and for a
     /// message where there is none.
     fn next(&mut self) -> Option<T> {
-        self.receiver.recv_blocking(self.rt).ok()
+        self.receiver.shared().recv_blocking(self.rt).ok()
     }
 }

@@ -4,9 +4,9 @@
 ghost use Rattle.std.specs.Prelude.{◌≡◌, ◌++◌, List, length, Some, IfOk, IfErr, codes};
 
 use crate::async_receiver::AsyncReceiver;
-use crate::clock::Clock;
 use crate::messages::Messages;
 use kanal_core::error::{CloseError, ReceiveError, ReceiveErrorTimeout, TooMany};
+use kanal_shared::Clock;
 use std::sync::Wait;
 use std::time::Duration;
 use std::{fmt, time};
@@ -40,7 +40,7 @@ impl<T: Drop> Receiver<T> {
     /// receiver.recv(&rt)   answers  Err(ReceiveError::SendClosed)    after the last sender's drop
     /// ```
     pub fn recv<R: Wait>(&self, rt: &R) -> Result<T, ReceiveError> {
-        self.inner.recv_blocking(rt)
+        self.inner.shared().recv_blocking(rt)
     }
 
     /// Receives the front message. Where there is none it waits until a message is sent, the channel
@@ -63,7 +63,7 @@ impl<T: Drop> Receiver<T> {
         duration: Duration,
         clock: &C,
     ) -> Result<T, ReceiveErrorTimeout> {
-        self.inner.recv_timeout(rt, duration, clock)
+        self.inner.shared().recv_timeout(rt, duration, clock)
     }
 
     /// Receives the front message, if there is one. `Ok(None)` says that there is none. It waits for

@@ -5,9 +5,9 @@
 ghost use Rattle.std.specs.Prelude.{◌≡◌, ◌++◌, List, length, IfOk, IfErr};
 
 use crate::async_receiver::AsyncReceiver;
-use crate::clock::Clock;
 use crate::messages::Messages;
 use kanal_core::error::{CloseError, ReceiveError, ReceiveErrorTimeout};
+use kanal_shared::Clock;
 use std::sync::Wait;
 use std::time;
 use std::time::Duration;
@@ -40,7 +40,7 @@ impl<T: Drop> ReceiverView<'_, T> {
     /// view.recv(&rt)   answers  Err(ReceiveError::SendClosed)    after the last sender's drop
     /// ```
     pub fn recv<R: Wait>(&self, rt: &R) -> Result<T, ReceiveError> {
-        self.receiver.recv_blocking(rt)
+        self.receiver.shared().recv_blocking(rt)
     }
 
     /// Receives the front message. Where there is none it waits until a message is sent, the channel
@@ -63,7 +63,7 @@ impl<T: Drop> ReceiverView<'_, T> {
         duration: Duration,
         clock: &C,
     ) -> Result<T, ReceiveErrorTimeout> {
-        self.receiver.recv_timeout(rt, duration, clock)
+        self.receiver.shared().recv_timeout(rt, duration, clock)
     }
 
     /// Receives the front message, if there is one. `Ok(None)` says that there is none. It waits for

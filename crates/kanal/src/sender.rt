@@ -3,11 +3,11 @@
 //! Stands on the sender for tasks; nothing is done here but handing on. Where a call is refused its
 //! message is dropped, but for the calls that are lent an option.
 ghost use Rattle.std.specs.Prelude.{◌≡◌, ◌≢◌, IsSome, Some, None, Ok, true, codes, IfErr};
-ghost use Rattle.kanal.specs.Timed.{StartedNoWait};
+ghost use Rattle.kanal_shared.specs.Timed.{StartedNoWait};
 
 use crate::async_sender::AsyncSender;
-use crate::clock::Clock;
 use kanal_core::error::{CloseError, SendError, SendErrorTimeout, TooMany};
+use kanal_shared::Clock;
 use std::sync::Wait;
 use std::time::Duration;
 use std::{fmt, time};
@@ -41,7 +41,7 @@ impl<T: Drop> Sender<T> {
     /// sender.send(&rt, 7)   answers  Err(SendError::Closed)      after a close
     /// ```
     pub fn send<R: Wait>(&self, rt: &R, message: T) -> Result<(), SendError> {
-        self.inner.send_blocking(rt, message)
+        self.inner.shared().send_blocking(rt, message)
     }
 
     /// Sends the message. Where the buffer is full it waits until a receiver takes the message, the
@@ -64,7 +64,9 @@ impl<T: Drop> Sender<T> {
         duration: Duration,
         clock: &C,
     ) -> Result<(), SendErrorTimeout> {
-        self.inner.send_timeout(rt, message, duration, clock)
+        self.inner
+            .shared()
+            .send_timeout(rt, message, duration, clock)
     }
 
     /// Sends the option's message as `send_timeout`, and empties the option exactly where it was sent.
@@ -92,7 +94,8 @@ impl<T: Drop> Sender<T> {
         ensures sent { result ≡ Ok tt → option.new ≡ None }
         ensures kept { IfErr result (λ e. StartedNoWait e → option.new ≡ option.old) }
     {
-        self.inner.send_option_timeout(rt, option, duration, clock)
+        let shared = self.inner.shared();
+        shared.send_option_timeout(rt, option, duration, clock)
     }
 
     /// Sends the message where there is a place for it. `Ok(false)` says that there is none, and the

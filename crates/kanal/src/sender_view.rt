@@ -3,11 +3,11 @@
 //! Stands on the sender for tasks; nothing is done here but handing on. A view is not counted: it has
 //! no clone, no conversion and no drop of its own.
 ghost use Rattle.std.specs.Prelude.{◌≡◌, ◌≢◌, IsSome, None, Ok, true, IfErr};
-ghost use Rattle.kanal.specs.Timed.{StartedNoWait};
+ghost use Rattle.kanal_shared.specs.Timed.{StartedNoWait};
 
 use crate::async_sender::AsyncSender;
-use crate::clock::Clock;
 use kanal_core::error::{CloseError, SendError, SendErrorTimeout};
+use kanal_shared::Clock;
 use std::sync::Wait;
 use std::time;
 use std::time::Duration;
@@ -40,7 +40,7 @@ impl<T: Drop> SenderView<'_, T> {
     /// view.send(&rt, 7)   answers  Err(SendError::Closed)      after a close
     /// ```
     pub fn send<R: Wait>(&self, rt: &R, message: T) -> Result<(), SendError> {
-        self.sender.send_blocking(rt, message)
+        self.sender.shared().send_blocking(rt, message)
     }
 
     /// Sends the message. Where the buffer is full it waits until a receiver takes the message, the
@@ -63,7 +63,9 @@ impl<T: Drop> SenderView<'_, T> {
         duration: Duration,
         clock: &C,
     ) -> Result<(), SendErrorTimeout> {
-        self.sender.send_timeout(rt, message, duration, clock)
+        self.sender
+            .shared()
+            .send_timeout(rt, message, duration, clock)
     }
 
     /// Sends the option's message as `send_timeout`, and empties the option exactly where it was sent.
@@ -91,7 +93,8 @@ impl<T: Drop> SenderView<'_, T> {
         ensures sent { result ≡ Ok tt → option.new ≡ None }
         ensures kept { IfErr result (λ e. StartedNoWait e → option.new ≡ option.old) }
     {
-        self.sender.send_option_timeout(rt, option, duration, clock)
+        let shared = self.sender.shared();
+        shared.send_option_timeout(rt, option, duration, clock)
     }
 
     /// Sends the message where there is a place for it. `Ok(false)` says that there is none, and the

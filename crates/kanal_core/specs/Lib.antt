@@ -1,5 +1,6 @@
 pub mod Texts
 pub mod Line
+pub mod Tickets
 pub mod Waiters
 pub mod ListLends
 pub mod Places

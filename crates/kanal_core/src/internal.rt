@@ -16,6 +16,7 @@ ghost use Rattle.std.specs.Option.{option_copied_mut, option_map};
 ghost use Rattle.kanal_core.specs.Line.{IsWithin, bare, found, has, has_place, messages};
 ghost use Rattle.kanal_core.specs.Moves.{wait_send, wait_recv};
 ghost use Rattle.kanal_core.specs.Channel.{line_of, opening, starting};
+ghost use Rattle.kanal_core.specs.Tickets.{number_of};
 ghost use Rattle.kanal_core.specs.Waiters.{waiter_of, without, IsFirstWhere, receiver_first, sender_first};
 ghost use Rattle.kanal_core.specs.Calls.{Offers, HasEntered, LacksMemory, Takes, Withdraws, OldestLeft, IsFull, IsEmpty, handed, let_in};
 ghost use Rattle.kanal_core.specs.Handing.{HandsOver, TakesSender, LetsIn, HasOnePlace};
@@ -289,7 +290,7 @@ impl<T, W> ChannelInternal<T, W> {
     pub fn wait_send(&mut self, message: T, w: W) -> Result<Ticket, (WaitError, T, W)>
         requires full { IsFull (line_of self.old) }
         ensures step { IfOk result (λ _. line_of self.new ≡ wait_send (line_of self.old) message) }
-        ensures waits { IfOk result (λ ticket. (ticket.number ≡ self.old.next) × (self.new.waiters ≡ self.old.waiters ++ record { ticket = ticket; message = Some message; w = w } ∷ [])) }
+        ensures waits { IfOk result (λ ticket. (number_of ticket ≡ self.old.next) × (self.new.waiters ≡ self.old.waiters ++ record { ticket = ticket; message = Some message; w = w } ∷ [])) }
         ensures refused { IfErr result (λ back. (back.1 ≡ message) × (back.2 ≡ w) × (self.new ≡ self.old)) }
         ensures reason { IfErr result (λ back. back.0 ≡ WaitError.TooMany ↔ (self.old.next ≡ 18446744073709551615)) }
         ensures last { self.old.next ≡ 18446744073709551615 → IsErr result }
@@ -326,7 +327,7 @@ impl<T, W> ChannelInternal<T, W> {
     pub fn wait_recv(&mut self, w: W) -> Result<Ticket, (WaitError, W)>
         requires empty { IsEmpty (line_of self.old) }
         ensures step { IfOk result (λ _. line_of self.new ≡ wait_recv (line_of self.old)) }
-        ensures waits { IfOk result (λ ticket. (ticket.number ≡ self.old.next) × (self.new.waiters ≡ self.old.waiters ++ record { ticket = ticket; message = None; w = w } ∷ [])) }
+        ensures waits { IfOk result (λ ticket. (number_of ticket ≡ self.old.next) × (self.new.waiters ≡ self.old.waiters ++ record { ticket = ticket; message = None; w = w } ∷ [])) }
         ensures refused { IfErr result (λ back. (back.1 ≡ w) × (self.new ≡ self.old)) }
         ensures reason { IfErr result (λ back. back.0 ≡ WaitError.TooMany ↔ (self.old.next ≡ 18446744073709551615)) }
         ensures last { self.old.next ≡ 18446744073709551615 → IsErr result }

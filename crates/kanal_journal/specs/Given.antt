@@ -2,13 +2,14 @@
 use Rattle.std.specs.Prelude.{◌≡◌, ℕ, ◌+◌, ◌<◌, List, [], ◌∷◌, length, vec_capacity}
 use Rattle.kanal_core.specs.declared.internal.outcome.Ticket.{Ticket}
 use Rattle.kanal_core.specs.Line.{Line, last_word, tickets}
+use Rattle.kanal_core.specs.Tickets.{number_of}
 use Rattle.kanal_journal.specs.declared.journal.handles.Handles.{Handles}
 use Rattle.kanal_journal.specs.declared.journal.event.Report.{Report}
 
 -- the tickets are numbered from `first` on, and `next` is the number after the last
 abbrev pub AreNumbered : ℕ → List Ticket → ℕ → Type 0
 AreNumbered first [] next = first ≡ next
-AreNumbered first (t ∷ ts) next = (t.number ≡ first) × AreNumbered (first + 1) ts next
+AreNumbered first (t ∷ ts) next = (number_of t ≡ first) × AreNumbered (first + 1) ts next
 
 -- there can be one more live handle of each side
 abbrev pub AreFew : Handles → Type 0

@@ -3,6 +3,7 @@ use Rattle.std.specs.Prelude.{◌≡◌, ◌⊎◌, ℕ, ◌+◌, false, List, [
 use Rattle.kanal_journal.specs.declared.journal.event.Event.{Event}
 use Rattle.kanal_journal.specs.declared.journal.event.Reply.{Reply}
 use Rattle.kanal_journal.specs.declared.journal.pass.Note.{Note}
+use Rattle.kanal_journal.specs.declared.journal.pass.Seen.{Seen}
 use Rattle.kanal_journal.specs.Replays.{Recording, no_memory, is_no_memory}
 
 -- a party, its calls in order, and how much of the journal it has seen
@@ -10,6 +11,10 @@ pub record Calls (T : Type 0) : Type 0 where
   pub party : ℕ
   pub notes : List (Note T)
   pub seen : ℕ
+
+-- how many entries of the journal were seen
+abbrev pub seen_length : Seen → ℕ
+seen_length seen = seen.length
 
 module _ {T : Type 0} where
   -- a party that has made no call

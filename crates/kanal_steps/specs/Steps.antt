@@ -12,6 +12,7 @@ use Rattle.kanal_core.specs.declared.error.ReceiveErrorTimeout.TheVariants.{Clos
 use Rattle.kanal_core.specs.Line.{Line, has_place, last_word}
 use Rattle.kanal_core.specs.Moves.{Moved, quiet, wait_send, wait_recv}
 use Rattle.kanal_core.specs.Channel.{settlements}
+use Rattle.kanal_core.specs.Tickets.{number_of}
 use Rattle.kanal_core.specs.Calls.{Enters, TakesFront, Stays, IsFull, IsEmpty, OldestLeft}
 use Rattle.kanal_steps.specs.declared.steps.Sent.{Sent}
 use Rattle.kanal_steps.specs.declared.steps.Sent.TheVariants.{Entered, Waits as SendWaits, Refused as SendRefused}
@@ -103,7 +104,7 @@ module _ {T : Type 0} where
   -- a message was sent: it entered, it waits, or it was refused and came back
   abbrev pub Sends : Line T → T → Sent T → Line T → Type 0
   Sends old m (Entered settled seat) new = Enters old m (settlements settled) new
-  Sends old m (SendWaits ticket) new = IsFull old × (ticket.number ≡ old.next) × (new ≡ wait_send old m)
+  Sends old m (SendWaits ticket) new = IsFull old × (number_of ticket ≡ old.next) × (new ≡ wait_send old m)
   Sends old m (SendRefused reason back seat) new = RefusesSend old reason × (back ≡ m) × (new ≡ old)
 
   -- who left or joined those that wait by a send, whose seat came back where it doesn't wait
@@ -115,7 +116,7 @@ module _ {T : Type 0} where
   -- a message was received: it was the front, the receiver waits, or it was refused
   abbrev pub Receives : Line T → Received T → Line T → Type 0
   Receives old (Got m settled seat) new = TakesFront old m (settlements settled) new
-  Receives old (ReceiveWaits ticket) new = IsEmpty old × (ticket.number ≡ old.next) × (new ≡ wait_recv old)
+  Receives old (ReceiveWaits ticket) new = IsEmpty old × (number_of ticket ≡ old.next) × (new ≡ wait_recv old)
   Receives old (ReceiveRefused reason seat) new = RefusesReceive old reason × (new ≡ old)
 
   -- who left or joined those that wait by a receive, whose seat came back where it doesn't wait

@@ -3,6 +3,7 @@
 //!
 //! Stands on nothing. A `Ticket` is made by the list of waiters alone.
 ghost use Rattle.std.specs.Prelude.{◌≡◌, IsSome, Some, None};
+ghost use Rattle.kanal_core.specs.Tickets.{number_of};
 
 /// What a started wait is known by.
 ///
@@ -15,7 +16,7 @@ pub struct Ticket {
 impl Ticket {
     /// The ticket's number.
     pub fn number(&self) -> u64
-        ensures { result ≡ self.now.number }
+        ensures { result ≡ number_of self.now }
     {
         self.number
     }

@@ -8,6 +8,7 @@ ghost use Rattle.std.specs.Borrow.{sem};
 ghost use Rattle.std.specs.Fn.{FnReturnsAt};
 ghost use Rattle.std.specs.Option.{option_copied_mut, option_map};
 ghost use Rattle.kanal_core.specs.Places.{TakesMessage, place_of};
+ghost use Rattle.kanal_core.specs.Tickets.{number_of};
 ghost use Rattle.kanal_core.specs.Waiters.{brought, emptied, waiter_of, without, IsFirstWhere, receiver_first, sender_first};
 
 use super::outcome::{Ticket, Waiter};
@@ -108,7 +109,7 @@ impl<T, W> WaitList<T, W> {
         message: Option<T>,
         w: W,
     ) -> Result<Ticket, (Option<T>, W)>
-        ensures ok { IfOk result (λ ticket. (ticket.number ≡ number) × (self.new ≡ self.old ++ record { ticket = ticket; message = message; w = w } ∷ [])) }
+        ensures ok { IfOk result (λ ticket. (number_of ticket ≡ number) × (self.new ≡ self.old ++ record { ticket = ticket; message = message; w = w } ∷ [])) }
         ensures refused { IfErr result (λ back. (back.0 ≡ message) × (back.1 ≡ w) × (self.new ≡ self.old)) }
     {
         let ticket = Ticket { number };

@@ -3,7 +3,7 @@
 //! Stands on the recorded channel. A call gets the lock, makes room in the pass's own list, lends the
 //! state to one step, and notes what that answered; only a pass gets the lock.
 ghost use Rattle.std.specs.Prelude.{◌≡◌};
-ghost use Rattle.kanal_journal.specs.Passes.{Notes, NotesAt, heard, newcomer};
+ghost use Rattle.kanal_journal.specs.Passes.{Notes, NotesAt, heard, newcomer, seen_length};
 ghost use Rattle.kanal_journal.specs.Replays.{Records};
 
 use super::calls;
@@ -328,7 +328,7 @@ impl<T: Copy> Pass<T> {
     /// b.hear(seen);   b's next call now stands behind all that a has seen
     /// ```
     pub fn tell(&self) -> Seen
-        ensures { result.length ≡ self.now.seen }
+        ensures { seen_length result ≡ self.now.seen }
     {
         Seen { length: self.seen }
     }
@@ -343,7 +343,7 @@ impl<T: Copy> Pass<T> {
     /// b.hear(a.tell());
     /// ```
     pub fn hear(&mut self, seen: Seen)
-        ensures { self.new ≡ heard self.old seen.length }
+        ensures { self.new ≡ heard self.old (seen_length seen) }
     {
         self.seen = self.seen.max(seen.length);
     }

@@ -1,0 +1,209 @@
+//! Sending in a task.
+ghost use Rattle.std.specs.Prelude.{◌≡◌, ⊤, true, false, Some, Err, Result, codes};
+ghost use Rattle.futures.specs.Task.{Covers, Keeps};
+ghost use Rattle.futures.specs.Poll.{IfReady, OnPending};
+ghost use Rattle.kanal_shared.specs.Futures.{send_is_over, send_source};
+
+use super::{Started, State, Wakers};
+use crate::sending::answer_of;
+use crate::shared::{Acquired, Shared};
+use futures::Future;
+use futures::task::{Context, Poll};
+use kanal_core::error::SendError;
+use kanal_core::internal::Ticket;
+use kanal_steps::seat::Seat;
+use kanal_steps::steps;
+use kanal_steps::steps::{Sent, Tried};
+use std::{fmt, mem};
+
+/// Sends a message, as `AsyncSender::send` answers it.
+///
+/// A poll waits for nobody. The first one that gets the lock offers the message; where there is no
+/// place for it, the message waits in the line until a receiver takes it or the channel ends. Where
+/// another holds the lock the poll makes no step, and asks for another poll.
+///
+/// A drop waits for nobody, too: a message that waits is withdrawn and dropped. After its answer the
+/// future answers `Err(SendError::Finished)`.
+pub struct SendFuture<'a, T> {
+    shared: &'a Shared<T>,
+    state: State<T, T>,
+    wakers: Wakers,
+}
+
+/// Offers the message with the seat of a wait, and releases the lock: `None` where it entered, and the
+/// wait's ticket where there was no place.
+fn send_seated<T: Drop>(
+    shared: &Shared<T>,
+    acquired: Acquired<'_, T>,
+    message: T,
+    seat: Box<Seat<T>>,
+) -> Result<Option<Ticket>, SendError> {
+    let mut acquired = acquired;
+    match steps::send(&mut acquired.core, message, seat) {
+        Sent::Entered(settled, _seat) => {
+            shared.release_acquired(acquired, settled);
+            Ok(None)
+        },
+        Sent::Waits(ticket) => {
+            shared.release_acquired(acquired, None);
+            Ok(Some(ticket))
+        },
+        Sent::Refused(error, _message, _seat) => {
+            shared.release_acquired(acquired, None);
+            Err(error)
+        },
+    }
+}
+
+impl<T: Drop> Drop for SendFuture<'_, T> {
+    fn drop(self) {
+        let SendFuture {
+            shared,
+            state,
+            wakers,
+        } = self;
+        match state {
+            State::Zero(message) => drop(message),
+            State::Waiting(started) => started.leave(shared),
+            State::Done => {},
+        }
+        drop(wakers);
+    }
+}
+
+impl<'a, T: Drop> SendFuture<'a, T> {
+    /// Sends this message when it is polled.
+    pub(crate) fn new(shared: &'a Shared<T>, message: T) -> Self
+        ensures fresh { send_is_over result ≡ false }
+    {
+        SendFuture {
+            shared,
+            state: State::Zero(message),
+            wakers: Wakers::new(),
+        }
+    }
+
+    /// Offers the message, where the lock is free.
+    fn begin(&mut self, message: T, cx: &mut Context<'_>) -> Poll<Result<(), SendError>>
+        requires { send_is_over self.old ≡ true }
+        ensures ends { IfReady result (λ _. send_is_over self.new ≡ true) }
+        ensures registered { OnPending result (Covers cx.new (λ s. s ≡ send_source self.new)) }
+        ensures kept { Keeps cx.old cx.new }
+    {
+        let shared = self.shared;
+        let Some(mut acquired) = shared.try_lock() else {
+            self.state = State::Zero(message);
+            return cx.yield_now();
+        };
+        let mut option = Some(message);
+        let Tried { answer, settled } = steps::try_send(&mut acquired.core, &mut option);
+        match (answer, option) {
+            (Ok(false), Some(message)) => self.start(acquired, message, cx),
+            (answer, _back) => {
+                shared.release_acquired(acquired, settled);
+                Poll::Ready(answer.map(|_| ()))
+            },
+        }
+    }
+
+    /// Starts the wait of a message for which there was no place, with the lock held.
+    fn start(
+        &mut self,
+        acquired: Acquired<'_, T>,
+        message: T,
+        cx: &mut Context<'_>,
+    ) -> Poll<Result<(), SendError>>
+        requires { send_is_over self.old ≡ true }
+        ensures ends { IfReady result (λ _. send_is_over self.new ≡ true) }
+        ensures registered { OnPending result (Covers cx.new (λ s. s ≡ send_source self.new)) }
+        ensures kept { Keeps cx.old cx.new }
+    {
+        let shared = self.shared;
+        let Some((end, seat)) = self.wakers.cell(self.shared.alloc, cx) else {
+            shared.release_acquired(acquired, None);
+            return Poll::Ready(Err(SendError::NoMemory));
+        };
+        match send_seated(shared, acquired, message, seat) {
+            Ok(None) => Poll::Ready(Ok(())),
+            Ok(Some(ticket)) => {
+                self.state = State::Waiting(Started { ticket, end });
+                Poll::Pending
+            },
+            Err(error) => Poll::Ready(Err(error)),
+        }
+    }
+
+    /// Looks for the end of the wait.
+    fn wait(&mut self, started: Started<T>, cx: &mut Context<'_>) -> Poll<Result<(), SendError>>
+        requires { send_is_over self.old ≡ true }
+        ensures ends { IfReady result (λ _. send_is_over self.new ≡ true) }
+        ensures registered { OnPending result (Covers cx.new (λ s. s ≡ send_source self.new)) }
+        ensures kept { Keeps cx.old cx.new }
+    {
+        let mut started = started;
+        match self.wakers.poll(self.shared, &mut started, cx) {
+            Poll::Ready(outcome) => Poll::Ready(answer_of(outcome)),
+            Poll::Pending => {
+                self.state = State::Waiting(started);
+                Poll::Pending
+            },
+        }
+    }
+}
+
+impl<T: Drop> Shared<T> {
+    /// A future that sends the message. It does nothing before its first poll, and waits for nobody.
+    ///
+    /// # Examples
+    /// ```text
+    /// block_on(&rt, shared.send(7))   gives  Ok(())   in a channel with a place
+    /// ```
+    pub fn send(&self, message: T) -> SendFuture<'_, T>
+        ensures fresh { send_is_over result ≡ false }
+    {
+        SendFuture::new(self, message)
+    }
+}
+
+impl<T: Drop> Future for SendFuture<'_, T> {
+    type Output = Result<(), SendError>;
+
+    ghost needs = { λ f s. s ≡ send_source f };
+
+    /// Polls the send. It waits for nobody.
+    ///
+    /// # Errors
+    /// `Closed` where the channel was closed, `ReceiveClosed` where the last receiver was dropped,
+    /// `NoMemory` where memory was refused, `TooMany` where the tickets are used up, and `Finished`
+    /// after the first answer. The message is dropped then.
+    ///
+    /// # Examples
+    /// ```text
+    /// let mut sending = sender.send(7);
+    /// task.poll(&mut sending)   answers  Ready(Ok(()))                     in a channel with a place
+    /// task.poll(&mut sending)   answers  Ready(Err(SendError::Finished))   after that
+    /// ```
+    fn poll(&mut self, cx: &mut Context<'_>) -> Poll<Result<(), SendError>>
+        ensures value { IfReady result (λ _. ⊤) }
+        ensures again { OnPending result ⊤ }
+        ensures same { OnPending result ((x : Result Unit SendError) → ⊤ → ⊤) }
+        ensures registered { OnPending result (Covers cx.new (λ s. s ≡ send_source self.new)) }
+        ensures kept { Keeps cx.old cx.new }
+        ensures over { send_is_over self.old ≡ true → (result ≡ Poll.Ready (Err SendError.Finished)) × (send_is_over self.new ≡ true) }
+        ensures ends { IfReady result (λ _. send_is_over self.new ≡ true) }
+    {
+        match mem::replace(&mut self.state, State::Done) {
+            State::Zero(message) => self.begin(message, cx),
+            State::Waiting(started) => self.wait(started, cx),
+            State::Done => Poll::Ready(Err(SendError::Finished)),
+        }
+    }
+}
+
+impl<T: Drop> fmt::Debug for SendFuture<'_, T> {
+    ghost debug_output = { λ _. Some (codes "SendFuture { .. }") };
+
+    fn fmt<W: fmt::Write>(&self, f: &mut fmt::Formatter<W>) -> fmt::Result {
+        f.write_str("SendFuture { .. }")
+    }
+}

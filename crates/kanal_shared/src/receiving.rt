@@ -1,0 +1,148 @@
+//! Receiving on a shared channel: what doesn't wait for the other side, and the blocking receive.
+//!
+//! Stands on the lock, on the steps and on how a blocked call waits. A message is asked for first;
+//! only where there is none is the memory of a wait asked for.
+ghost use Rattle.std.specs.Prelude.{◌≡◌, ◌++◌, List, length, IfOk, IfErr};
+
+mod timed;
+
+use crate::sending::wait;
+use crate::shared::Shared;
+use kanal_core::error::ReceiveError;
+use kanal_core::internal::{Outcome, Reason, Ticket};
+use kanal_steps::seat::Seat;
+use kanal_steps::steps;
+use kanal_steps::steps::{Received, Tried};
+use std::sync::Wait;
+
+/// What the end of a receiver's wait answers.
+pub(crate) fn answer_of<T: Drop>(outcome: Outcome<T>) -> Result<T, ReceiveError> {
+    match outcome {
+        Outcome::Given(message) => Ok(message),
+        Outcome::Ended(Reason::SendClosed, _message) => Err(ReceiveError::SendClosed),
+        Outcome::Ended(_reason, _message) => Err(ReceiveError::Closed),
+        Outcome::Taken => Err(ReceiveError::Closed),
+    }
+}
+
+/// What a receive with the seat of a wait came to, where it was not refused.
+#[derive(Drop)]
+pub(crate) enum Seated<T> {
+    /// The front message.
+    Got(T),
+    /// The receiver waits.
+    Waits(Ticket),
+}
+
+impl<T: Drop> Shared<T> {
+    /// Receives the front message, if there is one; `Ok(None)` says that there is none. It waits for
+    /// the lock.
+    ///
+    /// # Errors
+    /// `Closed` where no receiver is left, and `SendClosed` where there is no message and no sender.
+    ///
+    /// # Examples
+    /// ```text
+    /// shared.try_recv(&rt)   answers  Ok(None)   in a new channel
+    /// ```
+    pub fn try_recv<R: Wait>(&self, rt: &R) -> Result<Option<T>, ReceiveError> {
+        let mut guard = self.lock(rt);
+        let Tried { answer, settled } = steps::try_recv(&mut guard);
+        self.release(guard, settled);
+        answer
+    }
+
+    /// The same, where the lock is free: it waits for nobody. `Ok(None)` says that there is none or
+    /// the lock was held.
+    ///
+    /// # Errors
+    /// As `try_recv`.
+    ///
+    /// # Examples
+    /// ```text
+    /// shared.try_recv_realtime()   answers  Ok(Some(1))   where 1 was sent
+    /// ```
+    pub fn try_recv_realtime(&self) -> Result<Option<T>, ReceiveError> {
+        let Some(mut acquired) = self.try_lock() else {
+            return Ok(None);
+        };
+        let Tried { answer, settled } = steps::try_recv(&mut acquired.core);
+        self.release_acquired(acquired, settled);
+        answer
+    }
+
+    /// Moves all messages to the vector's end, those of waiting senders too, and answers how many
+    /// they were. What the vector had stays its beginning. It waits for the lock.
+    ///
+    /// # Errors
+    /// `Closed` where no receiver is left, and `NoMemory` where the vector had too little room and
+    /// there was no memory for more. The vector holds what it held then.
+    ///
+    /// # Examples
+    /// ```text
+    /// shared.drain_into(&rt, &mut messages)   answers  Ok(2)   where two messages were there
+    /// ```
+    pub fn drain_into<R: Wait>(&self, rt: &R, into: &mut Vec<T>) -> Result<usize, ReceiveError>
+        ensures drained { IfOk result (λ n. (more : List T) × (into.new.items ≡ into.old.items ++ more) × (length more ≡ n)) }
+        ensures refused { IfErr result (λ _. into.new.items ≡ into.old.items) }
+    {
+        let mut guard = self.lock(rt);
+        match steps::drain(&mut guard, into) {
+            Ok((count, ended)) => {
+                self.release_all(guard, ended);
+                Ok(count)
+            },
+            Err(error) => {
+                self.unlock(guard);
+                Err(error)
+            },
+        }
+    }
+
+    /// Receives a message, and waits where there is none.
+    ///
+    /// # Errors
+    /// As `try_recv`, and `NoMemory` where memory was refused, and `TooMany` where the tickets are
+    /// used up.
+    ///
+    /// # Examples
+    /// ```text
+    /// shared.recv_blocking(&rt)   answers  Ok(7)   where 7 was sent
+    /// ```
+    pub fn recv_blocking<R: Wait>(&self, rt: &R) -> Result<T, ReceiveError> {
+        match self.try_recv(rt)? {
+            Some(message) => Ok(message),
+            None => self.recv_waiting(rt),
+        }
+    }
+
+    /// Receives a message with what a wait needs in hand.
+    fn recv_waiting<R: Wait>(&self, rt: &R) -> Result<T, ReceiveError> {
+        let Some((waiting, seat)) = wait(self.alloc) else {
+            return Err(ReceiveError::NoMemory);
+        };
+        match self.recv_seated(rt, seat)? {
+            Seated::Got(message) => Ok(message),
+            Seated::Waits(_ticket) => answer_of(waiting.outcome(rt)),
+        }
+    }
+
+    /// Takes the front message, or starts a wait with the seat where there is none.
+    fn recv_seated<R: Wait>(&self, rt: &R, seat: Box<Seat<T>>) -> Result<Seated<T>, ReceiveError> {
+        let mut guard = self.lock(rt);
+        match steps::recv(&mut guard, seat) {
+            Received::Got(message, settled, _seat) => {
+                self.release(guard, settled);
+                Ok(Seated::Got(message))
+            },
+            Received::Waits(ticket) => {
+                self.unlock(guard);
+                Ok(Seated::Waits(ticket))
+            },
+            Received::Refused(error, _seat) => {
+                self.unlock(guard);
+                Err(error)
+            },
+        }
+    }
+}

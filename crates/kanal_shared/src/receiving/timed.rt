@@ -1,0 +1,104 @@
+//! The receive until a deadline.
+//!
+//! Stands on the steps, on how a blocked call waits, and on the clock that the caller hands in.
+use super::{Seated, answer_of};
+use crate::backoff::Waiting;
+use crate::clock::{Clock, deadline};
+use crate::sending::wait;
+use crate::shared::Shared;
+use kanal_core::error::{ReceiveError, ReceiveErrorTimeout};
+use kanal_core::internal::{Outcome, Ticket};
+use kanal_steps::steps;
+use kanal_steps::steps::Tried;
+use std::sync::Wait;
+use std::time;
+use std::time::Duration;
+
+/// The refusal of a timed receive, for that of one without a deadline.
+fn timed(error: ReceiveError) -> ReceiveErrorTimeout {
+    match error {
+        ReceiveError::Closed | ReceiveError::Finished => ReceiveErrorTimeout::Closed,
+        ReceiveError::SendClosed => ReceiveErrorTimeout::SendClosed,
+        ReceiveError::NoMemory => ReceiveErrorTimeout::NoMemory,
+        ReceiveError::TooMany => ReceiveErrorTimeout::TooMany,
+    }
+}
+
+impl<T: Drop> Shared<T> {
+    /// Receives a message, and waits where there is none, until the deadline, which is the clock's
+    /// moment now and the duration together. After it only what is there is received.
+    ///
+    /// # Errors
+    /// As `recv_blocking`, and `Timeout` where the deadline came first, and `DeadlineOutOfRange` where
+    /// no moment is so late.
+    ///
+    /// # Examples
+    /// ```text
+    /// shared.recv_timeout(&rt, Duration::from_nanos(1), &clock)
+    ///     answers  Err(ReceiveErrorTimeout::Timeout)   where no message came
+    /// ```
+    pub fn recv_timeout<R: Wait + time::Clock, C: Clock>(
+        &self,
+        rt: &R,
+        duration: Duration,
+        clock: &C,
+    ) -> Result<T, ReceiveErrorTimeout> {
+        let Some(deadline) = deadline(clock, duration) else {
+            return Err(ReceiveErrorTimeout::DeadlineOutOfRange);
+        };
+        if clock.now() > deadline {
+            return self.recv_late(rt);
+        }
+        match self.try_recv(rt) {
+            Ok(Some(message)) => Ok(message),
+            Ok(None) => self.recv_until(rt, deadline, clock),
+            Err(error) => Err(timed(error)),
+        }
+    }
+
+    /// Takes the front message after the deadline.
+    fn recv_late<R: Wait>(&self, rt: &R) -> Result<T, ReceiveErrorTimeout> {
+        let mut guard = self.lock(rt);
+        let Tried { answer, settled } = steps::recv_late(&mut guard);
+        self.release(guard, settled);
+        answer
+    }
+
+    /// Receives a message with what a wait needs in hand, until the deadline.
+    fn recv_until<R: Wait + time::Clock, C: Clock>(
+        &self,
+        rt: &R,
+        deadline: u64,
+        clock: &C,
+    ) -> Result<T, ReceiveErrorTimeout> {
+        let Some((waiting, seat)) = wait(self.alloc) else {
+            return Err(ReceiveErrorTimeout::NoMemory);
+        };
+        match self.recv_seated(rt, seat) {
+            Ok(Seated::Got(message)) => Ok(message),
+            Ok(Seated::Waits(ticket)) => {
+                let looked = waiting.outcome_until(rt, clock, deadline);
+                self.end_recv(rt, ticket, looked)
+            },
+            Err(error) => Err(timed(error)),
+        }
+    }
+
+    /// Ends a timed wait: by its outcome, or by a withdrawal where the deadline passed. Where the
+    /// withdrawal finds nothing the outcome is on its way, and is waited for.
+    fn end_recv<R: Wait>(
+        &self,
+        rt: &R,
+        ticket: Ticket,
+        looked: Result<Outcome<T>, Waiting<Outcome<T>>>,
+    ) -> Result<T, ReceiveErrorTimeout> {
+        let waiting = match looked {
+            Ok(outcome) => return answer_of(outcome).map_err(timed),
+            Err(waiting) => waiting,
+        };
+        match self.withdraw(rt, ticket) {
+            Some(_message) => Err(ReceiveErrorTimeout::Timeout),
+            None => answer_of(waiting.outcome(rt)).map_err(timed),
+        }
+    }
+}

@@ -1,0 +1,12 @@
+//! Tests of a shared channel: calls, polls and drops while its lock is held by the test, and waits
+//! whose begin the lock shows.
+#![tactic(auto)]
+
+#[cfg(test)]
+mod ended;
+#[cfg(test)]
+mod given;
+#[cfg(test)]
+mod held;
+#[cfg(test)]
+mod polled;

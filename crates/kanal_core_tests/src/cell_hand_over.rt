@@ -3,13 +3,13 @@ ghost use Rattle.std.specs.Prelude.{◌≡◌};
 ghost use Rattle.kanal_core.specs.CellRule.{HasNotLeft, HasNotSettled, MaySleep};
 ghost use Rattle.kanal_core.specs.CellEnds.{wait_view, settle_view};
 
+use crate::given::{cell, counter, equal, holds, new_parker, shared, unparker_of};
 use crossbeam_utils::sync::{Parker, Unparker};
-use kanal_core::signal;
 use kanal_core::signal::{SettleEnd, WaitEnd};
-use std::alloc::{AllocError, Global};
+use std::alloc::{AllocGlobal, Global};
+use std::process::Abort;
 use std::sync::atomic::{AtomicU64, Ordering};
 use std::sync::{Arc, Wait};
-use std::test::Fail;
 use std::thread;
 use std::thread::Threads;
 
@@ -75,6 +75,13 @@ impl Waiting {
         self.end.poll().is_some()
     }
 
+    /// Looks twice, and leaves.
+    fn poll_and_leave(mut self) -> bool {
+        let first = self.poll();
+        let second = self.poll();
+        self.leave() || first || second
+    }
+
     fn leave(self) -> bool {
         let Waiting { mut end } = self;
         end.leave().is_some()
@@ -93,36 +100,31 @@ impl Waiting {
 }
 
 /// Whether the waiter got its outcome.
-fn wait_one<R: Wait>(rt: &R, parker: &Parker, fresh: Fresh) -> Result<bool, AllocError> {
+fn wait_one<R: Wait + Abort>(rt: &R, parker: &Parker, fresh: Fresh) -> bool {
     match fresh.way {
-        Way::Polls => {
-            let mut waiting = fresh.waiting();
-            let mut had = waiting.poll();
-            had = waiting.poll() || had;
-            Ok(waiting.leave() || had)
-        }
+        Way::Polls => fresh.waiting().poll_and_leave(),
         Way::Sleeps => {
-            let (waiting, had) = fresh.sleep(parker.unparker().clone()?);
-            Ok(had || waiting.park(rt, parker))
+            let (waiting, had) = fresh.sleep(unparker_of(rt, parker));
+            had || waiting.park(rt, parker)
         }
-        Way::Leaves => Ok(fresh.waiting().leave()),
+        Way::Leaves => fresh.waiting().leave(),
         Way::SleepsAndLeaves => {
-            let (waiting, had) = fresh.sleep(parker.unparker().clone()?);
-            Ok(waiting.leave() || had)
+            let (waiting, had) = fresh.sleep(unparker_of(rt, parker));
+            waiting.leave() || had
         }
-        Way::NeverLooks => Ok(false),
+        Way::NeverLooks => false,
     }
 }
 
 /// How many waiters got their outcome.
-fn wait_all<R: Wait>(rt: &R, parker: Parker, ends: Vec<Fresh>) -> Result<u64, AllocError> {
+fn wait_all<R: Wait + Abort>(rt: &R, parker: Parker, ends: Vec<Fresh>) -> u64 {
     let mut got = 0u64;
     for fresh in ends {
-        if wait_one(rt, &parker, fresh)? {
+        if wait_one(rt, &parker, fresh) {
             got = got.wrapping_add(1);
         }
     }
-    Ok(got)
+    got
 }
 
 /// How many outcomes came back.
@@ -137,12 +139,13 @@ fn settle_all(ends: Vec<Settling>) -> u64 {
     back
 }
 
-fn race<R: Threads + Wait + Sync>(
+/// How many outcomes came back, and how many waiters got theirs.
+fn race<R: Threads + Wait + Abort + Sync>(
     rt: &R,
     parker: Parker,
     waits: Vec<Fresh>,
     settles: Vec<Settling>,
-) -> (u64, Result<u64, AllocError>) {
+) -> (u64, u64) {
     thread::join(
         rt,
         move || settle_all(settles),
@@ -160,63 +163,71 @@ fn way_of(number: u64) -> Way {
     }
 }
 
+/// An item that counts its drop.
+fn item(rt: &impl Abort, drops: &Arc<AtomicU64, Global>) -> Counted {
+    let drops = shared(rt, drops);
+    Counted { drops }
+}
+
+/// A fresh cell, with an item that counts its drop.
+fn ends_of(
+    rt: &(impl Abort + AllocGlobal),
+    drops: &Arc<AtomicU64, Global>,
+    way: Way,
+) -> (Fresh, Settling) {
+    let (wait, settle) = cell(rt);
+    let item = item(rt, drops);
+    (Fresh { end: wait, way }, Settling { end: settle, item })
+}
+
+/// Puts one more in the vector.
+fn push<T: Drop>(rt: &impl Abort, items: &mut Vec<T>, item: T) {
+    items.push(item).expect(rt, "memory for one more");
+}
+
 /// Fresh cells, each with an item that counts its drop.
 fn cells(
-    alloc: Global,
+    rt: &(impl Abort + AllocGlobal),
     drops: &Arc<AtomicU64, Global>,
-) -> Result<(Vec<Fresh>, Vec<Settling>), Fail> {
-    let mut waits = Vec::new(alloc);
-    let mut settles = Vec::new(alloc);
+) -> (Vec<Fresh>, Vec<Settling>) {
+    let mut waits = Vec::new(rt.alloc());
+    let mut settles = Vec::new(rt.alloc());
     for number in 0..MESSAGES {
-        let (wait, settle) = signal::new(alloc)?;
-        waits.push(Fresh {
-            end: wait,
-            way: way_of(number),
-        })?;
-        settles.push(Settling {
-            end: settle,
-            item: Counted {
-                drops: Arc::try_clone(drops)?,
-            },
-        })?;
+        let (wait, settle) = ends_of(rt, drops, way_of(number));
+        push(rt, &mut waits, wait);
+        push(rt, &mut settles, settle);
     }
-    Ok((waits, settles))
+    (waits, settles)
 }
 
 /// How many outcomes went to one of the sides.
-fn round<R: Threads + Wait + Sync>(
+fn round<R: Threads + Wait + Abort + AllocGlobal + Sync>(
     rt: &R,
-    alloc: Global,
     drops: &Arc<AtomicU64, Global>,
-) -> Result<u64, Fail> {
-    let (waits, settles) = cells(alloc, drops)?;
-    let (back, got) = race(rt, Parker::new(alloc)?, waits, settles);
-    Ok(back.wrapping_add(got?))
+) -> u64 {
+    let (waits, settles) = cells(rt, drops);
+    let (back, got) = race(rt, new_parker(rt), waits, settles);
+    back.wrapping_add(got)
 }
 
 #[test]
-fn each_outcome_is_dropped_once(rt: HostRuntime) -> Result<(), Fail> {
-    let drops = Arc::new(rt.alloc(), AtomicU64::new(0))?;
+fn each_outcome_is_dropped_once(rt: HostRuntime) {
+    let drops = counter(&rt);
     for _ in 0..4u32 {
         drops.store(0, Ordering::SeqCst);
         // One of five is never looked for. Of the others each went to one side.
-        assert!(rt; round(&rt, rt.alloc(), &drops)? == MESSAGES / 5 * 4);
-        assert!(rt; drops.load(Ordering::SeqCst) == MESSAGES);
+        equal(&rt, round(&rt, &drops), MESSAGES / 5 * 4);
+        equal(&rt, drops.load(Ordering::SeqCst), MESSAGES);
     }
-    Ok(())
 }
 
 #[test]
-fn an_outcome_that_nobody_reads_is_dropped_once(rt: HostRuntime) -> Result<(), Fail> {
-    let drops = Arc::new(rt.alloc(), AtomicU64::new(0))?;
-    let (wait, mut settle) = signal::new(rt.alloc())?;
-    let item = Counted {
-        drops: Arc::try_clone(&drops)?,
-    };
-    assert!(rt; settle.settle(item).is_none());
+fn an_outcome_that_nobody_reads_is_dropped_once(rt: HostRuntime) {
+    let drops = counter(&rt);
+    let (wait, mut settle) = cell(&rt);
+    holds(&rt, settle.settle(item(&rt, &drops)).is_none());
     drop(settle);
-    assert!(rt; drops.load(Ordering::SeqCst) == 0);
+    equal(&rt, drops.load(Ordering::SeqCst), 0);
     drop(wait);
-    assert!(rt; drops.load(Ordering::SeqCst) == 1);
-    Ok(())
+    equal(&rt, drops.load(Ordering::SeqCst), 1);
 }

@@ -1,11 +1,10 @@
 //! The table of steps on the plain cell, and its rows on a running cell.
-use crossbeam_utils::sync::{Parker, Unparker};
-use kanal_core::signal;
+use crate::given::{cell, equal, holds, new_parker, unparker_of};
 use kanal_core::signal::CellReply::{Flag, Left, Outcome, Pending, Settled, Slept, Spent};
 use kanal_core::signal::CellStep::{IsLeft, Leave, Poll, Settle, Sleep};
 use kanal_core::signal::{CellReply, CellStep, Owner, cell_run};
-use std::alloc::Global;
-use std::test::Fail;
+use std::alloc::AllocGlobal;
+use std::process::Abort;
 
 const QUIET: CellReply = Settled {
     woke: false,
@@ -28,7 +27,7 @@ const WOKE_AND_BACK: CellReply = Settled {
 };
 
 /// Steps with their replies, the word after them, and the owner of the outcome.
-const ROWS: [(&[CellStep], &[CellReply], u8, Owner); 9] = [
+const ROWS: &[(&[CellStep], &[CellReply], u8, Owner)] = &[
     (&[], &[], 0, Owner::Nowhere),
     (
         &[Sleep, Settle(5), Poll],
@@ -70,88 +69,70 @@ const ROWS: [(&[CellStep], &[CellReply], u8, Owner); 9] = [
     ),
 ];
 
-/// Whether the plain cell answers the steps so, and ends in this word with this owner.
-fn is_row(
-    alloc: Global,
+/// The plain cell answers the steps so, and ends in this word with this owner.
+fn expect_row(
+    rt: &(impl Abort + AllocGlobal),
     steps: &[CellStep],
     replies: &[CellReply],
     word: u8,
     owner: Owner,
-) -> bool {
-    match cell_run(alloc, steps) {
-        Ok(report) => {
-            report.replies.as_slice() == replies && report.word == word && report.owner == owner
-        },
-        Err(_) => false,
-    }
+) {
+    let report = cell_run(rt.alloc(), steps).expect(rt, "a report");
+    let answer = (steps, report.replies.as_slice(), report.word, report.owner);
+    equal(rt, answer, (steps, replies, word, owner));
 }
 
 #[test]
 fn the_table_of_steps(rt: HostRuntime) {
     for (steps, replies, word, owner) in ROWS {
-        assert!(rt;
-            is_row(rt.alloc(), steps, replies, word, owner),
-            "{steps:?}"
-        );
+        expect_row(&rt, steps, replies, *word, *owner);
     }
 }
 
-/// A parker, and what unparks it.
-fn parking(alloc: Global) -> Result<(Parker, Unparker), Fail> {
-    let parker = Parker::new(alloc)?;
-    let sleeper = parker.unparker().clone()?;
-    Ok((parker, sleeper))
-}
-
 #[test]
-fn a_sleep_then_a_settle(rt: HostRuntime) -> Result<(), Fail> {
-    let (parker, sleeper) = parking(rt.alloc())?;
-    let (mut wait, mut settle) = signal::new::<u64>(rt.alloc())?;
-    assert!(rt; wait.sleep(sleeper) == None);
-    assert!(rt; settle.settle(5) == None);
-    assert!(rt; wait.poll() == Some(5));
-    assert!(rt; wait.poll() == None);
+fn a_sleep_then_a_settle(rt: HostRuntime) {
+    let parker = new_parker(&rt);
+    let (mut wait, mut settle) = cell::<u64>(&rt);
+    equal(&rt, wait.sleep(unparker_of(&rt, &parker)), None);
+    equal(&rt, settle.settle(5), None);
+    equal(&rt, wait.poll(), Some(5));
+    equal(&rt, wait.poll(), None);
     // The settle woke the sleeper, so this returns at once.
     parker.park(&rt);
-    Ok(())
 }
 
 #[test]
-fn a_settle_then_a_sleep(rt: HostRuntime) -> Result<(), Fail> {
-    let (_parker, sleeper) = parking(rt.alloc())?;
-    let (mut wait, mut settle) = signal::new::<u64>(rt.alloc())?;
-    assert!(rt; settle.settle(5) == None);
-    assert!(rt; wait.sleep(sleeper) == Some(5));
-    assert!(rt; wait.leave() == None);
-    Ok(())
+fn a_settle_then_a_sleep(rt: HostRuntime) {
+    let parker = new_parker(&rt);
+    let (mut wait, mut settle) = cell::<u64>(&rt);
+    equal(&rt, settle.settle(5), None);
+    equal(&rt, wait.sleep(unparker_of(&rt, &parker)), Some(5));
+    equal(&rt, wait.leave(), None);
 }
 
 #[test]
-fn a_leave_then_a_settle(rt: HostRuntime) -> Result<(), Fail> {
-    let (mut wait, mut settle) = signal::new::<u64>(rt.alloc())?;
-    assert!(rt; !settle.is_left());
-    assert!(rt; wait.leave() == None);
-    assert!(rt; settle.is_left());
-    assert!(rt; settle.settle(5) == Some(5));
-    Ok(())
+fn a_leave_then_a_settle(rt: HostRuntime) {
+    let (mut wait, mut settle) = cell::<u64>(&rt);
+    holds(&rt, !settle.is_left());
+    equal(&rt, wait.leave(), None);
+    holds(&rt, settle.is_left());
+    equal(&rt, settle.settle(5), Some(5));
 }
 
 #[test]
-fn a_settle_then_a_leave(rt: HostRuntime) -> Result<(), Fail> {
-    let (mut wait, mut settle) = signal::new::<u64>(rt.alloc())?;
-    assert!(rt; wait.poll() == None);
-    assert!(rt; settle.settle(5) == None);
-    assert!(rt; wait.leave() == Some(5));
-    Ok(())
+fn a_settle_then_a_leave(rt: HostRuntime) {
+    let (mut wait, mut settle) = cell::<u64>(&rt);
+    equal(&rt, wait.poll(), None);
+    equal(&rt, settle.settle(5), None);
+    equal(&rt, wait.leave(), Some(5));
 }
 
 #[test]
-fn a_sleep_a_leave_then_a_settle(rt: HostRuntime) -> Result<(), Fail> {
-    let (parker, sleeper) = parking(rt.alloc())?;
-    let (mut wait, mut settle) = signal::new::<u64>(rt.alloc())?;
-    assert!(rt; wait.sleep(sleeper) == None);
-    assert!(rt; wait.leave() == None);
-    assert!(rt; settle.settle(5) == Some(5));
+fn a_sleep_a_leave_then_a_settle(rt: HostRuntime) {
+    let parker = new_parker(&rt);
+    let (mut wait, mut settle) = cell::<u64>(&rt);
+    equal(&rt, wait.sleep(unparker_of(&rt, &parker)), None);
+    equal(&rt, wait.leave(), None);
+    equal(&rt, settle.settle(5), Some(5));
     parker.park(&rt);
-    Ok(())
 }

@@ -3,37 +3,42 @@ ghost use Rattle.std.specs.Prelude.{◌≡◌};
 ghost use Rattle.kanal_core.specs.CellRule.{HasNotLeft, HasNotSettled};
 ghost use Rattle.kanal_core.specs.CellEnds.{wait_view, settle_view};
 
-use crossbeam_utils::sync::{Parker, Unparker};
+use crate::given::{cell, counter, equal, holds, new_parker, shared, unparker_of};
+use crossbeam_utils::sync::Unparker;
 use futures::Future;
 use futures::executor::block_on;
 use futures::spin::lock;
 use futures::task::{Context, Poll, Source, Waker};
 use futures::test::MockTask;
-use kanal_core::signal;
 use kanal_core::signal::{SettleEnd, WaitEnd};
-use std::alloc::Global;
+use std::alloc::{AllocGlobal, Global};
+use std::process::Abort;
+use std::random::RandomSource;
 use std::sync::atomic::{AtomicU64, Ordering};
-use std::sync::{Arc, Mutex};
-use std::test::Fail;
+use std::sync::{Arc, Mutex, Wait};
 use std::thread;
+use std::thread::{JoinHandle, Threads};
+
+/// A settle in another thread wakes this one, should it park before.
+fn wake_the_parked<R: Threads + Wait + Abort + AllocGlobal>(rt: &R) {
+    let parker = new_parker(rt);
+    let sleeper = unparker_of(rt, &parker);
+    let (mut wait, mut settle) = cell::<u64>(rt);
+    let other = thread::spawn(rt, move || settle.settle(7).is_none()).expect(rt, "a thread");
+    let mut got = wait.sleep(sleeper);
+    if got.is_none() {
+        parker.park(rt);
+        got = wait.poll();
+    }
+    equal(rt, got, Some(7));
+    holds(rt, other.join(rt));
+}
 
 #[test]
-fn a_settle_wakes_the_parked_thread(rt: HostRuntime) -> Result<(), Fail> {
+fn a_settle_wakes_the_parked_thread(rt: HostRuntime) {
     for _ in 0..200u32 {
-        let parker = Parker::new(rt.alloc())?;
-        let sleeper = parker.unparker().clone()?;
-        let (mut wait, mut settle) = signal::new::<u64>(rt.alloc())?;
-        let other = thread::spawn(&rt, move || settle.settle(7).is_none())?;
-        match wait.sleep(sleeper) {
-            Some(x) => assert!(rt; x == 7),
-            None => {
-                parker.park(&rt);
-                assert!(rt; wait.poll() == Some(7));
-            }
-        }
-        assert!(rt; other.join(&rt));
+        wake_the_parked(&rt);
     }
-    Ok(())
 }
 
 /// The thread that may park is about to.
@@ -59,39 +64,44 @@ fn stays_parked(stage: &AtomicU64, waking: &Unparker) -> bool {
     stayed
 }
 
-/// A parker, and twice what unparks it.
-fn parking(alloc: Global) -> Result<(Parker, Unparker, Unparker), Fail> {
-    let parker = Parker::new(alloc)?;
-    let sleeper = parker.unparker().clone()?;
-    let waking = parker.unparker().clone()?;
-    Ok((parker, sleeper, waking))
+/// The ends of a cell in which a sleep came after the settle, and had the outcome at once.
+fn sleep_late<R: Abort + AllocGlobal>(rt: &R, sleeper: Unparker) -> (WaitEnd<u64>, SettleEnd<u64>) {
+    let (mut wait, mut settle) = cell(rt);
+    equal(rt, settle.settle(5), None);
+    equal(rt, wait.sleep(sleeper), Some(5));
+    (wait, settle)
 }
 
-/// A stage that has not begun, for two threads.
-fn stages(alloc: Global) -> Result<(Arc<AtomicU64, Global>, Arc<AtomicU64, Global>), Fail> {
-    let stage = Arc::new(alloc, AtomicU64::new(0))?;
-    let theirs = Arc::try_clone(&stage)?;
-    Ok((stage, theirs))
+/// Starts the thread that sees this one stay parked.
+fn start_watch<R: Threads + Abort>(
+    rt: &R,
+    stage: Arc<AtomicU64, Global>,
+    waking: Unparker,
+) -> JoinHandle<bool> {
+    thread::spawn(rt, move || stays_parked(&stage, &waking)).expect(rt, "a thread")
 }
 
 /// A sleep that comes after the settle has the outcome at once, and its sleeper is not woken: a park
 /// after it lasts until somebody else ends it.
 #[test]
-fn a_sleep_after_the_settle_is_not_woken(rt: HostRuntime) -> Result<(), Fail> {
-    let (parker, sleeper, waking) = parking(rt.alloc())?;
-    let (stage, theirs) = stages(rt.alloc())?;
-    let (mut wait, mut settle) = signal::new::<u64>(rt.alloc())?;
-    assert!(rt; settle.settle(5).is_none());
-    assert!(rt; wait.sleep(sleeper) == Some(5));
-    let other = thread::spawn(&rt, move || stays_parked(&theirs, &waking))?;
+fn a_sleep_after_the_settle_is_not_woken(rt: HostRuntime) {
+    let parker = new_parker(&rt);
+    let _ends = sleep_late(&rt, unparker_of(&rt, &parker));
+    let stage = counter(&rt);
+    let other = start_watch(&rt, shared(&rt, &stage), unparker_of(&rt, &parker));
     stage.store(PARKS, Ordering::SeqCst);
     parker.park(&rt);
     stage.store(PASSED, Ordering::SeqCst);
-    assert!(rt; other.join(&rt));
-    Ok(())
+    holds(&rt, other.join(&rt));
 }
 
-fn waker_of(task: &MockTask) -> Option<Waker> {
+/// A task that is polled by hand.
+fn new_task(rt: &(impl Abort + RandomSource + AllocGlobal)) -> MockTask {
+    MockTask::new(rt).expect(rt, "a task")
+}
+
+/// What the task registers, if it registers.
+fn registered(task: &MockTask) -> Option<Waker> {
     let source = Source::new();
     let mut slot = None;
     task.enter(|cx| {
@@ -100,25 +110,42 @@ fn waker_of(task: &MockTask) -> Option<Waker> {
     slot
 }
 
+/// What wakes the task.
+fn waker_of(rt: &impl Abort, task: &MockTask) -> Waker {
+    registered(task).expect(rt, "waker")
+}
+
+/// Which of the two tasks are woken.
+fn are_woken(first: &MockTask, second: &MockTask) -> (bool, bool) {
+    (first.is_woken(), second.is_woken())
+}
+
+/// The ends of a cell that kept the waker of the first task and then that of the second: its settle
+/// woke the second alone.
+fn settle_for_the_second(
+    rt: &(impl Abort + AllocGlobal),
+    first: &MockTask,
+    second: &MockTask,
+) -> (WaitEnd<u64>, SettleEnd<u64>) {
+    let (wait, mut settle) = cell(rt);
+    holds(rt, settle.set_waker(waker_of(rt, first)).is_none());
+    let displaced = settle.set_waker(waker_of(rt, second));
+    holds(rt, displaced.is_some());
+    equal(rt, are_woken(first, second), (false, false));
+    equal(rt, settle.settle(7), None);
+    equal(rt, are_woken(first, second), (false, true));
+    (wait, settle)
+}
+
 #[test]
-fn a_settle_wakes_the_kept_waker_once(rt: HostRuntime) -> Result<(), Fail> {
-    let (first, second) = (MockTask::new(&rt)?, MockTask::new(&rt)?);
-    let (wait, mut settle) = signal::new::<u64>(rt.alloc())?;
-    assert!(rt;
-        settle
-            .set_waker(waker_of(&first).expect(&rt, "waker"))
-            .is_none()
-    );
-    let displaced = settle.set_waker(waker_of(&second).expect(&rt, "waker"));
-    assert!(rt; displaced.is_some() && !first.is_woken() && !second.is_woken());
-    assert!(rt; settle.settle(7).is_none());
-    assert!(rt; second.is_woken() && !first.is_woken());
+fn a_settle_wakes_the_kept_waker_once(rt: HostRuntime) {
+    let (first, second) = (new_task(&rt), new_task(&rt));
+    let (wait, settle) = settle_for_the_second(&rt, &first, &second);
     // Another poll begins, and nothing wakes it: the settle kept no waker.
     second.enter(|_| ());
     drop(settle);
     drop(wait);
-    assert!(rt; !second.is_woken());
-    Ok(())
+    holds(&rt, !second.is_woken());
 }
 
 #[derive(Drop)]
@@ -187,27 +214,36 @@ fn settle_later(line: &Line, x: u64) -> bool {
     }
 }
 
+/// A line with this entry.
+fn line_with(rt: &(impl Abort + AllocGlobal), entry: Entry) -> Arc<Line> {
+    let source = Source::new();
+    let entry = Mutex::new(Some(entry));
+    Arc::new(rt.alloc(), Line { source, entry }).expect(rt, "memory for a line")
+}
+
+/// The same line once more.
+fn same_line(rt: &impl Abort, line: &Arc<Line>) -> Arc<Line> {
+    Arc::try_clone(line).expect(rt, "a count of the line")
+}
+
+/// A settle in another thread wakes the task that waits for this outcome.
+fn wake_the_task<R: Threads + Wait + Abort + RandomSource + AllocGlobal>(rt: &R, outcome: u64) {
+    let (wait, settle) = cell(rt);
+    let line = line_with(rt, Entry { end: settle });
+    let theirs = same_line(rt, &line);
+    let other = thread::spawn(rt, move || settle_later(&theirs, outcome)).expect(rt, "a thread");
+    let receive = Receive {
+        line,
+        spare: None,
+        end: wait,
+    };
+    equal(rt, block_on(rt, receive).expect(rt, "a task"), outcome);
+    holds(rt, other.join(rt));
+}
+
 #[test]
-fn a_settle_wakes_the_task(rt: HostRuntime) -> Result<(), Fail> {
+fn a_settle_wakes_the_task(rt: HostRuntime) {
     for round in 0..100u64 {
-        let (wait, settle) = signal::new(rt.alloc())?;
-        let line = Arc::new(
-            rt.alloc(),
-            Line {
-                source: Source::new(),
-                entry: Mutex::new(Some(Entry { end: settle })),
-            },
-        )?;
-        let theirs = Arc::try_clone(&line)?;
-        let other = thread::spawn(&rt, move || settle_later(&theirs, round))?;
-        let receive = Receive {
-            line,
-            spare: None,
-            end: wait,
-        };
-        let got = block_on(&rt, receive)?;
-        assert!(rt; got == round);
-        assert!(rt; other.join(&rt));
+        wake_the_task(&rt, round);
     }
-    Ok(())
 }

@@ -1,8 +1,10 @@
 //! Drains of the core.
-use crate::waits::{drop_receiver, drop_sender, enters, receive, send};
+use crate::given::{core_of, equal, holds};
+use crate::waits::{drop_receiver, drop_sender, enter, filled, receive, send};
 use kanal_core::error::DrainError;
 use kanal_core::internal::{ChannelInternal, Ended, Offer, Outcome};
-use std::test::Fail;
+use std::alloc::AllocGlobal;
+use std::process::Abort;
 
 type Core = ChannelInternal<u64, u8>;
 
@@ -14,55 +16,56 @@ fn is_next(taken: &mut Ended<u64, u8>, w: u8) -> bool {
     }
 }
 
-/// Whether the senders that were taken are the two that brought these Ws.
-fn are_two(taken: Ended<u64, u8>, first: u8, second: u8) -> bool {
+/// The senders that were taken are those that brought these Ws.
+fn expect_taken(rt: &impl Abort, taken: Ended<u64, u8>, expected: &[u8]) {
     let mut taken = taken;
-    is_next(&mut taken, first) && is_next(&mut taken, second) && taken.next().is_none()
-}
-
-/// How many messages a drain moves that takes two senders, who brought these Ws.
-fn drain_two(core: &mut Core, into: &mut Vec<u64>, first: u8, second: u8) -> Option<usize> {
-    match core.drain_into(into) {
-        Ok((count, taken)) => {
-            if are_two(taken, first, second) {
-                Some(count)
-            } else {
-                None
-            }
-        },
-        Err(_) => None,
+    for w in expected {
+        holds(rt, is_next(&mut taken, *w));
     }
+    holds(rt, taken.next().is_none());
 }
 
-/// How many messages a drain moves that takes no sender.
-fn drain(core: &mut Core, into: &mut Vec<u64>) -> Option<usize> {
-    match core.drain_into(into) {
-        Ok((count, mut taken)) => if taken.next().is_none() {
-            Some(count)
-        } else {
-            None
-        },
-        Err(_) => None,
-    }
+/// A drain moves so many messages, and takes the senders who brought these Ws.
+fn drain(rt: &impl Abort, core: &mut Core, into: &mut Vec<u64>, count: usize, ws: &[u8]) {
+    let (moved, taken) = core.drain_into(into).expect(rt, "a drain");
+    equal(rt, moved, count);
+    expect_taken(rt, taken, ws);
 }
 
-/// Why a drain is refused.
-fn refusal(core: &mut Core, into: &mut Vec<u64>) -> Option<DrainError> {
-    core.drain_into(into).err()
+/// A vector with one message.
+fn one(rt: &(impl Abort + AllocGlobal), message: u64) -> Vec<u64> {
+    vec![in rt.alloc(); message].expect(rt, "memory for a vector")
+}
+
+/// A drain into a vector that holds 9: it moves so many messages, and then the vector holds these.
+fn drain_after_9(
+    rt: &(impl Abort + AllocGlobal),
+    core: &mut Core,
+    ws: &[u8],
+    count: usize,
+    expected: &[u64],
+) {
+    let mut messages = one(rt, 9);
+    drain(rt, core, &mut messages, count, ws);
+    equal(rt, messages.as_slice(), expected);
+}
+
+/// A drain into a vector that holds 9 is refused so, and the vector stays as it was.
+fn refuse_drain(rt: &(impl Abort + AllocGlobal), core: &mut Core, expected: DrainError) {
+    let mut messages = one(rt, 9);
+    let refused = core.drain_into(&mut messages).err();
+    equal(rt, refused, Some(expected));
+    equal(rt, messages.as_slice(), [9].as_slice());
 }
 
 #[test]
-fn a_buffer_and_waiting_senders(rt: HostRuntime) -> Result<(), Fail> {
-    let mut core = Core::new(rt.alloc(), 1)?;
-    assert!(rt; enters(&mut core, 1));
-    assert!(rt; send(&mut core, 2, 7).is_some());
-    assert!(rt; send(&mut core, 3, 8).is_some());
-    let mut messages = vec![in rt.alloc(); 9]?;
-    assert!(rt; drain_two(&mut core, &mut messages, 7, 8) == Some(3));
-    assert!(rt; messages.as_slice() == [9, 1, 2, 3].as_slice());
-    assert!(rt; core.is_empty());
-    assert!(rt; enters(&mut core, 4));
-    Ok(())
+fn a_buffer_and_waiting_senders(rt: HostRuntime) {
+    let mut core: Core = filled(&rt);
+    send(&rt, &mut core, 2, 7);
+    send(&rt, &mut core, 3, 8);
+    drain_after_9(&rt, &mut core, &[7, 8], 3, &[9, 1, 2, 3]);
+    holds(&rt, core.is_empty());
+    enter(&rt, &mut core, 4);
 }
 
 /// Whether the message is handed to a receiver that waits.
@@ -71,36 +74,28 @@ fn is_handed(core: &mut Core, message: u64) -> bool {
 }
 
 #[test]
-fn an_empty_line(rt: HostRuntime) -> Result<(), Fail> {
-    let mut core = Core::new(rt.alloc(), 1)?;
-    assert!(rt; receive(&mut core, 7).is_some());
-    let mut messages = vec![in rt.alloc(); 9]?;
-    assert!(rt; drain(&mut core, &mut messages) == Some(0));
-    assert!(rt; messages.as_slice() == [9].as_slice());
-    assert!(rt; is_handed(&mut core, 1));
-    Ok(())
+fn an_empty_line(rt: HostRuntime) {
+    let mut core: Core = core_of(&rt, 1);
+    receive(&rt, &mut core, 7);
+    drain_after_9(&rt, &mut core, &[], 0, &[9]);
+    holds(&rt, is_handed(&mut core, 1));
 }
 
 #[test]
-fn a_line_without_senders(rt: HostRuntime) -> Result<(), Fail> {
+fn a_line_without_senders(rt: HostRuntime) {
     let mut core = Core::unbounded(rt.alloc());
-    assert!(rt; enters(&mut core, 1));
-    assert!(rt; drop_sender(&mut core));
-    let mut messages = vec![in rt.alloc()]?;
-    assert!(rt; drain(&mut core, &mut messages) == Some(1));
-    assert!(rt; messages.as_slice() == [1].as_slice());
-    assert!(rt; drain(&mut core, &mut messages) == Some(0));
-    Ok(())
+    enter(&rt, &mut core, 1);
+    drop_sender(&rt, &mut core);
+    let mut messages = Vec::new(rt.alloc());
+    drain(&rt, &mut core, &mut messages, 1, &[]);
+    equal(&rt, messages.as_slice(), [1].as_slice());
+    drain(&rt, &mut core, &mut messages, 0, &[]);
 }
 
 #[test]
-fn a_line_without_receivers(rt: HostRuntime) -> Result<(), Fail> {
-    let mut core = Core::new(rt.alloc(), 1)?;
-    assert!(rt; enters(&mut core, 1));
-    assert!(rt; drop_receiver(&mut core));
-    let mut messages = vec![in rt.alloc(); 9]?;
-    assert!(rt; refusal(&mut core, &mut messages) == Some(DrainError::Closed));
-    assert!(rt; messages.as_slice() == [9].as_slice());
-    assert!(rt; core.len() == 1);
-    Ok(())
+fn a_line_without_receivers(rt: HostRuntime) {
+    let mut core: Core = filled(&rt);
+    drop_receiver(&rt, &mut core);
+    refuse_drain(&rt, &mut core, DrainError::Closed);
+    equal(&rt, core.len(), 1);
 }

@@ -1,10 +1,12 @@
 //! Counts, last drops and questions of the core.
+use crate::given::{core_from, core_of, equal, holds};
 use crate::waits::{
-    drop_receiver, drop_sender, enters, is_one, is_receive_closed, is_send_closed, receive, send,
+    drop_receiver, drop_sender, enter, expect_one_end, expect_receive_closed, expect_send_closed,
+    filled, receive, send,
 };
 use kanal_core::error::TooMany;
 use kanal_core::internal::{ChannelInternal, Reason, Take};
-use std::test::Fail;
+use std::process::Abort;
 
 type Core = ChannelInternal<u64, u8>;
 
@@ -16,115 +18,111 @@ fn is_alone(core: &mut Core, message: u64) -> bool {
     }
 }
 
-/// How many senders and receivers there are.
-fn counted(core: &Core) -> (u32, u32) {
-    (core.sender_count(), core.receiver_count())
+/// So many senders and so many receivers are counted.
+fn expect_counts(rt: &impl Abort, core: &Core, expected: (u32, u32)) {
+    equal(rt, (core.sender_count(), core.receiver_count()), expected);
 }
 
-/// Adds a sender and a receiver; what each answers.
-fn add_both(core: &mut Core) -> (Result<(), TooMany>, Result<(), TooMany>) {
-    (core.add_sender(), core.add_receiver())
+/// Adds a sender and a receiver; both calls answer this.
+fn add_both(rt: &impl Abort, core: &mut Core, expected: Result<(), TooMany>) {
+    equal(rt, core.add_sender(), expected);
+    equal(rt, core.add_receiver(), expected);
 }
 
-/// Drops a sender and a receiver; whether that ends no wait.
-fn drop_both(core: &mut Core) -> bool {
-    drop_sender(core) && drop_receiver(core)
-}
-
-#[test]
-fn counts(rt: HostRuntime) -> Result<(), Fail> {
-    let mut core = Core::new(rt.alloc(), 1)?;
-    assert!(rt; add_both(&mut core) == (Ok(()), Ok(())));
-    assert!(rt; counted(&core) == (2, 2));
-    assert!(rt; drop_both(&mut core));
-    assert!(rt; counted(&core) == (1, 1));
-    Ok(())
+/// Drops a sender and a receiver, which ends no wait.
+fn drop_both(rt: &impl Abort, core: &mut Core) {
+    drop_sender(rt, core);
+    drop_receiver(rt, core);
 }
 
 #[test]
-fn largest_counts(rt: HostRuntime) -> Result<(), Fail> {
-    let mut core = Core::starting_at(rt.alloc(), Some(1), 0, u32::MAX, u32::MAX)?;
-    assert!(rt; add_both(&mut core) == (Err(TooMany), Err(TooMany)));
-    assert!(rt; counted(&core) == (u32::MAX, u32::MAX));
-    Ok(())
+fn counts(rt: HostRuntime) {
+    let mut core: Core = core_of(&rt, 1);
+    add_both(&rt, &mut core, Ok(()));
+    expect_counts(&rt, &core, (2, 2));
+    drop_both(&rt, &mut core);
+    expect_counts(&rt, &core, (1, 1));
 }
 
 #[test]
-fn counts_of_0(rt: HostRuntime) -> Result<(), Fail> {
-    let mut core = Core::starting_at(rt.alloc(), Some(1), 0, 0, 0)?;
-    assert!(rt; add_both(&mut core) == (Ok(()), Ok(())));
-    assert!(rt; drop_both(&mut core));
-    assert!(rt; counted(&core) == (0, 0));
-    Ok(())
+fn largest_counts(rt: HostRuntime) {
+    let mut core: Core = core_from(&rt, 1, 0, u32::MAX, u32::MAX);
+    add_both(&rt, &mut core, Err(TooMany));
+    expect_counts(&rt, &core, (u32::MAX, u32::MAX));
 }
 
 #[test]
-fn the_last_sender(rt: HostRuntime) -> Result<(), Fail> {
-    let mut core = Core::new(rt.alloc(), 1)?;
-    assert!(rt; receive(&mut core, 7).is_some());
-    assert!(rt; is_one(core.drop_sender(), 7, Reason::SendClosed, None));
-    assert!(rt; core.send_side_gone());
-    assert!(rt; core.is_terminated());
-    assert!(rt; !core.is_closed());
-    assert!(rt; is_send_closed(&mut core));
-    Ok(())
+fn counts_of_0(rt: HostRuntime) {
+    let mut core: Core = core_from(&rt, 1, 0, 0, 0);
+    add_both(&rt, &mut core, Ok(()));
+    drop_both(&rt, &mut core);
+    expect_counts(&rt, &core, (0, 0));
 }
 
 #[test]
-fn the_last_sender_while_senders_wait(rt: HostRuntime) -> Result<(), Fail> {
-    let mut core = Core::new(rt.alloc(), 1)?;
-    assert!(rt; enters(&mut core, 1));
-    assert!(rt; send(&mut core, 2, 7).is_some());
-    assert!(rt; is_one(core.drop_sender(), 7, Reason::SendClosed, Some(2)));
-    assert!(rt; !core.is_terminated());
-    assert!(rt; is_alone(&mut core, 1));
-    assert!(rt; core.is_terminated());
-    Ok(())
+fn the_last_sender(rt: HostRuntime) {
+    let mut core: Core = core_of(&rt, 1);
+    receive(&rt, &mut core, 7);
+    expect_one_end(&rt, core.drop_sender(), 7, Reason::SendClosed, None);
+    let answers = (
+        core.send_side_gone(),
+        core.is_terminated(),
+        core.is_closed(),
+    );
+    equal(&rt, answers, (true, true, false));
+    expect_send_closed(&rt, &mut core);
 }
 
 #[test]
-fn the_last_receiver(rt: HostRuntime) -> Result<(), Fail> {
-    let mut core = Core::new(rt.alloc(), 1)?;
-    assert!(rt; enters(&mut core, 1));
-    assert!(rt; send(&mut core, 2, 7).is_some());
-    assert!(rt; is_one(core.drop_receiver(), 7, Reason::ReceiveClosed, Some(2)));
-    assert!(rt; core.len() == 1);
-    assert!(rt; core.receive_side_gone());
-    assert!(rt; !core.send_side_gone());
-    assert!(rt; is_receive_closed(&mut core, 3));
-    assert!(rt; drop_sender(&mut core));
-    assert!(rt; core.is_closed());
-    Ok(())
-}
-
-/// Whether the buffer is empty, and whether it is full.
-fn filled(core: &Core) -> (bool, bool) {
-    (core.is_empty(), core.is_full())
+fn the_last_sender_while_senders_wait(rt: HostRuntime) {
+    let mut core: Core = filled(&rt);
+    send(&rt, &mut core, 2, 7);
+    expect_one_end(&rt, core.drop_sender(), 7, Reason::SendClosed, Some(2));
+    holds(&rt, !core.is_terminated());
+    holds(&rt, is_alone(&mut core, 1));
+    holds(&rt, core.is_terminated());
 }
 
 #[test]
-fn questions(rt: HostRuntime) -> Result<(), Fail> {
-    let mut core = Core::new(rt.alloc(), 1)?;
-    assert!(rt; core.is_bounded());
-    assert!(rt; core.capacity() == 1);
-    assert!(rt; filled(&core) == (true, false));
-    assert!(rt; enters(&mut core, 1));
-    assert!(rt; filled(&core) == (false, true));
-    Ok(())
+fn the_last_receiver(rt: HostRuntime) {
+    let mut core: Core = filled(&rt);
+    send(&rt, &mut core, 2, 7);
+    expect_one_end(&rt, core.drop_receiver(), 7, Reason::ReceiveClosed, Some(2));
+    let answers = (core.len(), core.receive_side_gone(), core.send_side_gone());
+    equal(&rt, answers, (1, true, false));
+    expect_receive_closed(&rt, &mut core, 3);
+    drop_sender(&rt, &mut core);
+    holds(&rt, core.is_closed());
+}
+
+/// Whether the buffer is empty, and whether it is full, is as expected.
+fn expect_filled(rt: &impl Abort, core: &Core, expected: (bool, bool)) {
+    equal(rt, (core.is_empty(), core.is_full()), expected);
 }
 
 #[test]
-fn questions_at_capacity_0(rt: HostRuntime) -> Result<(), Fail> {
-    let core = Core::new(rt.alloc(), 0)?;
-    assert!(rt; core.is_full());
-    Ok(())
+fn questions(rt: HostRuntime) {
+    let mut core: Core = core_of(&rt, 1);
+    equal(&rt, (core.is_bounded(), core.capacity()), (true, 1));
+    expect_filled(&rt, &core, (true, false));
+    enter(&rt, &mut core, 1);
+    expect_filled(&rt, &core, (false, true));
+}
+
+#[test]
+fn questions_at_capacity_0(rt: HostRuntime) {
+    let core: Core = core_of(&rt, 0);
+    holds(&rt, core.is_full());
 }
 
 #[test]
 fn questions_without_a_limit(rt: HostRuntime) {
     let mut core = Core::unbounded(rt.alloc());
-    assert!(rt; enters(&mut core, 1));
-    assert!(rt; !core.is_bounded());
-    assert!(rt; core.capacity() == usize::MAX);
-    assert!(rt; filled(&core) == (false, false));
+    enter(&rt, &mut core, 1);
+    equal(
+        &rt,
+        (core.is_bounded(), core.capacity()),
+        (false, usize::MAX),
+    );
+    expect_filled(&rt, &core, (false, false));
 }

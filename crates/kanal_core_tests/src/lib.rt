@@ -17,4 +17,6 @@ mod core_handles;
 #[cfg(test)]
 mod core_waits;
 #[cfg(test)]
+mod given;
+#[cfg(test)]
 mod waits;

@@ -1,38 +1,93 @@
-//! Calls on a core whose messages are numbers.
+//! Calls on a core that several modules share.
+//!
+//! What takes `rt` ends the test unless the call answers so.
+use crate::given::{core_of, equal, holds};
+use kanal_core::error::WaitError;
 use kanal_core::internal::{ChannelInternal, Ended, Offer, Outcome, Reason, Take, Ticket};
+use std::alloc::AllocGlobal;
+use std::process::Abort;
 
-/// Whether the message enters.
-pub fn enters<W: Drop>(core: &mut ChannelInternal<u64, W>, message: u64) -> bool {
-    matches!(core.offer(message), Offer::Entered)
+/// The message enters.
+pub fn enter<T: Drop, W: Drop>(rt: &impl Abort, core: &mut ChannelInternal<T, W>, message: T) {
+    holds(rt, matches!(core.offer(message), Offer::Entered));
 }
 
-/// Whether no message comes and no sender is left.
-pub fn is_send_closed<W: Drop>(core: &mut ChannelInternal<u64, W>) -> bool {
-    matches!(core.take(), Take::SendClosed)
+/// A core with one place, which the message 1 fills.
+pub fn filled<W: Drop>(rt: &(impl Abort + AllocGlobal)) -> ChannelInternal<u64, W> {
+    let mut core = core_of(rt, 1);
+    enter(rt, &mut core, 1);
+    core
+}
+
+/// No message comes and no sender is left.
+pub fn expect_send_closed<W: Drop>(rt: &impl Abort, core: &mut ChannelInternal<u64, W>) {
+    holds(rt, matches!(core.take(), Take::SendClosed));
 }
 
 /// Whether the message comes back as no receiver is left.
-pub fn is_receive_closed<W: Drop>(core: &mut ChannelInternal<u64, W>, message: u64) -> bool {
+fn is_receive_closed<W: Drop>(core: &mut ChannelInternal<u64, W>, message: u64) -> bool {
     match core.offer(message) {
         Offer::ReceiveClosed(back) => back == message,
         _ => false,
     }
 }
 
-/// The ticket of a send that finds no place.
-pub fn send<W: Drop>(core: &mut ChannelInternal<u64, W>, message: u64, w: W) -> Option<Ticket> {
+/// The message comes back as no receiver is left.
+pub fn expect_receive_closed<W: Drop>(
+    rt: &impl Abort,
+    core: &mut ChannelInternal<u64, W>,
+    message: u64,
+) {
+    holds(rt, is_receive_closed(core, message));
+}
+
+type Sent<T, W> = Result<Ticket, (WaitError, T, W)>;
+
+/// What the wait of a send answers that finds no place.
+fn sent<T: Drop, W: Drop>(
+    core: &mut ChannelInternal<T, W>,
+    message: T,
+    w: W,
+) -> Option<Sent<T, W>> {
     match core.offer(message) {
-        Offer::Full(back) => core.wait_send(back, w).ok(),
+        Offer::Full(back) => Some(core.wait_send(back, w)),
         _ => None,
     }
 }
 
+/// A send finds no place, and waits with this ticket.
+pub fn send<T: Drop, W: Drop>(
+    rt: &impl Abort,
+    core: &mut ChannelInternal<T, W>,
+    message: T,
+    w: W,
+) -> Ticket {
+    let answer = sent(core, message, w).expect(rt, "the send finds no place");
+    answer.ok().expect(rt, "the send waits")
+}
+
+/// A send finds no place, and its wait is refused with this.
+pub fn refused_send<T: Drop, W: Drop>(
+    rt: &impl Abort,
+    core: &mut ChannelInternal<T, W>,
+    message: T,
+    w: W,
+) -> (WaitError, T, W) {
+    let answer = sent(core, message, w).expect(rt, "the send finds no place");
+    answer.err().expect(rt, "the wait is refused")
+}
+
 /// The ticket of a receive that finds no message.
-pub fn receive<W: Drop>(core: &mut ChannelInternal<u64, W>, w: W) -> Option<Ticket> {
+fn received<W: Drop>(core: &mut ChannelInternal<u64, W>, w: W) -> Option<Ticket> {
     match core.take() {
         Take::Empty => core.wait_recv(w).ok(),
         _ => None,
     }
+}
+
+/// A receive finds no message, and waits with this ticket.
+pub fn receive<W: Drop>(rt: &impl Abort, core: &mut ChannelInternal<u64, W>, w: W) -> Ticket {
+    received(core, w).expect(rt, "the receive waits")
 }
 
 /// The W, the reason and the message of the next wait that ended.
@@ -46,18 +101,25 @@ fn next_end(ended: &mut Ended<u64, u8>) -> Option<(u8, Reason, Option<u64>)> {
     }
 }
 
-/// Whether one wait ended: with this W, for this reason, and with this message.
-pub fn is_one(ended: Ended<u64, u8>, w: u8, reason: Reason, message: Option<u64>) -> bool {
+/// One wait ended: with this W, for this reason, and with this message.
+pub fn expect_one_end(
+    rt: &impl Abort,
+    ended: Ended<u64, u8>,
+    w: u8,
+    reason: Reason,
+    message: Option<u64>,
+) {
     let mut ended = ended;
-    next_end(&mut ended) == Some((w, reason, message)) && ended.next().is_none()
+    equal(rt, next_end(&mut ended), Some((w, reason, message)));
+    holds(rt, ended.next().is_none());
 }
 
-/// Drops a sender; whether that ends no wait.
-pub fn drop_sender<W: Drop>(core: &mut ChannelInternal<u64, W>) -> bool {
-    core.drop_sender().next().is_none()
+/// Drops a sender, which ends no wait.
+pub fn drop_sender<W: Drop>(rt: &impl Abort, core: &mut ChannelInternal<u64, W>) {
+    holds(rt, core.drop_sender().next().is_none());
 }
 
-/// Drops a receiver; whether that ends no wait.
-pub fn drop_receiver<W: Drop>(core: &mut ChannelInternal<u64, W>) -> bool {
-    core.drop_receiver().next().is_none()
+/// Drops a receiver, which ends no wait.
+pub fn drop_receiver<W: Drop>(rt: &impl Abort, core: &mut ChannelInternal<u64, W>) {
+    holds(rt, core.drop_receiver().next().is_none());
 }

@@ -1,0 +1,81 @@
+//! What the tests share: cores, cells, counters, and the comparison of an answer with the expected one.
+//!
+//! Each ends the test by itself, so that a test has nothing to hand out where something is missing.
+ghost use Rattle.std.specs.Prelude.{◌≡◌};
+ghost use Rattle.kanal_core.specs.CellRule.{fresh};
+ghost use Rattle.kanal_core.specs.CellEnds.{wait_view, settle_view};
+ghost use Rattle.kanal_core.specs.declared.signal.rule.Role.TheVariants.{Waiter, Settler};
+
+use crossbeam_utils::sync::{Parker, Unparker};
+use kanal_core::internal::ChannelInternal;
+use kanal_core::signal;
+use kanal_core::signal::{SettleEnd, WaitEnd};
+use std::alloc::{AllocGlobal, Global};
+use std::fmt::Debug;
+use std::process::Abort;
+use std::sync::Arc;
+use std::sync::atomic::AtomicU64;
+
+/// Ends the test, and shows both values, unless the answer is the expected one.
+pub fn equal<A: PartialEq + Debug + Drop>(rt: &impl Abort, answer: A, expected: A) {
+    assert_eq!(rt; answer, expected);
+}
+
+/// Ends the test unless the fact holds.
+pub fn holds(rt: &impl Abort, fact: bool) {
+    assert!(rt; fact);
+}
+
+/// A core with so many places.
+pub fn core_of<T: Drop, W: Drop>(
+    rt: &(impl Abort + AllocGlobal),
+    capacity: usize,
+) -> ChannelInternal<T, W> {
+    ChannelInternal::new(rt.alloc(), capacity).expect(rt, "a core")
+}
+
+/// A core with so many places, this first ticket, and so many senders and receivers.
+pub fn core_from<T: Drop, W: Drop>(
+    rt: &(impl Abort + AllocGlobal),
+    capacity: usize,
+    first: u64,
+    senders: u32,
+    receivers: u32,
+) -> ChannelInternal<T, W> {
+    ChannelInternal::starting_at(rt.alloc(), Some(capacity), first, senders, receivers).expect(
+        rt, "a core",
+    )
+}
+
+/// A box round the number.
+pub fn boxed(rt: &(impl Abort + AllocGlobal), number: u32) -> Box<u32> {
+    Box::new(rt.alloc(), number).expect(rt, "memory for a box")
+}
+
+/// The ends of a fresh cell.
+pub fn cell<P: Drop>(rt: &(impl Abort + AllocGlobal)) -> (WaitEnd<P>, SettleEnd<P>)
+    ensures waiter { wait_view result.0 ≡ fresh Waiter }
+    ensures settler { settle_view result.1 ≡ fresh Settler }
+{
+    signal::new(rt.alloc()).expect(rt, "a cell")
+}
+
+/// A parker with no token.
+pub fn new_parker(rt: &(impl Abort + AllocGlobal)) -> Parker {
+    Parker::new(rt.alloc()).expect(rt, "a parker")
+}
+
+/// What unparks the parker.
+pub fn unparker_of(rt: &impl Abort, parker: &Parker) -> Unparker {
+    parker.unparker().clone().expect(rt, "an unparker")
+}
+
+/// A counter at 0.
+pub fn counter(rt: &(impl Abort + AllocGlobal)) -> Arc<AtomicU64, Global> {
+    Arc::new(rt.alloc(), AtomicU64::new(0)).expect(rt, "memory for a counter")
+}
+
+/// The same counter once more.
+pub fn shared(rt: &impl Abort, counter: &Arc<AtomicU64, Global>) -> Arc<AtomicU64, Global> {
+    Arc::try_clone(counter).expect(rt, "a count of the counter")
+}

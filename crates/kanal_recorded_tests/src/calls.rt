@@ -1,34 +1,19 @@
 //! Each call of a pass once, with ample memory.
-use crate::parties::{is_passed_on, recorded};
-use kanal_journal::journal::{Ask, Note, Pass, Recorded, Refusal, Reply, Side};
-use std::sync::Wait;
-use std::test::Fail;
+use crate::given::{equal, holds};
+use crate::parties::{pass_on, recorded};
+use kanal_journal::journal::{Ask, Note, Refusal, Reply, Side};
 
 #[test]
-fn parties_are_numbered_from_0(rt: HostRuntime) -> Result<(), Fail> {
-    let (_channel, a, b) = recorded(&rt, rt.alloc(), Some(1))?;
-    assert!(rt; a.party() == 0);
-    assert!(rt; b.party() == 1);
-    Ok(())
+fn parties_are_numbered_from_0(rt: HostRuntime) {
+    let parties = recorded(&rt, Some(1));
+    equal(&rt, parties.a.party(), 0);
+    equal(&rt, parties.b.party(), 1);
+    drop(parties);
 }
 
 #[test]
-fn a_message_of_another_party(rt: HostRuntime) -> Result<(), Fail> {
-    let (channel, mut a, mut b) = recorded(&rt, rt.alloc(), Some(1))?;
-    assert!(rt; is_passed_on(&rt, &channel, &mut a, &mut b));
-    Ok(())
-}
-
-/// Whether b finds nothing, and then what a sent.
-fn is_got_at_last<R: Wait>(
-    rt: &R,
-    channel: &Recorded<u64>,
-    a: &mut Pass<u64>,
-    b: &mut Pass<u64>,
-) -> bool {
-    b.try_recv(rt, channel) == Reply::Nothing
-        && a.try_send(rt, channel, 7) == Reply::Yes
-        && b.try_recv(rt, channel) == Reply::Got(7)
+fn a_message_of_another_party(rt: HostRuntime) {
+    drop(pass_on(&rt));
 }
 
 /// Whether the call stands at this place, and its pass had seen so much.
@@ -36,74 +21,73 @@ fn is_at(note: &Note<u64>, place: usize, seen: usize) -> bool {
     note.place == place && note.seen == seen
 }
 
-#[test]
-fn what_a_pass_keeps(rt: HostRuntime) -> Result<(), Fail> {
-    let (channel, mut a, mut b) = recorded(&rt, rt.alloc(), Some(1))?;
-    assert!(rt; is_got_at_last(&rt, &channel, &mut a, &mut b));
-    let notes = b.notes();
-    assert!(rt; notes.len() == 2);
-    assert!(rt; is_at(&notes[0], 0, 0));
-    assert!(rt; is_at(&notes[1], 2, 1));
-    Ok(())
-}
-
-/// Whether a send that waits can be taken back, and a drain takes the other's message.
-fn is_sent<R: Wait>(rt: &R, channel: &Recorded<u64>, a: &mut Pass<u64>) -> bool {
-    a.send(rt, channel, 1) == Reply::Sent
-        && a.send(rt, channel, 2) == Reply::Waits(0)
-        && a.withdraw(rt, channel, 0) == Reply::Withdrawn(Some(2))
-        && a.drain(rt, channel) == Reply::Drained(1)
+/// Whether there are two notes, of the journal's first call and of its third.
+fn are_first_and_third(notes: &[Note<u64>]) -> bool {
+    match notes {
+        [first, third] => is_at(first, 0, 0) && is_at(third, 2, 1),
+        _ => false,
+    }
 }
 
 #[test]
-fn sends_that_wait(rt: HostRuntime) -> Result<(), Fail> {
-    let (channel, mut a, _b) = recorded(&rt, rt.alloc(), Some(1))?;
-    assert!(rt; is_sent(&rt, &channel, &mut a));
-    Ok(())
+fn what_a_pass_keeps(rt: HostRuntime) {
+    let mut parties = recorded(&rt, Some(1));
+    let channel = &parties.channel;
+    equal(&rt, parties.b.try_recv(&rt, channel), Reply::Nothing);
+    equal(&rt, parties.a.try_send(&rt, channel, 7), Reply::Yes);
+    equal(&rt, parties.b.try_recv(&rt, channel), Reply::Got(7));
+    holds(&rt, are_first_and_third(parties.b.notes()));
+    drop(parties);
 }
 
-/// Whether one of two messages finds the receive that waits.
-fn is_received<R: Wait>(rt: &R, channel: &Recorded<u64>, a: &mut Pass<u64>) -> bool {
-    a.recv_late(rt, channel) == Reply::Refused(Refusal::Timeout, None)
-        && a.recv(rt, channel) == Reply::Waits(0)
-        && a.try_send(rt, channel, 7) == Reply::Yes
-        && a.try_send(rt, channel, 8) == Reply::No(8)
-}
-
+/// A send that waits can be taken back, and a drain takes the other's message.
 #[test]
-fn receives_that_wait(rt: HostRuntime) -> Result<(), Fail> {
-    let (channel, mut a, _b) = recorded(&rt, rt.alloc(), Some(0))?;
-    assert!(rt; is_received(&rt, &channel, &mut a));
-    Ok(())
+fn sends_that_wait(rt: HostRuntime) {
+    let mut parties = recorded(&rt, Some(1));
+    let (a, channel) = (&mut parties.a, &parties.channel);
+    equal(&rt, a.send(&rt, channel, 1), Reply::Sent);
+    equal(&rt, a.send(&rt, channel, 2), Reply::Waits(0));
+    equal(&rt, a.withdraw(&rt, channel, 0), Reply::Withdrawn(Some(2)));
+    equal(&rt, a.drain(&rt, channel), Reply::Drained(1));
+    drop(parties);
 }
 
-/// Whether handles are added and dropped.
-fn are_counted<R: Wait>(rt: &R, channel: &Recorded<u64>, a: &mut Pass<u64>) -> bool {
-    a.clone_tx(rt, channel) == Reply::Done
-        && a.clone_rx(rt, channel) == Reply::Done
-        && a.ask(rt, channel, Side::Rx, Ask::SenderCount) == Reply::Number(2)
-        && a.drop_tx(rt, channel) == Reply::Done
-        && a.drop_rx(rt, channel) == Reply::Done
-        && a.terminated(rt, channel) == Reply::Flag(false)
-}
-
+/// One of two messages finds the receive that waits.
 #[test]
-fn handles(rt: HostRuntime) -> Result<(), Fail> {
-    let (channel, mut a, _b) = recorded(&rt, rt.alloc(), None)?;
-    assert!(rt; are_counted(&rt, &channel, &mut a));
-    Ok(())
+fn receives_that_wait(rt: HostRuntime) {
+    let mut parties = recorded(&rt, Some(0));
+    let (a, channel) = (&mut parties.a, &parties.channel);
+    let late = Reply::Refused(Refusal::Timeout, None);
+    equal(&rt, a.recv_late(&rt, channel), late);
+    equal(&rt, a.recv(&rt, channel), Reply::Waits(0));
+    equal(&rt, a.try_send(&rt, channel, 7), Reply::Yes);
+    equal(&rt, a.try_send(&rt, channel, 8), Reply::No(8));
+    drop(parties);
 }
 
-/// Whether a close clears the message, and a second one is refused.
-fn is_closed<R: Wait>(rt: &R, channel: &Recorded<u64>, a: &mut Pass<u64>) -> bool {
-    a.try_send(rt, channel, 1) == Reply::Yes
-        && a.close(rt, channel) == Reply::Cleared(1)
-        && a.close(rt, channel) == Reply::Refused(Refusal::CloseError, None)
-}
-
+/// Handles are added and dropped.
 #[test]
-fn a_close(rt: HostRuntime) -> Result<(), Fail> {
-    let (channel, mut a, _b) = recorded(&rt, rt.alloc(), Some(2))?;
-    assert!(rt; is_closed(&rt, &channel, &mut a));
-    Ok(())
+fn handles(rt: HostRuntime) {
+    let mut parties = recorded(&rt, None);
+    let (a, channel) = (&mut parties.a, &parties.channel);
+    equal(&rt, a.clone_tx(&rt, channel), Reply::Done);
+    equal(&rt, a.clone_rx(&rt, channel), Reply::Done);
+    let senders = a.ask(&rt, channel, Side::Rx, Ask::SenderCount);
+    equal(&rt, senders, Reply::Number(2));
+    equal(&rt, a.drop_tx(&rt, channel), Reply::Done);
+    equal(&rt, a.drop_rx(&rt, channel), Reply::Done);
+    equal(&rt, a.terminated(&rt, channel), Reply::Flag(false));
+    drop(parties);
+}
+
+/// A close clears the message, and a second one is refused.
+#[test]
+fn a_close(rt: HostRuntime) {
+    let mut parties = recorded(&rt, Some(2));
+    let (a, channel) = (&mut parties.a, &parties.channel);
+    equal(&rt, a.try_send(&rt, channel, 1), Reply::Yes);
+    equal(&rt, a.close(&rt, channel), Reply::Cleared(1));
+    let refused = Reply::Refused(Refusal::CloseError, None);
+    equal(&rt, a.close(&rt, channel), refused);
+    drop(parties);
 }

@@ -1,8 +1,10 @@
 //! Four threads on one recorded channel.
-use crate::parties::{both, finish};
+use crate::given::equal;
+use crate::parties::{add, both, channel, finish, pass};
 use kanal_journal::journal::{Pass, Recorded, Reply};
+use std::alloc::AllocGlobal;
+use std::process::Abort;
 use std::sync::Wait;
-use std::test::Fail;
 use std::thread;
 use std::thread::Threads;
 
@@ -21,45 +23,68 @@ fn calls<R: Wait>(rt: &R, channel: &Recorded<u64>, mut pass: Pass<u64>, first: u
     pass
 }
 
-fn four<R: Threads + Wait + Sync>(
+/// Two threads, each with its own pass, whose messages begin here and a thousand later.
+fn in_two<R: Threads + Wait + Sync>(
     rt: &R,
     channel: &Recorded<u64>,
-    passes: [Pass<u64>; 4],
-) -> ((Pass<u64>, Pass<u64>), (Pass<u64>, Pass<u64>)) {
-    let [a, b, c, d] = passes;
+    passes: (Pass<u64>, Pass<u64>),
+    first: u64,
+) -> (Pass<u64>, Pass<u64>) {
+    let (a, b) = passes;
     thread::join(
         rt,
-        || thread::join(
-            rt,
-            || calls(rt, channel, a, 0),
-            || calls(rt, channel, b, 1000),
-        ),
-        || thread::join(
-            rt,
-            || calls(rt, channel, c, 2000),
-            || calls(rt, channel, d, 3000),
-        ),
+        || calls(rt, channel, a, first),
+        || calls(rt, channel, b, first.wrapping_add(1000)),
     )
 }
 
-/// Passes 0 to 3.
-fn draw<R: Wait>(rt: &R, channel: &Recorded<u64>) -> Result<[Pass<u64>; 4], Fail> {
-    let a = channel.pass(rt)?;
-    let b = channel.pass(rt)?;
-    let c = channel.pass(rt)?;
-    let d = channel.pass(rt)?;
-    Ok([a, b, c, d])
+fn in_four<R: Threads + Wait + Sync>(
+    rt: &R,
+    channel: &Recorded<u64>,
+    passes: (Pass<u64>, Pass<u64>),
+    others: (Pass<u64>, Pass<u64>),
+) -> ((Pass<u64>, Pass<u64>), (Pass<u64>, Pass<u64>)) {
+    thread::join(
+        rt,
+        || in_two(rt, channel, passes, 0),
+        || in_two(rt, channel, others, 2000),
+    )
+}
+
+/// The four passes in a list.
+fn listed(
+    rt: &(impl Abort + AllocGlobal),
+    passes: (Pass<u64>, Pass<u64>),
+    others: (Pass<u64>, Pass<u64>),
+) -> Vec<Pass<u64>> {
+    let mut list = both(rt, passes.0, passes.1);
+    add(rt, &mut list, others.0);
+    add(rt, &mut list, others.1);
+    list
+}
+
+/// The channel's next two passes.
+fn two<R: Abort + Wait>(rt: &R, channel: &Recorded<u64>) -> (Pass<u64>, Pass<u64>) {
+    let a = pass(rt, channel);
+    (a, pass(rt, channel))
+}
+
+/// Passes 0 to 3, after their threads.
+fn after_threads<R: Threads + Abort + Wait + Sync + AllocGlobal>(
+    rt: &R,
+    channel: &Recorded<u64>,
+) -> Vec<Pass<u64>> {
+    let passes = two(rt, channel);
+    let others = two(rt, channel);
+    let (passes, others) = in_four(rt, channel, passes, others);
+    listed(rt, passes, others)
 }
 
 #[test]
-fn four_threads(rt: HostRuntime) -> Result<(), Fail> {
-    let channel: Recorded<u64> = Recorded::new(rt.alloc(), Some(3))?;
-    let passes = draw(&rt, &channel)?;
-    let ((a, b), (c, d)) = four(&rt, &channel, passes);
-    let mut passes = both(rt.alloc(), a, b)?;
-    passes.push(c)?;
-    passes.push(d)?;
-    let journal = finish(channel, passes)?;
-    assert!(rt; journal.entries.len() == 4000);
-    Ok(())
+fn four_threads(rt: HostRuntime) {
+    let channel = channel(&rt, Some(3));
+    let passes = after_threads(&rt, &channel);
+    let journal = finish(&rt, channel, passes);
+    equal(&rt, journal.entries.len(), 4000);
+    drop(journal);
 }

@@ -9,6 +9,8 @@ mod ends;
 #[cfg(test)]
 mod four;
 #[cfg(test)]
+mod given;
+#[cfg(test)]
 mod lock;
 #[cfg(test)]
 mod mismatches;

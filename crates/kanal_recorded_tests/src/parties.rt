@@ -1,42 +1,70 @@
-//! Recorded channels with their passes.
+//! Recorded channels with their passes. Each call ends the test by itself where something is missing.
+use crate::given::equal;
 use kanal_journal::journal::{Ask, Journal, Pass, Recorded, Reply, Side};
-use std::alloc::Global;
+use std::alloc::AllocGlobal;
+use std::process::Abort;
 use std::sync::Wait;
-use std::test::Fail;
 
-/// A recorded channel of this capacity, and passes 0 and 1.
-pub fn recorded<R: Wait>(
-    rt: &R,
-    alloc: Global,
-    capacity: Option<usize>,
-) -> Result<(Recorded<u64>, Pass<u64>, Pass<u64>), Fail> {
-    let channel = Recorded::new(alloc, capacity)?;
-    let a = channel.pass(rt)?;
-    let b = channel.pass(rt)?;
-    Ok((channel, a, b))
+/// A recorded channel, and passes 0 and 1.
+#[derive(Drop)]
+pub struct Parties {
+    pub channel: Recorded<u64>,
+    pub a: Pass<u64>,
+    pub b: Pass<u64>,
+}
+
+/// A recorded channel of this capacity.
+pub fn channel(rt: &(impl Abort + AllocGlobal), capacity: Option<usize>) -> Recorded<u64> {
+    Recorded::new(rt.alloc(), capacity).expect(rt, "a channel")
+}
+
+/// The channel's next pass.
+pub fn pass<R: Abort + Wait>(rt: &R, channel: &Recorded<u64>) -> Pass<u64> {
+    channel.pass(rt).expect(rt, "a pass")
+}
+
+/// A recorded channel of this capacity with its first two passes.
+pub fn recorded<R: Abort + Wait + AllocGlobal>(rt: &R, capacity: Option<usize>) -> Parties {
+    let channel = channel(rt, capacity);
+    let a = pass(rt, &channel);
+    let b = pass(rt, &channel);
+    Parties { channel, a, b }
+}
+
+/// Puts the pass at the list's end.
+pub fn add(rt: &impl Abort, passes: &mut Vec<Pass<u64>>, pass: Pass<u64>) {
+    passes.push(pass).expect(rt, "memory for a pass");
 }
 
 /// The two passes in a list.
-pub fn both(alloc: Global, a: Pass<u64>, b: Pass<u64>) -> Result<Vec<Pass<u64>>, Fail> {
-    let mut passes = Vec::new(alloc);
-    passes.push(a)?;
-    passes.push(b)?;
-    Ok(passes)
+pub fn both(rt: &(impl Abort + AllocGlobal), a: Pass<u64>, b: Pass<u64>) -> Vec<Pass<u64>> {
+    let mut passes = Vec::new(rt.alloc());
+    add(rt, &mut passes, a);
+    add(rt, &mut passes, b);
+    passes
 }
 
 /// The journal, where these passes agree with it.
-pub fn finish(channel: Recorded<u64>, passes: Vec<Pass<u64>>) -> Result<Journal<u64>, Fail> {
-    Ok(channel.finish(passes).ok().ok_or("the lists agree")?)
+pub fn finish(rt: &impl Abort, channel: Recorded<u64>, passes: Vec<Pass<u64>>) -> Journal<u64> {
+    channel.finish(passes).ok().expect(rt, "the lists agree")
 }
 
-/// Whether a sends and asks, and b receives.
-pub fn is_passed_on<R: Wait>(
-    rt: &R,
-    channel: &Recorded<u64>,
-    a: &mut Pass<u64>,
-    b: &mut Pass<u64>,
-) -> bool {
-    a.try_send(rt, channel, 7) == Reply::Yes
-        && a.ask(rt, channel, Side::Tx, Ask::Len) == Reply::Number(1)
-        && b.try_recv(rt, channel) == Reply::Got(7)
+/// The journal of the channel, where its two passes agree with it.
+pub fn end(rt: &(impl Abort + AllocGlobal), parties: Parties) -> Journal<u64> {
+    let Parties { channel, a, b } = parties;
+    finish(rt, channel, both(rt, a, b))
+}
+
+/// Sends and asks as a, and receives as b.
+pub fn pass_on<R: Abort + Wait + AllocGlobal>(rt: &R) -> Parties {
+    let mut parties = recorded(rt, Some(1));
+    let channel = &parties.channel;
+    equal(rt, parties.a.try_send(rt, channel, 7), Reply::Yes);
+    equal(
+        rt,
+        parties.a.ask(rt, channel, Side::Tx, Ask::Len),
+        Reply::Number(1),
+    );
+    equal(rt, parties.b.try_recv(rt, channel), Reply::Got(7));
+    parties
 }

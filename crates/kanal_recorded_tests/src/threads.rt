@@ -1,7 +1,8 @@
 //! Two threads on one recorded channel.
+use crate::given::equal;
+use crate::parties::{Parties, recorded};
 use kanal_journal::journal::{Pass, Recorded, Reply};
 use std::sync::Wait;
-use std::test::Fail;
 use std::thread;
 use std::thread::Threads;
 
@@ -17,12 +18,9 @@ fn until_got<R: Wait>(rt: &R, channel: &Recorded<u64>, mut pass: Pass<u64>) -> O
     None
 }
 
-fn hand_over<R: Threads + Wait + Sync>(
-    rt: &R,
-    channel: &Recorded<u64>,
-    mut a: Pass<u64>,
-    b: Pass<u64>,
-) -> (Reply<u64>, Option<u64>) {
+fn hand_over<R: Threads + Wait + Sync>(rt: &R, parties: Parties) -> (Reply<u64>, Option<u64>) {
+    let Parties { channel, mut a, b } = parties;
+    let channel = &channel;
     thread::join(
         rt,
         move || a.try_send(rt, channel, 7),
@@ -31,12 +29,8 @@ fn hand_over<R: Threads + Wait + Sync>(
 }
 
 #[test]
-fn a_message_between_threads(rt: HostRuntime) -> Result<(), Fail> {
-    let channel = Recorded::new(rt.alloc(), Some(1))?;
-    let a = channel.pass(&rt)?;
-    let b = channel.pass(&rt)?;
-    let (sent, got) = hand_over(&rt, &channel, a, b);
-    assert!(rt; sent == Reply::Yes);
-    assert!(rt; got == Some(7));
-    Ok(())
+fn a_message_between_threads(rt: HostRuntime) {
+    let (sent, got) = hand_over(&rt, recorded(&rt, Some(1)));
+    equal(&rt, sent, Reply::Yes);
+    equal(&rt, got, Some(7));
 }

@@ -1,0 +1,18 @@
+//! Tests of the handles: for threads on one thread, between threads, by deadlines, and for tasks.
+//!
+//! Threads are joined, tasks are polled by hand or run to their end, and each test has one output
+//! whatever the schedule.
+#![tactic(auto)]
+
+#[cfg(test)]
+mod counted;
+#[cfg(test)]
+mod given;
+#[cfg(test)]
+mod sync;
+#[cfg(test)]
+mod tasks;
+#[cfg(test)]
+mod threads;
+#[cfg(test)]
+mod timed;

@@ -1,0 +1,5 @@
+//! The handles for threads, on one thread: rows of calls and answers, and drops.
+mod calls;
+mod drops;
+mod questions;
+mod texts;

@@ -1,0 +1,75 @@
+//! Messages that count their drops, read while the handles live.
+use crate::counted::{Counted, counter, message};
+use crate::given::{ends, equal};
+use kanal::Sender;
+use kanal::error::SendError;
+use std::alloc::Global;
+use std::process::Abort;
+use std::sync::atomic::AtomicU64;
+use std::sync::atomic::Ordering::SeqCst;
+use std::sync::{Arc, Wait};
+
+/// Offers ten messages, of which each is answered so.
+fn offer_ten<R: Abort + Wait>(
+    rt: &R,
+    sender: &Sender<Counted>,
+    drops: &Arc<AtomicU64, Global>,
+    expected: Result<bool, SendError>,
+) {
+    for _ in 0..10 {
+        equal(rt, sender.try_send(rt, message(rt, drops)), expected);
+    }
+}
+
+#[test]
+fn a_close_drops_the_buffer(rt: HostRuntime) {
+    let drops = counter(&rt);
+    let (sender, receiver) = ends::<Counted>(&rt, 10);
+    offer_ten(&rt, &sender, &drops, Ok(true));
+    equal(&rt, drops.load(SeqCst), 0);
+    equal(&rt, receiver.close(&rt), Ok(()));
+    equal(&rt, drops.load(SeqCst), 10);
+}
+
+#[test]
+fn a_closed_channel_drops_what_is_sent(rt: HostRuntime) {
+    let drops = counter(&rt);
+    let (sender, receiver) = ends::<Counted>(&rt, 10);
+    equal(&rt, receiver.close(&rt), Ok(()));
+    offer_ten(&rt, &sender, &drops, Err(SendError::Closed));
+    equal(&rt, drops.load(SeqCst), 10);
+}
+
+#[test]
+fn a_send_to_no_receiver_drops_the_message(rt: HostRuntime) {
+    let drops = counter(&rt);
+    let (sender, receiver) = ends::<Counted>(&rt, 10);
+    drop(receiver);
+    offer_ten(&rt, &sender, &drops, Err(SendError::ReceiveClosed));
+    equal(&rt, drops.load(SeqCst), 10);
+}
+
+#[test]
+fn the_last_handle_drops_the_buffer(rt: HostRuntime) {
+    let drops = counter(&rt);
+    let (sender, receiver) = ends::<Counted>(&rt, 10);
+    offer_ten(&rt, &sender, &drops, Ok(true));
+    drop(receiver);
+    equal(&rt, drops.load(SeqCst), 0);
+    drop(sender);
+    equal(&rt, drops.load(SeqCst), 10);
+}
+
+#[test]
+fn a_full_buffer_drops_what_has_no_place(rt: HostRuntime) {
+    let drops = counter(&rt);
+    let (sender, _receiver) = ends::<Counted>(&rt, 0);
+    equal(&rt, sender.try_send(&rt, message(&rt, &drops)), Ok(false));
+    equal(&rt, drops.load(SeqCst), 1);
+    equal(
+        &rt,
+        sender.try_send_realtime(message(&rt, &drops)),
+        Ok(false),
+    );
+    equal(&rt, drops.load(SeqCst), 2);
+}

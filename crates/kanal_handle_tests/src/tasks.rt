@@ -1,0 +1,12 @@
+//! Futures, the stream, the handles for tasks, their views and conversions.
+mod calls;
+mod conversions;
+mod drops;
+mod given;
+mod moved;
+mod polls;
+mod streams;
+mod texts;
+mod threads;
+mod views;
+mod wakes;

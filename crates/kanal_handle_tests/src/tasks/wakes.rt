@@ -1,0 +1,106 @@
+//! Who is woken, and by what.
+//!
+//! The test task tells whether it was woken since its last poll began, not how often; a poll that
+//! looks at nothing forgets the wake, and then there is none left.
+use super::given::{ends, new_task, poll_next};
+use crate::given::{equal, holds};
+use futures::task::Poll;
+use futures::test::MockTask;
+use kanal::ReceiveStream;
+use kanal::error::ReceiveError;
+use std::process::Abort;
+
+/// Whether the task was woken, and after it forgot that, was not woken again.
+fn was_woken_once(task: &MockTask) -> bool {
+    let was_woken = task.is_woken();
+    task.enter(|_| ());
+    was_woken && !task.is_woken()
+}
+
+#[test]
+fn the_waker_of_the_last_poll_is_woken(rt: HostRuntime) {
+    let (sender, receiver) = ends::<u64>(&rt, 0);
+    let first = new_task(&rt);
+    let second = new_task(&rt);
+    let mut receiving = receiver.recv();
+    equal(&rt, first.poll(&mut receiving), Poll::Pending);
+    equal(&rt, second.poll(&mut receiving), Poll::Pending);
+    equal(&rt, sender.try_send(&rt, 3), Ok(true));
+    holds(&rt, was_woken_once(&second));
+    holds(&rt, !first.is_woken());
+    equal(&rt, second.poll(&mut receiving), Poll::Ready(Ok(3)));
+}
+
+#[test]
+fn a_send_wakes_by_its_last_waker(rt: HostRuntime) {
+    let (sender, receiver) = ends::<u64>(&rt, 0);
+    let first = new_task(&rt);
+    let second = new_task(&rt);
+    let mut sending = sender.send(3);
+    equal(&rt, first.poll(&mut sending), Poll::Pending);
+    equal(&rt, second.poll(&mut sending), Poll::Pending);
+    equal(&rt, receiver.try_recv(&rt), Ok(Some(3)));
+    holds(&rt, was_woken_once(&second));
+    holds(&rt, !first.is_woken());
+    equal(&rt, second.poll(&mut sending), Poll::Ready(Ok(())));
+}
+
+#[test]
+fn a_pending_receive_does_not_wake_its_task(rt: HostRuntime) {
+    let (_sender, receiver) = ends::<u64>(&rt, 0);
+    let task = new_task(&rt);
+    let mut receiving = receiver.recv();
+    for _ in 0..3 {
+        equal(&rt, task.poll(&mut receiving), Poll::Pending);
+        holds(&rt, !task.is_woken());
+    }
+}
+
+#[test]
+fn a_pending_send_does_not_wake_its_task(rt: HostRuntime) {
+    let (sender, _receiver) = ends::<u64>(&rt, 0);
+    let task = new_task(&rt);
+    let mut sending = sender.send(7);
+    for _ in 0..3 {
+        equal(&rt, task.poll(&mut sending), Poll::Pending);
+        holds(&rt, !task.is_woken());
+    }
+}
+
+/// Polls three times for the stream's next message: each poll is pending, and wakes nobody.
+fn wait_for_next(rt: &impl Abort, task: &MockTask, stream: &mut ReceiveStream<'_, u64>) {
+    for _ in 0..3 {
+        equal(rt, poll_next(task, stream), Poll::Pending);
+        holds(rt, !task.is_woken());
+    }
+}
+
+#[test]
+fn a_pending_stream_does_not_wake_its_task(rt: HostRuntime) {
+    let (sender, receiver) = ends::<u64>(&rt, 0);
+    let task = new_task(&rt);
+    let mut stream = receiver.stream();
+    for message in 0..3 {
+        wait_for_next(&rt, &task, &mut stream);
+        equal(&rt, sender.try_send(&rt, message), Ok(true));
+        holds(&rt, was_woken_once(&task));
+        equal(
+            &rt,
+            poll_next(&task, &mut stream),
+            Poll::Ready(Some(message)),
+        );
+        holds(&rt, !task.is_woken());
+    }
+}
+
+#[test]
+fn a_close_wakes_a_waiting_receive(rt: HostRuntime) {
+    let (sender, receiver) = ends::<u64>(&rt, 0);
+    let task = new_task(&rt);
+    let mut receiving = receiver.recv();
+    equal(&rt, task.poll(&mut receiving), Poll::Pending);
+    equal(&rt, sender.close(&rt), Ok(()));
+    holds(&rt, was_woken_once(&task));
+    let ended = task.poll(&mut receiving);
+    equal(&rt, ended, Poll::Ready(Err(ReceiveError::Closed)));
+}

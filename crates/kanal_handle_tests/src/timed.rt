@@ -1,0 +1,6 @@
+//! Timed calls: rows with clocks of their own, a deadline that meets a receiver, and the system's
+//! clock.
+mod clocks;
+mod meets;
+mod receives;
+mod sends;

@@ -5,11 +5,21 @@
 //! call sleeps until its wait is settled; a task's future is polled, and waits for nobody.
 //!
 //! Stands on `kanal_shared`, the channel behind its lock, whose clocks and futures it hands on, and on
-//! `kanal_core`, whose errors, cells and core it hands on. A handle counts itself and hands on each
-//! call; no lock is taken here.
+//! `kanal_core` and `kanal_cell`, whose core, cells and errors it hands on. A handle counts itself and
+//! hands on each call; no lock is taken here.
 #![tactic(auto)]
 
-pub use kanal_core::{error, internal, signal};
+pub use kanal_cell::signal;
+pub use kanal_core::internal;
+
+/// The errors of a channel, and the one of a cell.
+pub mod error {
+    pub use kanal_cell::error::NoMemory;
+    pub use kanal_core::error::{
+        CloseError, DrainError, NewError, ReceiveError, ReceiveErrorTimeout, SendError,
+        SendErrorTimeout, TooMany, WaitError,
+    };
+}
 
 mod async_receiver;
 mod async_sender;

@@ -9,8 +9,3 @@ pub mod LettingIn
 pub mod Emptying
 pub mod Dropping
 pub mod Draining
-pub mod CellBools
-pub mod CellPlaces
-pub mod CellLawful
-pub mod CellKeeps
-pub mod CellSecond

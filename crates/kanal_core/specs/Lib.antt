@@ -13,9 +13,3 @@ pub mod Sided
 pub mod Handing
 pub mod CoreLends
 pub mod Inside
-pub mod CellMoves
-pub mod CellHistory
-pub mod CellLaw
-pub mod CellRule
-pub mod CellRunningLaw
-pub mod CellEnds

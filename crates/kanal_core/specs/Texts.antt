@@ -4,7 +4,6 @@ use Rattle.kanal_core.specs.declared.error.NewError.{NewError}
 use Rattle.kanal_core.specs.declared.error.NewError.TheVariants.{TooLarge, NoMemory}
 use Rattle.kanal_core.specs.declared.error.CloseError.{CloseError}
 use Rattle.kanal_core.specs.declared.error.TooMany.{TooMany}
-use Rattle.kanal_core.specs.declared.error.NoMemory.{NoMemory as WantOfMemory}
 use Rattle.kanal_core.specs.declared.error.SendError.{SendError}
 use Rattle.kanal_core.specs.declared.error.SendError.TheVariants.{Closed as SendClosed, ReceiveClosed as SendReceiveClosed, NoMemory as SendNoMemory, TooMany as SendTooMany, Finished as SendFinished}
 use Rattle.kanal_core.specs.declared.error.SendErrorTimeout.{SendErrorTimeout}
@@ -26,10 +25,6 @@ close_error_text e = codes "channel is already closed"
 -- why there can't be one more
 abbrev pub too_many_text : TooMany → List ℕ
 too_many_text e = codes "too many"
-
--- memory was refused
-abbrev pub no_memory_text : WantOfMemory → List ℕ
-no_memory_text e = codes "no memory"
 
 -- why a send failed
 abbrev pub send_error_text : SendError → List ℕ

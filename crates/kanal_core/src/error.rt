@@ -1,8 +1,8 @@
-//! The errors of a channel and of a cell, each with its exact text.
+//! The errors of a channel, each with its exact text.
 //!
-//! Stands on nothing. No other module writes the text of an error.
+//! Stands on nothing. No other module of this crate writes the text of an error.
 ghost use Rattle.std.specs.Prelude.{Some};
-ghost use Rattle.kanal_core.specs.Texts.{close_error_text, new_error_text, no_memory_text, receive_error_text, receive_error_timeout_text, send_error_text, send_error_timeout_text, too_many_text};
+ghost use Rattle.kanal_core.specs.Texts.{close_error_text, new_error_text, receive_error_text, receive_error_timeout_text, send_error_text, send_error_timeout_text, too_many_text};
 
 use std::error::Error;
 use std::fmt;
@@ -56,20 +56,6 @@ impl fmt::Display for TooMany {
 }
 
 impl Error for TooMany {}
-
-/// Memory was asked for and refused; what was asked for did not happen.
-#[derive(Clone, Copy, Debug, PartialEq, Eq)]
-pub struct NoMemory;
-
-impl fmt::Display for NoMemory {
-    ghost output = { λ e. Some (no_memory_text e) };
-
-    fn fmt<W: fmt::Write>(&self, f: &mut fmt::Formatter<W>) -> fmt::Result {
-        write!(f, "no memory")
-    }
-}
-
-impl Error for NoMemory {}
 
 /// A wait could not be started.
 #[derive(Clone, Copy, Debug, PartialEq, Eq)]

@@ -1,11 +1,11 @@
 //! Outcomes that count their drops, handed over between two threads.
 ghost use Rattle.std.specs.Prelude.{◌≡◌};
-ghost use Rattle.kanal_core.specs.CellRule.{HasNotLeft, HasNotSettled, MaySleep};
-ghost use Rattle.kanal_core.specs.CellEnds.{wait_view, settle_view};
+ghost use Rattle.kanal_cell.specs.CellRule.{HasNotLeft, HasNotSettled, MaySleep};
+ghost use Rattle.kanal_cell.specs.CellEnds.{wait_view, settle_view};
 
 use crate::given::{cell, counter, equal, holds, new_parker, shared, unparker_of};
 use crossbeam_utils::sync::{Parker, Unparker};
-use kanal_core::signal::{SettleEnd, WaitEnd};
+use kanal_cell::signal::{SettleEnd, WaitEnd};
 use std::alloc::{AllocGlobal, Global};
 use std::process::Abort;
 use std::sync::atomic::{AtomicU64, Ordering};

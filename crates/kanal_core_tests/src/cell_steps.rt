@@ -1,8 +1,8 @@
 //! The table of steps on the plain cell, and its rows on a running cell.
 use crate::given::{cell, equal, holds, new_parker, unparker_of};
-use kanal_core::signal::CellReply::{Flag, Left, Outcome, Pending, Settled, Slept, Spent};
-use kanal_core::signal::CellStep::{IsLeft, Leave, Poll, Settle, Sleep};
-use kanal_core::signal::{CellReply, CellStep, Owner, cell_run};
+use kanal_cell::signal::CellReply::{Flag, Left, Outcome, Pending, Settled, Slept, Spent};
+use kanal_cell::signal::CellStep::{IsLeft, Leave, Poll, Settle, Sleep};
+use kanal_cell::signal::{CellReply, CellStep, Owner, cell_run};
 use std::alloc::AllocGlobal;
 use std::process::Abort;
 

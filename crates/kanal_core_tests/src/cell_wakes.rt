@@ -1,7 +1,7 @@
 //! A settle wakes the parked thread and the waiting task, once.
 ghost use Rattle.std.specs.Prelude.{◌≡◌};
-ghost use Rattle.kanal_core.specs.CellRule.{HasNotLeft, HasNotSettled};
-ghost use Rattle.kanal_core.specs.CellEnds.{wait_view, settle_view};
+ghost use Rattle.kanal_cell.specs.CellRule.{HasNotLeft, HasNotSettled};
+ghost use Rattle.kanal_cell.specs.CellEnds.{wait_view, settle_view};
 
 use crate::given::{cell, counter, equal, holds, new_parker, shared, unparker_of};
 use crossbeam_utils::sync::Unparker;
@@ -10,7 +10,7 @@ use futures::executor::block_on;
 use futures::spin::lock;
 use futures::task::{Context, Poll, Source, Waker};
 use futures::test::MockTask;
-use kanal_core::signal::{SettleEnd, WaitEnd};
+use kanal_cell::signal::{SettleEnd, WaitEnd};
 use std::alloc::{AllocGlobal, Global};
 use std::process::Abort;
 use std::random::RandomSource;

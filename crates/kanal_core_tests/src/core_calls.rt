@@ -1,7 +1,8 @@
 //! Calls of the core with ample memory, and the texts of its errors.
 use crate::given::{boxed, core_from, core_of, equal, holds};
 use crate::waits::{enter, refused_send, send};
-use kanal_core::error::{CloseError, NewError, NoMemory, TooMany, WaitError};
+use kanal_cell::error::NoMemory;
+use kanal_core::error::{CloseError, NewError, TooMany, WaitError};
 use kanal_core::internal::{ChannelInternal, Left};
 use std::alloc::{AllocGlobal, Global};
 use std::fmt::{Debug, Display};

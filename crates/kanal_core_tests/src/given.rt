@@ -2,14 +2,14 @@
 //!
 //! Each ends the test by itself, so that a test has nothing to hand out where something is missing.
 ghost use Rattle.std.specs.Prelude.{◌≡◌};
-ghost use Rattle.kanal_core.specs.CellRule.{fresh};
-ghost use Rattle.kanal_core.specs.CellEnds.{wait_view, settle_view};
-ghost use Rattle.kanal_core.specs.declared.signal.rule.Role.TheVariants.{Waiter, Settler};
+ghost use Rattle.kanal_cell.specs.CellRule.{fresh};
+ghost use Rattle.kanal_cell.specs.CellEnds.{wait_view, settle_view};
+ghost use Rattle.kanal_cell.specs.declared.signal.rule.Role.TheVariants.{Waiter, Settler};
 
 use crossbeam_utils::sync::{Parker, Unparker};
+use kanal_cell::signal;
+use kanal_cell::signal::{SettleEnd, WaitEnd};
 use kanal_core::internal::ChannelInternal;
-use kanal_core::signal;
-use kanal_core::signal::{SettleEnd, WaitEnd};
 use std::alloc::{AllocGlobal, Global};
 use std::fmt::Debug;
 use std::process::Abort;

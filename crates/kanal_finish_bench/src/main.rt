@@ -6,7 +6,7 @@
 #![tactic(auto)]
 
 use anyhow::{Result, bail};
-use kanal_journal::journal::{Pass, Recorded};
+use kanal_recorded::{Pass, Recorded};
 use std::alloc::Global;
 use std::env;
 use std::sync::Wait;

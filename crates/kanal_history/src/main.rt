@@ -6,7 +6,7 @@
 #![tactic(auto)]
 
 use anyhow::{Result, anyhow};
-use kanal_journal::journal::{Pass, Recorded, Seen};
+use kanal_recorded::{Pass, Recorded, Seen};
 use std::sync::{Mutex, Wait};
 use std::thread;
 use std::thread::Threads;

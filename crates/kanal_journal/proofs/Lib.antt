@@ -25,5 +25,3 @@ pub mod Examples
 pub mod Standing
 pub mod Lawful
 pub mod Over
-pub mod Merging
-pub mod Merged

@@ -5,8 +5,7 @@
 //! what was told of them can say which message went to which receive.
 //!
 //! `RecordedState` is a channel that keeps a journal of the calls made on it, and its type keeps that
-//! the journal explains it; `Recorded` is that state under a lock, called through a `Pass` by each
-//! thread.
+//! the journal explains it.
 //!
 //! Stands on the core's contracts. Nothing here looks into the core.
 ghost use Rattle.std.specs.Prelude.{◌≡◌, ◌↔◌, ℕ, ◌+◌, ◌<◌, ◌≤◌, [], length, IfOk, IsErrOf, Some, vec_len, vec_capacity};
@@ -24,17 +23,12 @@ use std::alloc::{AllocError, Global};
 
 mod calls;
 mod event;
-mod finish;
 mod handles;
 mod notes;
-mod pass;
-mod recorded;
 mod recorded_state;
 mod recorder;
 
 pub use event::{Ask, Event, Refusal, Reply, Report, Settlement, Side};
-pub use pass::{Note, Pass, Seen};
-pub use recorded::{Mismatch, Recorded};
 pub use recorded_state::RecordedState;
 pub use recorder::{Entry, Journal};
 

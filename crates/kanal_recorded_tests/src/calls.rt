@@ -1,7 +1,8 @@
 //! Each call of a pass once, with ample memory.
 use crate::given::{equal, holds};
 use crate::parties::{pass_on, recorded};
-use kanal_journal::journal::{Ask, Note, Refusal, Reply, Side};
+use kanal_journal::journal::{Ask, Refusal, Reply, Side};
+use kanal_recorded::Note;
 
 #[test]
 fn parties_are_numbered_from_0(rt: HostRuntime) {

@@ -1,7 +1,8 @@
 //! Four threads on one recorded channel.
 use crate::given::equal;
 use crate::parties::{add, both, channel, finish, pass};
-use kanal_journal::journal::{Pass, Recorded, Reply};
+use kanal_journal::journal::Reply;
+use kanal_recorded::{Pass, Recorded};
 use std::alloc::AllocGlobal;
 use std::process::Abort;
 use std::sync::Wait;

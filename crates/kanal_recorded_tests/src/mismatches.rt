@@ -1,7 +1,8 @@
 //! Lists that don't agree with the journal.
 use crate::given::{equal, holds};
 use crate::parties::{Parties, add, both, channel, finish, pass, recorded};
-use kanal_journal::journal::{Ask, Journal, Mismatch, Pass, Recorded, Reply, Side};
+use kanal_journal::journal::{Ask, Journal, Reply, Side};
+use kanal_recorded::{Mismatch, Pass, Recorded};
 use std::alloc::AllocGlobal;
 use std::process::Abort;
 use std::sync::Wait;

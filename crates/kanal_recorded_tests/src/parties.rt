@@ -1,6 +1,7 @@
 //! Recorded channels with their passes. Each call ends the test by itself where something is missing.
 use crate::given::equal;
-use kanal_journal::journal::{Ask, Journal, Pass, Recorded, Reply, Side};
+use kanal_journal::journal::{Ask, Journal, Reply, Side};
+use kanal_recorded::{Pass, Recorded};
 use std::alloc::AllocGlobal;
 use std::process::Abort;
 use std::sync::Wait;

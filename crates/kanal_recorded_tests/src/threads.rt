@@ -1,7 +1,8 @@
 //! Two threads on one recorded channel.
 use crate::given::equal;
 use crate::parties::{Parties, recorded};
-use kanal_journal::journal::{Pass, Recorded, Reply};
+use kanal_journal::journal::Reply;
+use kanal_recorded::{Pass, Recorded};
 use std::sync::Wait;
 use std::thread;
 use std::thread::Threads;

@@ -2,13 +2,13 @@
 //!
 //! Stands on the cell's waiting end, on parking and on clocks. Only blocked calls use it; what is
 //! asked for memory is there before the wait starts, so nothing is refused here.
-ghost use Rattle.kanal_core.specs.CellRule.{HasNotLeft, MaySleep};
-ghost use Rattle.kanal_core.specs.CellEnds.{wait_view};
+ghost use Rattle.kanal_cell.specs.CellRule.{HasNotLeft, MaySleep};
+ghost use Rattle.kanal_cell.specs.CellEnds.{wait_view};
 
 use crate::clock::Clock;
 use crossbeam_utils::Backoff;
 use crossbeam_utils::sync::{Parker, Unparker};
-use kanal_core::signal::WaitEnd;
+use kanal_cell::signal::WaitEnd;
 use std::alloc::{AllocError, Global};
 use std::sync::Wait;
 use std::time;

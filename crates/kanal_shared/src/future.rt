@@ -4,8 +4,8 @@
 //! it. What it takes out of the core leaves the lock first; no waker is woken or dropped under the
 //! lock.
 ghost use Rattle.std.specs.Prelude.{◌≡◌, IfSome};
-ghost use Rattle.kanal_core.specs.CellRule.{HasNotLeft};
-ghost use Rattle.kanal_core.specs.CellEnds.{wait_view};
+ghost use Rattle.kanal_cell.specs.CellRule.{HasNotLeft};
+ghost use Rattle.kanal_cell.specs.CellEnds.{wait_view};
 ghost use Rattle.futures.specs.Task.{Covers, Keeps};
 ghost use Rattle.futures.specs.Poll.{OnPending};
 
@@ -15,9 +15,9 @@ mod stream;
 
 use crate::shared::Shared;
 use futures::task::{Context, Poll, Source, Waker};
+use kanal_cell::signal;
+use kanal_cell::signal::WaitEnd;
 use kanal_core::internal::{Outcome, Ticket};
-use kanal_core::signal;
-use kanal_core::signal::WaitEnd;
 use kanal_steps::seat::Seat;
 use kanal_steps::steps;
 pub use receive::ReceiveFuture;

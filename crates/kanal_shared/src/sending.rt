@@ -8,9 +8,9 @@ mod timed;
 
 use crate::backoff::Waiting;
 use crate::shared::Shared;
+use kanal_cell::signal;
 use kanal_core::error::SendError;
 use kanal_core::internal::{Outcome, Reason, Ticket};
-use kanal_core::signal;
 use kanal_steps::seat::Seat;
 use kanal_steps::steps;
 use kanal_steps::steps::{Sent, Tried};

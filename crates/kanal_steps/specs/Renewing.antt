@@ -1,7 +1,7 @@
 -- A task's waker that takes the place of another in the entry of its wait.
 use Rattle.std.specs.Prelude.{◌≡◌, List, Option, Some, None, MatchOption}
 use Rattle.futures.specs.declared.task.waker.Waker.{Waker}
-use Rattle.kanal_core.specs.CellEnds.{kept_waker}
+use Rattle.kanal_cell.specs.CellEnds.{kept_waker}
 use Rattle.kanal_core.specs.Waiters.{waiter_of, with_w}
 use Rattle.kanal_core.specs.declared.internal.outcome.Ticket.{Ticket}
 use Rattle.kanal_core.specs.declared.internal.outcome.Waiter.{Waiter}

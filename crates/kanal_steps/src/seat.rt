@@ -3,14 +3,14 @@
 //!
 //! Stands on the settling end. What leaves the core is settled or let go here, and only after the
 //! lock was released.
-ghost use Rattle.kanal_core.specs.CellRule.{HasNotSettled};
-ghost use Rattle.kanal_core.specs.CellEnds.{settle_view};
+ghost use Rattle.kanal_cell.specs.CellRule.{HasNotSettled};
+ghost use Rattle.kanal_cell.specs.CellEnds.{settle_view};
 ghost use Rattle.kanal_steps.specs.Renewing.{Swaps};
 
 use crate::settler::Settler;
 use futures::task::Waker;
+use kanal_cell::signal::SettleEnd;
 use kanal_core::internal::{ChannelInternal, Ended, Outcome, Settled};
-use kanal_core::signal::SettleEnd;
 use std::alloc::Global;
 
 /// The core of a channel whose waiters bring seats.

@@ -2,12 +2,12 @@
 //!
 //! Stands on the cell.
 ghost use Rattle.std.specs.Prelude.{◌≡◌, Some};
-ghost use Rattle.kanal_core.specs.CellRule.{HasNotSettled};
-ghost use Rattle.kanal_core.specs.CellEnds.{kept_waker, settle_view};
+ghost use Rattle.kanal_cell.specs.CellRule.{HasNotSettled};
+ghost use Rattle.kanal_cell.specs.CellEnds.{kept_waker, settle_view};
 
 use futures::task::Waker;
+use kanal_cell::signal::SettleEnd;
 use kanal_core::internal::Outcome;
-use kanal_core::signal::SettleEnd;
 
 /// The end of a cell that has not settled yet.
 #[derive(Drop)]

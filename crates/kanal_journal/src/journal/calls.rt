@@ -315,13 +315,20 @@ fn make<T: Drop>(
     }
 }
 
-/// Gives an event's message back with the refusal.
-pub(crate) fn refuse<T: Drop>(reason: Refusal, event: Event<T>) -> Reply<T>
-    ensures { result ≡ Reply.Refused reason (message_of event) }
-{
-    match event {
-        Event::Send(message) | Event::TrySend(message) => Reply::Refused(reason, Some(message)),
-        _ => Reply::Refused(reason, None),
+impl<T: Drop> Event<T> {
+    /// The refusal of this event, which gives its message back where it has one.
+    ///
+    /// # Examples
+    /// ```text
+    /// Event::Send(7).refused(Refusal::Closed)   answers  Refused(Closed, Some(7))
+    /// ```
+    pub fn refused(self, reason: Refusal) -> Reply<T>
+        ensures { result ≡ Reply.Refused reason (message_of self) }
+    {
+        match self {
+            Event::Send(message) | Event::TrySend(message) => Reply::Refused(reason, Some(message)),
+            _ => Reply::Refused(reason, None),
+        }
     }
 }
 
@@ -346,6 +353,6 @@ pub(crate) fn answer<T: Drop>(
     if handles.serve(&event) {
         make(core, tickets, handles, drained, event)
     } else {
-        only(refuse(Refusal::NoHandle, event))
+        only(event.refused(Refusal::NoHandle))
     }
 }

@@ -147,7 +147,12 @@ impl<T: Copy> RecordedState<T> {
     }
 
     /// The journal, moved out with all that was told along it.
-    pub(crate) fn into_journal(self) -> Journal<T>
+    ///
+    /// # Examples
+    /// ```text
+    /// state.into_journal()   is  Journal { capacity, entries, settled, drained, cleared }
+    /// ```
+    pub fn into_journal(self) -> Journal<T>
         ensures journal { (result.capacity ≡ self.capacity) × (result.entries.items ≡ self.entries) }
         ensures told { (result.settled.items ≡ self.account.settled) × (result.drained.items ≡ self.account.drained) × (result.cleared.items ≡ self.account.cleared) }
         ensures replays { Replays self.capacity self.entries self.account }

@@ -42,11 +42,18 @@ pub struct Journal<T> {
     pub cleared: Vec<T>,
 }
 
-/// Whether the reply says that there was no memory.
-pub(crate) fn is_no_memory<T: Copy>(reply: Reply<T>) -> bool
-    ensures { result ≡ tells_no_memory reply }
-{
-    matches!(reply, Reply::Refused(Refusal::NoMemory, _))
+impl<T: Copy> Reply<T> {
+    /// Whether the reply says that there was no memory.
+    ///
+    /// # Examples
+    /// ```text
+    /// Reply::Refused(Refusal::NoMemory, Some(7)).is_no_memory()   answers  true
+    /// ```
+    pub fn is_no_memory(self) -> bool
+        ensures { result ≡ tells_no_memory self }
+    {
+        matches!(self, Reply::Refused(Refusal::NoMemory, _))
+    }
 }
 
 /// Makes room in the list for so many items in all.
@@ -174,10 +181,10 @@ impl<T: Copy> Recorder<T> {
         ensures records { Records (recording_of self.old) party event result (recording_of self.new) }
     {
         if self.reserve().is_err() {
-            return calls::refuse(Refusal::NoMemory, event);
+            return event.refused(Refusal::NoMemory);
         }
         let reply = self.make(event);
-        if !is_no_memory(reply) {
+        if !reply.is_no_memory() {
             enter(&mut self.entries, party, event, reply);
         }
         reply

@@ -1,0 +1,5 @@
+pub mod CellBools
+pub mod CellPlaces
+pub mod CellLawful
+pub mod CellKeeps
+pub mod CellSecond

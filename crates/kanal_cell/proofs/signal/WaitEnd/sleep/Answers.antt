@@ -1,0 +1,10 @@
+use Rattle.std.proofs.Common.{rules}
+use Rattle.kanal_cell.specs.declared.signal.rule.Held.TheVariants.{Sleeper}
+use Rattle.kanal_cell.proofs.CellKeeps.{falls_asleep, ended_of, took_outcome}
+use Rattle.kanal_cell.proofs.signal.WaitEnd.sleep.Goals as goal
+
+pub fetch_or-found-requires : goal.fetch_or-found-requires
+fetch_or-found-requires g c = (search rules, search rules, falls_asleep _ _ _ (Sleeper c.args.sleeper) tt (search rules) (search rules) (search rules) (search rules) (search rules))
+
+pub take_outcome-requires : goal.take_outcome-requires
+take_outcome-requires g c = let p = c.fetch_or-found.ensures.2 in record { table = search rules; full = took_outcome _ _ _ _ _ (ended_of p.0 _ p.1 c.if-found-ne0.true) p.3 }

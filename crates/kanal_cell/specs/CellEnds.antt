@@ -1,0 +1,19 @@
+-- What a caller sees of an end.
+use Rattle.std.specs.Prelude.{Option}
+use Rattle.futures.specs.declared.task.waker.Waker.{Waker}
+use Rattle.kanal_cell.specs.declared.signal.rule.View.{View}
+use Rattle.kanal_cell.specs.declared.signal.WaitEnd.{WaitEnd}
+use Rattle.kanal_cell.specs.declared.signal.SettleEnd.{SettleEnd}
+
+module _ {P : Type 0} where
+  -- what the waiter knows of its own steps
+  abbrev pub wait_view : WaitEnd P → View
+  wait_view e = e.seat.me.0
+
+  -- what the settler knows of its own steps
+  abbrev pub settle_view : SettleEnd P → View
+  settle_view e = e.seat.me.0
+
+  -- the waker that a settle will wake
+  abbrev pub kept_waker : SettleEnd P → Option Waker
+  kept_waker e = e.waker

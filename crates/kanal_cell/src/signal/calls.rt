@@ -1,0 +1,236 @@
+//! The calls on a running cell.
+//!
+//! They stand on `rule` and `pointer`. A put comes before the step that gives its slot to the
+//! other end, and a take after the step that brought the slot.
+ghost use Rattle.std.specs.Prelude.{◌≡◌, ◌↔◌, true, false, Some, None, if◌then◌else◌, IfOk, IsSome, IsTrue};
+ghost use Rattle.kanal_cell.specs.CellRule.{fresh, after_poll, after_sleep, after_leave, after_settle, HasNotLeft, HasNotSettled, MaySleep};
+ghost use Rattle.kanal_cell.specs.CellEnds.{wait_view, settle_view, kept_waker};
+ghost use Rattle.kanal_cell.specs.declared.signal.rule.Role.TheVariants.{Waiter, Settler};
+
+use super::rule::{
+    ENDED, LEFT, Leaves, Parts, Polls, SLEEPING, SettlerBegins, Settles, Signal, Sleeps,
+    WaiterBegins,
+};
+use super::{SettleEnd, WaitEnd};
+use crate::error::NoMemory;
+use crate::pointer;
+use atomic_table::Table;
+use crossbeam_utils::sync::Unparker;
+use futures::task::Waker;
+use std::alloc::Global;
+use std::sync::Arc;
+
+/// Makes a cell, and answers its two ends.
+///
+/// It refuses only for want of memory, and never waits. No later call on the ends takes memory.
+///
+/// ```
+/// let (mut wait, mut settle) = signal::new::<u64>(alloc)?;
+/// assert!(settle.settle(5) == None);
+/// assert!(wait.poll() == Some(5));
+/// ```
+pub fn new<P: Drop>(alloc: Global) -> Result<(WaitEnd<P>, SettleEnd<P>), NoMemory>
+    ensures waiter { IfOk result (λ ends. wait_view ends.0 ≡ fresh Waiter) }
+    ensures settler { IfOk result (λ ends. settle_view ends.1 ≡ fresh Settler) }
+    ensures waker { IfOk result (λ ends. kept_waker ends.1 ≡ None) }
+{
+    let Ok((table, mut waiter)) = Table::vacant(alloc, &[0], 2, &()) else {
+        return Err(NoMemory);
+    };
+    table.shared.load::<WaiterBegins>(&mut waiter, 0);
+    let mut settler = table.shared.split_seat::<Parts>(&mut waiter);
+    table.shared.load::<SettlerBegins>(&mut settler, 0);
+    let Ok(signal) = Arc::new(alloc, Signal { table }) else {
+        return Err(NoMemory);
+    };
+    let Ok(other) = Arc::try_clone(&signal) else {
+        return Err(NoMemory);
+    };
+    let wait = WaitEnd {
+        signal,
+        seat: waiter,
+        had: false,
+    };
+    let settle = SettleEnd {
+        signal: other,
+        seat: settler,
+        waker: None,
+    };
+    Ok((wait, settle))
+}
+
+impl<P: Drop> WaitEnd<P> {
+    /// Looks for the outcome, by one load. It is answered once, by the first call of the three
+    /// that finds it. None: it is not there yet, or was answered before.
+    ///
+    /// It never waits. The end must not have left.
+    ///
+    /// ```
+    /// assert!(wait.poll() == None);
+    /// assert!(settle.settle(5) == None);
+    /// assert!(wait.poll() == Some(5));
+    /// assert!(wait.poll() == None);
+    /// ```
+    pub fn poll(&mut self) -> Option<P>
+        requires unspent { HasNotLeft (wait_view self.old) }
+        ensures step { wait_view self.new ≡ after_poll (wait_view self.old) (wait_view self.new).found }
+        ensures answer { IsSome result ↔ (((wait_view self.new).found.ended ≡ true) × ((wait_view self.old).had ≡ false)) }
+    {
+        let found = self.signal.table.shared.load::<Polls>(&mut self.seat, 0);
+        if found & ENDED != 0 && !self.had {
+            self.had = true;
+            Some(pointer::take_outcome(&self.signal.table.shared, &mut self.seat))
+        } else {
+            None
+        }
+    }
+
+    /// Registers a sleeper, by one atomic step, unless the outcome is there: then it is answered.
+    /// None: the settle that comes later will wake the sleeper, and a `poll` after that finds the
+    /// outcome.
+    ///
+    /// It never waits: the caller parks after it. The end must not have left, slept or answered
+    /// the outcome.
+    ///
+    /// ```
+    /// let parker = Parker::new(alloc)?;
+    /// if wait.sleep(parker.unparker().clone()?).is_none() {
+    ///     parker.park(rt);
+    /// }
+    /// ```
+    pub fn sleep(&mut self, sleeper: Unparker) -> Option<P>
+        requires unspent { MaySleep (wait_view self.old) }
+        ensures step { wait_view self.new ≡ after_sleep (wait_view self.old) (wait_view self.new).found }
+        ensures answer { IsSome result ↔ (((wait_view self.new).found.ended ≡ true) × ((wait_view self.old).had ≡ false)) }
+    {
+        pointer::put_sleeper(&self.signal.table.shared, &mut self.seat, sleeper);
+        let found = self
+            .signal
+            .table
+            .shared
+            .fetch_or::<Sleeps>(&mut self.seat, 0, SLEEPING);
+        if found & ENDED != 0 {
+            self.had = true;
+            Some(pointer::take_outcome(&self.signal.table.shared, &mut self.seat))
+        } else {
+            None
+        }
+    }
+
+    /// Gives the wait up, by one atomic step. Some: the outcome was there and not answered before.
+    /// None: it was answered before, or a settle that comes later gets it back.
+    ///
+    /// It never waits. The end must not have left, and may not be used afterwards.
+    ///
+    /// ```
+    /// assert!(wait.leave() == None);
+    /// assert!(settle.settle(5) == Some(5));
+    /// ```
+    pub fn leave(&mut self) -> Option<P>
+        requires unspent { HasNotLeft (wait_view self.old) }
+        ensures step { wait_view self.new ≡ after_leave (wait_view self.old) (wait_view self.new).found }
+        ensures answer { IsSome result ↔ (((wait_view self.new).found.ended ≡ true) × ((wait_view self.old).had ≡ false)) }
+    {
+        let found = self
+            .signal
+            .table
+            .shared
+            .fetch_or::<Leaves>(&mut self.seat, 0, LEFT);
+        if found & ENDED != 0 && !self.had {
+            self.had = true;
+            Some(pointer::take_outcome(&self.signal.table.shared, &mut self.seat))
+        } else {
+            None
+        }
+    }
+}
+
+impl<P: Drop> SettleEnd<P> {
+    /// Hands the outcome over, by one atomic step. Some: the waiter had left, and the outcome
+    /// comes back. After the step it wakes the registered sleeper and the kept waker, if any.
+    ///
+    /// It never waits. The end must not have settled, and may not be used afterwards.
+    ///
+    /// ```
+    /// let (mut wait, mut settle) = signal::new::<u64>(alloc)?;
+    /// assert!(settle.settle(5) == None);
+    /// assert!(wait.leave() == Some(5));
+    /// ```
+    pub fn settle(&mut self, outcome: P) -> Option<P>
+        requires unspent { HasNotSettled (settle_view self.old) }
+        ensures step { settle_view self.new ≡ after_settle (settle_view self.old) (settle_view self.new).found }
+        ensures answer { result ≡ (if (settle_view self.new).found.left then Some outcome else None) }
+        ensures waker { kept_waker self.new ≡ None }
+    {
+        let (sleeper, back) = self.end(outcome);
+        if let Some(sleeper) = sleeper {
+            sleeper.unpark();
+        }
+        if let Some(waker) = self.waker.take() {
+            waker.wake();
+        }
+        back
+    }
+
+    /// Whether the waiter has left, by one load. What it answers is no part of the rule: a waiter
+    /// may leave right after it.
+    ///
+    /// It never waits. The end must not have settled.
+    ///
+    /// ```
+    /// assert!(!settle.is_left());
+    /// assert!(wait.leave() == None);
+    /// assert!(settle.is_left());
+    /// ```
+    pub fn is_left(&self) -> bool
+        requires unspent { HasNotSettled (settle_view self.now) }
+    {
+        self.signal.table.shared.peek(0) & LEFT != 0
+    }
+
+    /// Keeps a waker, which `settle` will wake, and answers the one that was kept before. It is no
+    /// step of the cell and touches neither the word nor a slot, so it may be called under a lock.
+    ///
+    /// The answered waker wakes its task when it is dropped. The end must not have settled.
+    ///
+    /// ```
+    /// let displaced = settle.set_waker(waker);
+    /// ```
+    pub fn set_waker(&mut self, waker: Waker) -> Option<Waker>
+        requires unspent { HasNotSettled (settle_view self.old) }
+        ensures view { settle_view self.new ≡ settle_view self.old }
+        ensures displaced { result ≡ kept_waker self.old }
+        ensures kept { kept_waker self.new ≡ Some waker }
+    {
+        self.waker.replace(waker)
+    }
+
+    /// Makes the step of a settle, and hands out the sleeper and the outcome that it took.
+    fn end(&mut self, outcome: P) -> (Option<Unparker>, Option<P>)
+        requires unspent { HasNotSettled (settle_view self.old) }
+        ensures step { settle_view self.new ≡ after_settle (settle_view self.old) (settle_view self.new).found }
+        ensures sleeper { IsSome result.0 ↔ ((settle_view self.new).found.sleeping ≡ true) }
+        ensures back { result.1 ≡ (if (settle_view self.new).found.left then Some outcome else None) }
+        ensures waker { kept_waker self.new ≡ kept_waker self.old }
+    {
+        pointer::put_outcome(&self.signal.table.shared, &mut self.seat, outcome);
+        let found = self
+            .signal
+            .table
+            .shared
+            .fetch_or::<Settles>(&mut self.seat, 0, ENDED);
+        let sleeper = if found & SLEEPING != 0 {
+            let sleeper = pointer::take_sleeper(&self.signal.table.shared, &mut self.seat);
+            self.seat.turn();
+            Some(sleeper)
+        } else {
+            None
+        };
+        let back = if found & LEFT != 0 {
+            Some(pointer::take_outcome(&self.signal.table.shared, &mut self.seat))
+        } else {
+            None
+        };
+        (sleeper, back)
+    }
+}

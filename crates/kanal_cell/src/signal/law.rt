@@ -1,0 +1,35 @@
+//! The law of the cell, as contracts.
+//!
+//! The functions here do nothing: each is called for what its contract says. They stand on the
+//! definitions of the cell's history and of its rule, and are no place for code.
+ghost use Rattle.atomic_table.specs.Table.{State};
+ghost use Rattle.kanal_cell.specs.declared.signal.rule.View.{View};
+ghost use Rattle.kanal_cell.specs.CellLaw.{CellLaw};
+ghost use Rattle.kanal_cell.specs.CellRule.{Slot, Runs};
+ghost use Rattle.kanal_cell.specs.CellRunningLaw.{RunningLaw, SecondHolds, StepLaw};
+
+use super::WaitEnd;
+use super::steps::CellStep;
+
+/// What the history of every list of steps meets, at every cut of it.
+///
+/// Bits are only set. A cell is settled once and left once. At most one reply hands the outcome
+/// out, and after a settle it is in exactly one of three places. Of a leave and a settle, and of
+/// a sleep and a settle, the second comer finds what the first one left.
+pub fn cell_law(steps: &[CellStep])
+    ensures law { CellLaw steps.now }
+{
+    let _ = steps;
+}
+
+/// What every running cell meets between any two steps, and what each step of an end keeps.
+///
+/// It is the law of `cell_law`, said of the word, of the slots and of what the two ends know,
+/// whatever threads they are on.
+pub fn signal_law<P>(end: &WaitEnd<P>)
+    ensures states { (s : State (Slot P) View) → (r : Runs s) → RunningLaw s r }
+    ensures steps { StepLaw }
+    ensures second { SecondHolds P }
+{
+    let _ = end;
+}

@@ -1,7 +1,0 @@
-use Rattle.std.proofs.Common.{◌≢◌, ◌<◌, ℕ, slice_index_or}
-use Rattle.kanal_journal.specs.Passes.{Calls}
-use Rattle.kanal_journal.proofs.journal.finish.is_apart.Given as goal
-
--- no pass so far has the later one's party
-abbrev pub invariant-loop-earlier : goal.invariant-loop-earlier
-invariant-loop-earlier g l = (a : ℕ) (d : Calls _) → a < l.earlier → (slice_index_or l.passes a d).party ≢ (slice_index_or l.passes l.later d).party

@@ -1,0 +1,7 @@
+use Rattle.std.proofs.Common.{◌≢◌, ◌<◌, ℕ, slice_index_or}
+use Rattle.kanal_recorded.specs.Passes.{Calls}
+use Rattle.kanal_recorded.proofs.finish.are_apart.Given as goal
+
+-- no two passes so far have one party
+abbrev pub invariant-loop-later : goal.invariant-loop-later
+invariant-loop-later g l = (a b : ℕ) (d : Calls _) → a < b → b < l.later → (slice_index_or l.passes a d).party ≢ (slice_index_or l.passes b d).party

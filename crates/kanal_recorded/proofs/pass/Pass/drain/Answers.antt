@@ -1,0 +1,4 @@
+use Rattle.kanal_recorded.proofs.pass.Pass.drain.Goals as goal
+
+pub returns : goal.returns
+returns g c = c.call.ensures

@@ -1,0 +1,380 @@
+//! The passes by which threads call a recorded channel.
+//!
+//! Stands on the recorded channel. A call gets the lock, makes room in the pass's own list, lends the
+//! state to one step, and notes what that answered; only a pass gets the lock.
+ghost use Rattle.std.specs.Prelude.{◌≡◌};
+ghost use Rattle.kanal_recorded.specs.Passes.{Notes, NotesAt, heard, newcomer, seen_length};
+ghost use Rattle.kanal_journal.specs.Replays.{Records};
+
+use crate::recorded::Recorded;
+use kanal_core::internal::Outcome;
+use kanal_journal::journal::{Ask, Event, RecordedState, Refusal, Reply, Side};
+use std::alloc::Global;
+use std::marker::Model;
+use std::sync::Wait;
+
+/// One call of a pass: what it asked and was replied, the place of its entry in the journal, and how
+/// much of the journal the pass had seen before.
+#[derive(Clone, Copy, Debug, PartialEq, Eq, Drop)]
+pub struct Note<T> {
+    /// What was asked.
+    pub event: Event<T>,
+    /// What was answered.
+    pub reply: Reply<T>,
+    /// The place of the entry in the journal, from 0.
+    pub place: usize,
+    /// How many of the journal's entries the pass had seen before.
+    pub seen: usize,
+}
+
+/// How much of a journal a pass has seen: a length, to be told to other passes.
+#[derive(Clone, Copy, Debug, PartialEq, Eq)]
+pub struct Seen {
+    length: usize,
+}
+
+/// One party's way to a recorded channel: it makes calls, and keeps a list of them.
+///
+/// A pass may call any recorded channel; which channel its list belongs to is not checked by a call.
+/// A call that starts a wait answers its ticket and doesn't block; each call waits for the lock.
+#[derive(Drop)]
+pub struct Pass<T: Copy> {
+    party: u32,
+    notes: Vec<Note<T>>,
+    seen: usize,
+}
+
+impl<T: Copy> Model for Pass<T> {
+    ghost use Rattle.kanal_recorded.specs.Passes.{Calls};
+
+    ghost Value = { Calls T };
+
+    ghost view = { λ p. record { party = p.party; notes = p.notes.items; seen = p.seen } };
+}
+
+impl<T: Copy> Pass<T> {
+    /// The pass of this party, which has made no call.
+    pub(crate) fn new(alloc: Global, party: u32) -> Self
+        ensures { result ≡ newcomer party }
+    {
+        Pass {
+            party,
+            notes: Vec::new(alloc),
+            seen: 0,
+        }
+    }
+
+    /// The party's number.
+    ///
+    /// # Examples
+    /// ```text
+    /// channel.pass(rt)?.party()   answers  0   for the first pass that is drawn
+    /// ```
+    pub fn party(&self) -> u32
+        ensures { result ≡ self.now.party }
+    {
+        self.party
+    }
+
+    /// The calls that were made, oldest first, but for those that found no memory.
+    ///
+    /// # Examples
+    /// ```text
+    /// pass.notes()[0]   is  Note { event: TrySend(7), reply: Yes, place: 0, seen: 0 }
+    /// ```
+    pub fn notes(&self) -> &[Note<T>]
+        ensures { result.now ≡ self.now.notes }
+    {
+        self.notes.as_slice()
+    }
+
+    /// Sends the message, and starts a wait where there is no place for it.
+    ///
+    /// `Sent` where it entered, `Waits` with the ticket where it waits. `Refused` gives the message back:
+    /// `Closed` or `ReceiveClosed` where nothing can enter, `TooMany` where the tickets are used up,
+    /// `NoHandle` where no live sender is left, `NoMemory` where memory was refused.
+    ///
+    /// # Examples
+    /// ```text
+    /// pass.send(rt, &channel, 7)   answers  Sent
+    /// ```
+    pub fn send<R: Wait>(&mut self, rt: &R, channel: &Recorded<T>, message: T) -> Reply<T>
+        ensures { Notes self.old (Event.Send message) result self.new }
+    {
+        self.call(rt, channel, Event::Send(message))
+    }
+
+    /// Sends the message if it can enter at once.
+    ///
+    /// `Yes` where it entered, `No` with the message where there is no place. `Refused` gives the message
+    /// back: `Closed` or `ReceiveClosed`, `NoHandle`, or `NoMemory`.
+    ///
+    /// # Examples
+    /// ```text
+    /// pass.try_send(rt, &channel, 7)   answers  Yes
+    /// ```
+    pub fn try_send<R: Wait>(&mut self, rt: &R, channel: &Recorded<T>, message: T) -> Reply<T>
+        ensures { Notes self.old (Event.TrySend message) result self.new }
+    {
+        self.call(rt, channel, Event::TrySend(message))
+    }
+
+    /// Receives a message, and starts a wait where none is there.
+    ///
+    /// `Got` with the front of the line, or `Waits` with the ticket. `Refused` otherwise: `Closed`, or
+    /// `SendClosed` where nothing is there and no sender is left, `TooMany`, `NoHandle`, or `NoMemory`.
+    ///
+    /// # Examples
+    /// ```text
+    /// pass.recv(rt, &channel)   answers  Waits(0)   on an empty channel
+    /// ```
+    pub fn recv<R: Wait>(&mut self, rt: &R, channel: &Recorded<T>) -> Reply<T>
+        ensures { Notes self.old Event.Recv result self.new }
+    {
+        self.call(rt, channel, Event::Recv)
+    }
+
+    /// Receives a message as a timed call does whose deadline has passed.
+    ///
+    /// `Got` with the front of the line. `Refused` otherwise: `Closed`, `Timeout` where nothing is there,
+    /// `NoHandle`, or `NoMemory`.
+    ///
+    /// # Examples
+    /// ```text
+    /// pass.recv_late(rt, &channel)   answers  Refused(Timeout, None)   on an empty channel
+    /// ```
+    pub fn recv_late<R: Wait>(&mut self, rt: &R, channel: &Recorded<T>) -> Reply<T>
+        ensures { Notes self.old Event.RecvLate result self.new }
+    {
+        self.call(rt, channel, Event::RecvLate)
+    }
+
+    /// Receives a message if one is there.
+    ///
+    /// `Got` with the front of the line, `Nothing` where none is there. `Refused` otherwise: `Closed`,
+    /// `SendClosed`, `NoHandle`, or `NoMemory`.
+    ///
+    /// # Examples
+    /// ```text
+    /// pass.try_recv(rt, &channel)   answers  Got(7)   after 7 was sent
+    /// ```
+    pub fn try_recv<R: Wait>(&mut self, rt: &R, channel: &Recorded<T>) -> Reply<T>
+        ensures { Notes self.old Event.TryRecv result self.new }
+    {
+        self.call(rt, channel, Event::TryRecv)
+    }
+
+    /// Takes all messages, those of waiting senders too; the recorded channel keeps them.
+    ///
+    /// `Drained` with their number. `Refused` otherwise: `Closed`, `NoHandle`, or `NoMemory`.
+    ///
+    /// # Examples
+    /// ```text
+    /// pass.drain(rt, &channel)   answers  Drained(1)   after 7 was sent
+    /// ```
+    pub fn drain<R: Wait>(&mut self, rt: &R, channel: &Recorded<T>) -> Reply<T>
+        ensures { Notes self.old Event.Drain result self.new }
+    {
+        self.call(rt, channel, Event::Drain)
+    }
+
+    /// Takes back the wait with this ticket's number.
+    ///
+    /// `Withdrawn`, with the message of a send. `Refused` otherwise: `NotWaiting` where the ticket
+    /// doesn't wait, or `NoMemory`.
+    ///
+    /// # Examples
+    /// ```text
+    /// pass.withdraw(rt, &channel, 0)   answers  Withdrawn(None)   where ticket 0 is a waiting receive's
+    /// ```
+    pub fn withdraw<R: Wait>(&mut self, rt: &R, channel: &Recorded<T>, ticket: u64) -> Reply<T>
+        ensures { Notes self.old (Event.Withdraw ticket) result self.new }
+    {
+        self.call(rt, channel, Event::Withdraw(ticket))
+    }
+
+    /// Adds a live handle of the senders' side.
+    ///
+    /// `Done`; a count that is 0 stays 0. `Refused` otherwise: `TooMany`, `NoHandle`, or `NoMemory`.
+    ///
+    /// # Examples
+    /// ```text
+    /// pass.clone_tx(rt, &channel)   answers  Done
+    /// ```
+    pub fn clone_tx<R: Wait>(&mut self, rt: &R, channel: &Recorded<T>) -> Reply<T>
+        ensures { Notes self.old Event.CloneTx result self.new }
+    {
+        self.call(rt, channel, Event::CloneTx)
+    }
+
+    /// Adds a live handle of the receivers' side.
+    ///
+    /// `Done`; a count that is 0 stays 0. `Refused` otherwise: `TooMany`, `NoHandle`, or `NoMemory`.
+    ///
+    /// # Examples
+    /// ```text
+    /// pass.clone_rx(rt, &channel)   answers  Done
+    /// ```
+    pub fn clone_rx<R: Wait>(&mut self, rt: &R, channel: &Recorded<T>) -> Reply<T>
+        ensures { Notes self.old Event.CloneRx result self.new }
+    {
+        self.call(rt, channel, Event::CloneRx)
+    }
+
+    /// Drops a live handle of the senders' side; the last ends all waits.
+    ///
+    /// `Done`. `Refused` otherwise: `NoHandle`, or `NoMemory`.
+    ///
+    /// # Examples
+    /// ```text
+    /// pass.drop_tx(rt, &channel)   answers  Done
+    /// ```
+    pub fn drop_tx<R: Wait>(&mut self, rt: &R, channel: &Recorded<T>) -> Reply<T>
+        ensures { Notes self.old Event.DropTx result self.new }
+    {
+        self.call(rt, channel, Event::DropTx)
+    }
+
+    /// Drops a live handle of the receivers' side; the last ends all waits.
+    ///
+    /// `Done`. `Refused` otherwise: `NoHandle`, or `NoMemory`.
+    ///
+    /// # Examples
+    /// ```text
+    /// pass.drop_rx(rt, &channel)   answers  Done
+    /// ```
+    pub fn drop_rx<R: Wait>(&mut self, rt: &R, channel: &Recorded<T>) -> Reply<T>
+        ensures { Notes self.old Event.DropRx result self.new }
+    {
+        self.call(rt, channel, Event::DropRx)
+    }
+
+    /// Closes both sides, ends all waits and clears the buffer; the recorded channel keeps the messages.
+    ///
+    /// `Cleared` with the number of messages. `Refused` otherwise: `CloseError` where both counts are 0,
+    /// `NoHandle` where neither side has a live handle, or `NoMemory`.
+    ///
+    /// # Examples
+    /// ```text
+    /// pass.close(rt, &channel)   answers  Cleared(1)   after 7 was sent
+    /// ```
+    pub fn close<R: Wait>(&mut self, rt: &R, channel: &Recorded<T>) -> Reply<T>
+        ensures { Notes self.old Event.Close result self.new }
+    {
+        self.call(rt, channel, Event::Close)
+    }
+
+    /// Asks a question through this side.
+    ///
+    /// `Number` or `Flag`. `Refused` otherwise: `NoHandle` where that side has no live handle, or
+    /// `NoMemory`.
+    ///
+    /// # Examples
+    /// ```text
+    /// pass.ask(rt, &channel, Side::Tx, Ask::Len)   answers  Number(1)   after 7 was sent
+    /// ```
+    pub fn ask<R: Wait>(
+        &mut self,
+        rt: &R,
+        channel: &Recorded<T>,
+        side: Side,
+        question: Ask,
+    ) -> Reply<T>
+        ensures { Notes self.old (Event.Ask side question) result self.new }
+    {
+        self.call(rt, channel, Event::Ask(side, question))
+    }
+
+    /// Asks whether no sender is left and no message is in the buffer.
+    ///
+    /// `Flag`. `Refused` otherwise: `NoHandle` where no live receiver is left, or `NoMemory`.
+    ///
+    /// # Examples
+    /// ```text
+    /// pass.terminated(rt, &channel)   answers  Flag(false)   while a sender is left
+    /// ```
+    pub fn terminated<R: Wait>(&mut self, rt: &R, channel: &Recorded<T>) -> Reply<T>
+        ensures { Notes self.old Event.Terminated result self.new }
+    {
+        self.call(rt, channel, Event::Terminated)
+    }
+
+    /// What became of the wait with this ticket's number so far, by the channel's journal: `None`
+    /// where it waits, was withdrawn or was never given. The pass keeps nothing of this question.
+    ///
+    /// # Examples
+    /// ```text
+    /// pass.outcome(rt, &channel, 0)   answers  Some(Given(7))   once ticket 0 was given 7
+    /// ```
+    pub fn outcome<R: Wait>(
+        &mut self,
+        rt: &R,
+        channel: &Recorded<T>,
+        ticket: u64,
+    ) -> Option<Outcome<T>>
+        ensures { self.new ≡ self.old }
+    {
+        channel.shared.lock(rt).state.outcome(ticket)
+    }
+
+    /// How much of the journal this pass has seen, for another pass to hear. It waits for nobody.
+    ///
+    /// # Examples
+    /// ```text
+    /// let seen = a.tell();
+    /// b.hear(seen);   b's next call now stands behind all that a has seen
+    /// ```
+    pub fn tell(&self) -> Seen
+        ensures { seen_length result ≡ self.now.seen }
+    {
+        Seen { length: self.seen }
+    }
+
+    /// Takes note of what another pass has seen. It waits for nobody.
+    ///
+    /// What is told of another channel is heard as well; the passes' lists then don't agree with
+    /// either journal.
+    ///
+    /// # Examples
+    /// ```text
+    /// b.hear(a.tell());
+    /// ```
+    pub fn hear(&mut self, seen: Seen)
+        ensures { self.new ≡ heard self.old (seen_length seen) }
+    {
+        self.seen = self.seen.max(seen.length);
+    }
+
+    /// Makes the event on the channel, once its lock is got.
+    fn call<R: Wait>(&mut self, rt: &R, channel: &Recorded<T>, event: Event<T>) -> Reply<T>
+        ensures { Notes self.old event result self.new }
+    {
+        let mut shared = channel.shared.lock(rt);
+        self.call_on(&mut shared.state, event)
+    }
+
+    /// Makes the event on the state that is lent, and notes it; or finds no memory, and changes
+    /// neither the state nor the list.
+    fn call_on(&mut self, state: &mut RecordedState<T>, event: Event<T>) -> Reply<T>
+        ensures state { Records state.old self.old.party event result state.new }
+        ensures notes { NotesAt state.old self.old event result self.new }
+    {
+        if self.notes.try_reserve(1).is_err() {
+            return event.refused(Refusal::NoMemory);
+        }
+        let place = state.len();
+        let reply = state.step(self.party, event);
+        if reply.is_no_memory() {
+            return reply;
+        }
+        let seen = self.seen;
+        self.notes.push_reserved(Note {
+            event,
+            reply,
+            place,
+            seen,
+        });
+        self.seen = seen.max(state.len());
+        reply
+    }
+}

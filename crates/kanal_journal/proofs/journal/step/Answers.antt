@@ -1,4 +1,4 @@
-use Rattle.std.proofs.Common.{◌≡◌, [], length, ap, arith, refl, length-append}
+use Rattle.std.proofs.Common.{rules, ◌≡◌, [], length, ap, arith, refl, length-append}
 use Rattle.kanal_core.specs.Line.{tickets, under}
 use Rattle.kanal_core.specs.Channel.{line_of}
 use Rattle.kanal_journal.specs.Made.{settled_by, cleared_of}
@@ -39,3 +39,9 @@ returns-clause-clears g c =
     let counts = answered-counts c.args.handles.now (line_of c.args.core.now) (line_of c.answer-made.new.core) c.args.event c.args.report.now.drained.items c.answer-made.new.drained.items c.answer-made.result below c.answer-made.ensures.answered in
     let noted = length-append c.args.report.now.cleared.items (cleared_of c.answer-made.result) in
     omega (arith, counts.2, noted, ap length c.note-reply.ensures.cleared, c.args.report.now.cleared.ok.0, c.note-reply.new.clearings.ok.0)
+
+pub returns-clause-told : goal.returns-clause-told
+returns-clause-told g c = search rules
+
+pub returns-clause-count : goal.returns-clause-count
+returns-clause-count g c = search rules

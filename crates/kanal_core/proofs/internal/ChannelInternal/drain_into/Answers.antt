@@ -1,4 +1,4 @@
-use Rattle.std.proofs.Common.{◌≡◌, ◌+◌, ◌++◌, length, map, refl, append_assoc}
+use Rattle.std.proofs.Common.{rules, ◌≡◌, ◌+◌, ◌++◌, length, map, refl, append_assoc}
 use Rattle.kanal_core.specs.Line.{bare}
 use Rattle.kanal_core.proofs.Sides.{entries}
 use Rattle.kanal_core.proofs.Draining.{drains, line-long, line-messages, none-within, rises-drained, side-drained}
@@ -47,3 +47,9 @@ returns-clause-count g c = rw (← c.self.view_is, moved-long g c) refl
 
 pub returns-clause-room : goal.returns-clause-room
 returns-clause-room g c = rw (← c.self.view_is, moved-long g c, c.taken.ensures.capacity, c.move_into.ensures.capacity) c.reserve.ensures.enough
+
+pub returns-then-self-eq0-clause-receiver : goal.returns-then-self-eq0-clause-receiver
+returns-then-self-eq0-clause-receiver g c = search rules
+
+pub returns-then-self-eq0-clause-memory : goal.returns-then-self-eq0-clause-memory
+returns-then-self-eq0-clause-memory g c = search rules

@@ -1,4 +1,4 @@
-use Rattle.std.proofs.Common.{◌+◌, Some, sym, subst}
+use Rattle.std.proofs.Common.{rules, ◌+◌, Some, sym, subst}
 use Rattle.kanal_core.proofs.Stepping.{waits-send}
 use Rattle.kanal_core.proofs.Sounding.{side-wait-send, rises-wait}
 use Rattle.kanal_core.specs.Sided.{IsOneSided, Rises}
@@ -21,3 +21,6 @@ returns-in-Ok-clause-step g c =
     let k = c.in-Ok.ensures.ok in
     let now = c.self.inside in
     rw (← c.self.view_is, k.1) (waits-send now.capacity now.senders now.receivers now.next now.buffer.messages now.waiters c.self.invariant.side c.self.invariant.within c.in-Ok.ticket c.args.message c.args.w k.0)
+
+pub returns-then-self-clause-reason : goal.returns-then-self-clause-reason
+returns-then-self-clause-reason g c = search rules

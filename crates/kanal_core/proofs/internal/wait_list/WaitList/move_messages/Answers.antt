@@ -1,4 +1,4 @@
-use Rattle.std.proofs.Common.{◌+◌, ◌++◌, drop, slice_get, slice_set, sym, ap, ◌∙◌, arith, vec_capacity, vec_len}
+use Rattle.std.proofs.Common.{rules, ◌+◌, ◌++◌, drop, slice_get, slice_set, sym, ap, ◌∙◌, arith, vec_capacity, vec_len}
 use Rattle.kanal_core.specs.Waiters.{brought, emptied}
 use Rattle.kanal_core.proofs.Emptying.{all-emptied, first-left, length-emptied, moved-none, moved-one, one-more}
 use Rattle.kanal_core.proofs.internal.wait_list.WaitList.move_messages.Goals as goal
@@ -39,3 +39,6 @@ loop-i-preserved g c =
 
 pub returns-clause-left : goal.returns-clause-left
 returns-clause-left g c = c.loop-i.invariant.left ∙ all-emptied c.loop-i.i c.args.self.now (rw (← c.len-i-end.ensures.len) c.loop-i-test.false)
+
+pub loop-i-init : goal.loop-i-init
+loop-i-init g c = search rules

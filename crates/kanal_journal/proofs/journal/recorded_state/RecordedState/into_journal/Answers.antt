@@ -4,3 +4,6 @@ use Rattle.kanal_journal.proofs.journal.recorded_state.RecordedState.into_journa
 
 pub returns-clause-paired : goal.returns-clause-paired
 returns-clause-paired g c = replays-paired c.args.self (search rules)
+
+pub returns-clause-journal : goal.returns-clause-journal
+returns-clause-journal g c = search rules

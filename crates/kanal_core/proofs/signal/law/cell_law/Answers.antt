@@ -1,5 +1,0 @@
-use Rattle.kanal_core.proofs.CellLawful.{law}
-use Rattle.kanal_core.proofs.signal.law.cell_law.Goals as goal
-
-pub returns : goal.returns
-returns c = record { law = law c.args.steps.now }

@@ -1,5 +1,0 @@
-use Rattle.kanal_core.proofs.CellSecond.{second_holds}
-use Rattle.kanal_core.proofs.signal.law.signal_law.Goals as goal
-
-pub returns-clause-second : goal.returns-clause-second
-returns-clause-second g c = second_holds

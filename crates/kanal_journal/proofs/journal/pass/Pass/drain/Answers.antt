@@ -1,4 +1,0 @@
-use Rattle.kanal_journal.proofs.journal.pass.Pass.drain.Goals as goal
-
-pub returns : goal.returns
-returns g c = c.call.ensures

@@ -1,5 +1,5 @@
 -- What each step of a handle does to the line, and who leaves or joins those that wait.
-use Rattle.std.specs.Prelude.{◌≡◌, ◌≢◌, ◌⊎◌, ℕ, zero, suc, Bool, true, false, List, [], ◌∷◌, ◌++◌, Option, Some, None, Result, Ok, Err, Box}
+use Rattle.std.specs.Prelude.{◌≡◌, ◌≢◌, ◌⊎◌, ◌<◌, ◌+◌, ◌-◌, ◌==◌, ◌&&◌, nat_lt, not, cond, length, ℕ, zero, suc, Bool, true, false, List, [], ◌∷◌, ◌++◌, Option, Some, None, Result, Ok, Err, Box}
 use Rattle.std.specs.declared.alloc.Global.{Global}
 use Rattle.kanal_core.specs.declared.internal.outcome.Outcome.{Outcome}
 use Rattle.kanal_core.specs.declared.internal.outcome.Waiter.{Waiter}
@@ -11,7 +11,7 @@ use Rattle.kanal_core.specs.declared.error.ReceiveErrorTimeout.{ReceiveErrorTime
 use Rattle.kanal_core.specs.declared.error.ReceiveErrorTimeout.TheVariants.{Closed as LateClosed, SendClosed as LateSendClosed, Timeout as LateTimeout, NoMemory as LateNoMemory, TooMany as LateTooMany, DeadlineOutOfRange as LateOutOfRange}
 use Rattle.kanal_core.specs.Line.{Line, has_place, last_word}
 use Rattle.kanal_core.specs.Moves.{Moved, quiet, wait_send, wait_recv}
-use Rattle.kanal_core.specs.Channel.{settlements}
+use Rattle.kanal_core.specs.Channel.{Channel, settlements}
 use Rattle.kanal_core.specs.Tickets.{number_of}
 use Rattle.kanal_core.specs.Calls.{Enters, TakesFront, Stays, IsFull, IsEmpty, OldestLeft}
 use Rattle.kanal_steps.specs.declared.steps.Sent.{Sent}
@@ -69,6 +69,14 @@ RefusesReceive old ReceiveNoMemory = IsEmpty old × (old.next ≢ last_word)
 RefusesReceive old ReceiveTooMany = IsEmpty old × (old.next ≡ last_word)
 RefusesReceive old ReceiveFinished = ⊥
 
+-- why a drain is refused, into a vector of this length and this capacity
+abbrev pub RefusesDrain : {T : Type 0} → Line T → ℕ → ℕ → ReceiveError → Type 0
+RefusesDrain old len room ReceiveFromClosed = old.receivers ≡ 0
+RefusesDrain old len room ReceiveNoMemory = (old.receivers ≢ 0) × (room < len + length old.line)
+RefusesDrain old len room SendClosed = ⊥
+RefusesDrain old len room ReceiveTooMany = ⊥
+RefusesDrain old len room ReceiveFinished = ⊥
+
 -- a move, and then what came after it
 abbrev pub then : {T : Type 0} → Moved T → Moved T → Moved T
 then first rest = record { line = rest.line; settled = first.settled ++ rest.settled }
@@ -77,6 +85,19 @@ then first rest = record { line = rest.line; settled = first.settled ++ rest.set
 abbrev pub times : {T : Type 0} → (Line T → Moved T) → ℕ → Line T → Moved T
 times move zero old = quiet old
 times move (suc n) old = then (move old) (times move n (move old).line)
+
+-- the last of so many handles is among so many drops
+abbrev pub drops_last : ℕ → ℕ → Bool
+drops_last drops handles = not (handles == 0) && not (nat_lt drops handles)
+
+module _ {T W : Type 0} where
+  -- a channel after so many drops of senders: with the last one all that wait leave
+  abbrev pub senders_dropped : ℕ → Channel T W → Channel T W
+  senders_dropped drops c = record c { waiters = cond (drops_last drops c.senders) [] c.waiters; senders = c.senders - drops }
+
+  -- a channel after so many drops of receivers: with the last one all that wait leave
+  abbrev pub receivers_dropped : ℕ → Channel T W → Channel T W
+  receivers_dropped drops c = record c { waiters = cond (drops_last drops c.receivers) [] c.waiters; receivers = c.receivers - drops }
 
 -- the waits that a step ended, if there were some
 abbrev pub all_of : {A : Type 0} → Option (List A) → List A

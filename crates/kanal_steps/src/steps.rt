@@ -3,21 +3,22 @@
 //! Stands on the core's contracts. A step says in the line's terms what it did, and hands out all
 //! that left the core; nothing is settled or let go here, since the lock is held. A handle changes a
 //! core by a step or by the core's own calls, and by nothing else.
-ghost use Rattle.std.specs.Prelude.{◌≡◌, ◌≢◌, ◌↔◌, ◌++◌, List, [], ◌∷◌, IsSome, Some, None, Ok, true, cond, map, length, IfOk, IfErr, IsErrOf, MatchOption};
+ghost use Rattle.std.specs.Prelude.{◌≡◌, ◌≢◌, ◌↔◌, ◌+◌, ◌≤◌, ◌++◌, List, [], ◌∷◌, IsSome, Some, None, Ok, true, cond, map, length, IfOk, IfErr, IsErrOf, MatchOption};
+ghost use Rattle.std.specs.Vec.{vec_capacity, vec_len};
 ghost use Rattle.kanal_core.specs.Line.{messages};
 ghost use Rattle.kanal_core.specs.Moves.{drain, drop_receiver, drop_sender};
-ghost use Rattle.kanal_core.specs.Channel.{line_of, settlement, settlements, taken_by};
+ghost use Rattle.kanal_core.specs.Channel.{drained, ended_by, line_of, settlement, settlements, taken_by};
 ghost use Rattle.kanal_core.specs.Waiters.{sender_first, waiter_of};
 ghost use Rattle.kanal_core.specs.Calls.{IsFull, IsEmpty, MovesTo, OldestLeft};
 ghost use Rattle.kanal_core.specs.declared.internal.outcome.Waiter.{Waiter};
 ghost use Rattle.kanal_steps.specs.Leaving.{LeaveInTurn, entry_of, kept_by, kept_from};
 ghost use Rattle.kanal_steps.specs.Renewing.{Renews};
-ghost use Rattle.kanal_steps.specs.Steps.{Boxed, TriesToSend, TriesToReceive, Sends, SendSeats, ReceivesLate, Receives, ReceiveSeats, all_of, times};
+ghost use Rattle.kanal_steps.specs.Steps.{Boxed, TriesToSend, TriesToReceive, RefusesDrain, Sends, SendSeats, ReceivesLate, Receives, ReceiveSeats, all_of, drops_last, receivers_dropped, senders_dropped, times};
 
 use crate::seat::{Core, Seat};
 use futures::task::Waker;
 use kanal_core::error::{DrainError, ReceiveError, ReceiveErrorTimeout, SendError, WaitError};
-use kanal_core::internal::{Ended, Offer, Settled, Take, Ticket, Waiter};
+use kanal_core::internal::{Ended, Offer, Reason, Settled, Take, Ticket, Waiter};
 
 /// What a call that doesn't wait answers, and the wait that its step settled.
 #[derive(Drop)]
@@ -262,7 +263,10 @@ pub fn drain<T: Drop>(
     ensures count { IfOk result (λ d. d.0 ≡ length (line_of core.old).line) }
     ensures taken { IfOk result (λ d. d.1 ≡ cond (sender_first core.old.waiters) (map taken_by core.old.waiters) []) }
     ensures receiver { IsErrOf result ReceiveError.Closed ↔ (core.old.receivers ≡ 0) }
+    ensures after { IfOk result (λ _. core.new ≡ drained core.old) }
     ensures refused { IfErr result (λ _. (core.new ≡ core.old) × (into.new.items ≡ into.old.items)) }
+    ensures reason { IfErr result (λ e. RefusesDrain (line_of core.old) (vec_len into.old) (vec_capacity into.old) e) }
+    ensures room { vec_len into.old + length (line_of core.old).line ≤ vec_capacity into.old → vec_capacity into.new ≡ vec_capacity into.old }
 {
     match core.drain_into(into) {
         Ok(drained) => Ok(drained),
@@ -279,6 +283,8 @@ pub fn drain<T: Drop>(
 /// ```
 pub fn drop_senders<T: Drop>(core: &mut Core<T>, count: u64) -> Option<Ended<T, Box<Seat<T>>>>
     ensures step { MovesTo (times drop_sender count (line_of core.old)) (map settlement (all_of result)) (line_of core.new) }
+    ensures ended { all_of result ≡ cond (drops_last count core.old.senders) (map (ended_by Reason.SendClosed) core.old.waiters) [] }
+    ensures after { core.new ≡ senders_dropped count core.old }
 {
     let mut left = count;
     while left > 0 {
@@ -300,6 +306,8 @@ pub fn drop_senders<T: Drop>(core: &mut Core<T>, count: u64) -> Option<Ended<T, 
 /// ```
 pub fn drop_receivers<T: Drop>(core: &mut Core<T>, count: u64) -> Option<Ended<T, Box<Seat<T>>>>
     ensures step { MovesTo (times drop_receiver count (line_of core.old)) (map settlement (all_of result)) (line_of core.new) }
+    ensures ended { all_of result ≡ cond (drops_last count core.old.receivers) (map (ended_by Reason.ReceiveClosed) core.old.waiters) [] }
+    ensures after { core.new ≡ receivers_dropped count core.old }
 {
     let mut left = count;
     while left > 0 {

@@ -38,7 +38,14 @@ impl<T: Drop> AsyncReceiver<T> {
         &self.shared
     }
 
-    /// A future that receives a message. It does nothing before its first poll, and waits for nobody.
+    /// A future that receives a message. It does nothing before its first poll; one that is dropped
+    /// before that has taken no message. One that is dropped later drops the message that it was given
+    /// and hadn't answered yet. Neither this call nor a poll waits for anybody.
+    ///
+    /// # Errors
+    /// The future answers `Closed` where the channel was closed, `SendClosed` where no message is there
+    /// and the last sender was dropped, `NoMemory` where memory was refused, and `TooMany` where the
+    /// tickets of waits are used up. After its answer it answers `Finished`.
     ///
     /// # Examples
     /// ```text

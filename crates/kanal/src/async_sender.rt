@@ -38,7 +38,16 @@ impl<T: Drop> AsyncSender<T> {
         &self.shared
     }
 
-    /// A future that sends the message. It does nothing before its first poll, and waits for nobody.
+    /// A future that sends the message. It holds the message and does nothing before its first poll; one
+    /// that is dropped before that drops the message, which was never in the channel. Neither this call
+    /// nor a poll waits for anybody.
+    ///
+    /// The future answers `Ok(())` once a receiver has the message or the buffer holds it.
+    ///
+    /// # Errors
+    /// The future answers `Closed` where the channel was closed, `ReceiveClosed` where the last receiver
+    /// was dropped, `NoMemory` where memory was refused, and `TooMany` where the tickets of waits are used
+    /// up. The message is dropped then. After its answer it answers `Finished`.
     ///
     /// # Examples
     /// ```text

@@ -70,10 +70,10 @@ pub fn unbounded<T: Drop>(alloc: Global) -> Result<(Sender<T>, Receiver<T>), New
     Ok((sender.to_sync(), receiver.to_sync()))
 }
 
-/// Makes a channel as `bounded`, with its first handles for tasks.
+/// Makes a channel as `bounded`, with its first handles for tasks. It waits for nobody.
 ///
 /// # Errors
-/// As `bounded`.
+/// `TooLarge` exactly for `usize::MAX`, and `NoMemory` where there is no memory for the channel.
 ///
 /// # Examples
 /// ```text
@@ -90,10 +90,10 @@ pub fn bounded_async<T: Drop>(
     handles(alloc, ChannelInternal::new(alloc, size)?)
 }
 
-/// Makes a channel as `unbounded`, with its first handles for tasks.
+/// Makes a channel as `unbounded`, with its first handles for tasks. It waits for nobody.
 ///
 /// # Errors
-/// As `unbounded`.
+/// `NoMemory` where there is no memory for the channel.
 ///
 /// # Examples
 /// ```text

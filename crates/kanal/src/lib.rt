@@ -33,6 +33,10 @@ mod sender_view;
 pub use async_receiver::AsyncReceiver;
 pub use async_sender::AsyncSender;
 pub use channel::{bounded, bounded_async, unbounded, unbounded_async};
+pub use error::{
+    CloseError, DrainError, NewError, NoMemory, ReceiveError, ReceiveErrorTimeout, SendError,
+    SendErrorTimeout, TooMany, WaitError,
+};
 pub use kanal_shared::{Clock, ReceiveFuture, ReceiveStream, SendFuture, SystemClock};
 pub use messages::Messages;
 pub use receiver::Receiver;

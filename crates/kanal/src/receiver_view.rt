@@ -113,9 +113,11 @@ impl<T: Drop> ReceiverView<'_, T> {
         self.receiver.drain_into(rt, into)
     }
 
-    /// The messages, one `recv` after the other, until one is refused. It keeps the runtime value.
+    /// The messages, one `recv` after the other, until one is refused. It keeps the runtime value, and
+    /// does nothing else; each item waits as a `recv` does.
     ///
-    /// To contracts it has no end, so it is used with a limit.
+    /// The items end where a `recv` would be refused, whatever the reason; a `recv` after the end tells
+    /// it. To contracts the items have no end, so they are used with a limit.
     ///
     /// # Examples
     /// ```text

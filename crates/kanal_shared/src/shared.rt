@@ -4,8 +4,8 @@
 //! Stands on the lock, the steps and the seats. Whoever gets the lock applies all notices before its
 //! own step. A call that may wait for the lock then releases it where they took something out,
 //! settles that, and waits for the lock anew; one that may not makes its step at once, and settles
-//! both after its release. Whoever releases the lock settles first and then looks for new notices. No
-//! other module takes the lock or touches a notice's counter.
+//! both after its release. Whoever releases the lock settles first and then looks for new notices. The
+//! other modules get the lock by the calls here alone, and none of them touches a notice's counter.
 use crossbeam_utils::Backoff;
 use kanal_core::internal::{Ended, Settled, Ticket, Waiter};
 use kanal_core::mutex::Mutex;

@@ -1,5 +1,5 @@
 -- What a caller sees of an end.
-use Rattle.std.specs.Prelude.{Option}
+use Rattle.std.specs.Prelude.{◌≡◌, Option}
 use Rattle.futures.specs.declared.task.waker.Waker.{Waker}
 use Rattle.kanal_cell.specs.declared.signal.rule.View.{View}
 use Rattle.kanal_cell.specs.declared.signal.WaitEnd.{WaitEnd}
@@ -16,4 +16,8 @@ module _ {P : Type 0} where
 
   -- the waker that a settle will wake
   abbrev pub kept_waker : SettleEnd P → Option Waker
-  kept_waker e = e.waker
+  kept_waker e = e.kept.waker
+
+  -- what the waiter waits for is what the settler settles
+  abbrev pub AreOfOneCell : WaitEnd P → SettleEnd P → Type 0
+  AreOfOneCell wait settle = wait.seat.table_id ≡ settle.seat.table_id

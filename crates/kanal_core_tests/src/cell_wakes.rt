@@ -19,17 +19,45 @@ use std::sync::{Arc, Mutex, Wait};
 use std::thread;
 use std::thread::{JoinHandle, Threads};
 
+/// How often a thread looks whether another has gone on.
+const TURNS: u32 = 10_000_000;
+
+/// Sees the thread that may be parked go on; where it doesn't, wakes it.
+fn goes_on(stage: &AtomicU64, waking: &Unparker) -> bool {
+    for _ in 0..TURNS {
+        if stage.load(Ordering::SeqCst) == PASSED {
+            return true;
+        }
+        thread::yield_now();
+    }
+    waking.unpark();
+    false
+}
+
+/// Settles, and sees the thread that waits go on.
+fn settle_and_see(entry: Entry, stage: &AtomicU64, waking: &Unparker) -> bool {
+    let Entry { mut end } = entry;
+    let back = end.settle(7);
+    drop(end);
+    goes_on(stage, waking) && back.is_none()
+}
+
 /// A settle in another thread wakes this one, should it park before.
 fn wake_the_parked<R: Threads + Wait + Abort + AllocGlobal>(rt: &R) {
     let parker = new_parker(rt);
-    let sleeper = unparker_of(rt, &parker);
-    let (mut wait, mut settle) = cell::<u64>(rt);
-    let other = thread::spawn(rt, move || settle.settle(7).is_none()).expect(rt, "a thread");
+    let (sleeper, waking) = (unparker_of(rt, &parker), unparker_of(rt, &parker));
+    let (mut wait, settle) = cell::<u64>(rt);
+    let entry = Entry { end: settle };
+    let stage = counter(rt);
+    let theirs = shared(rt, &stage);
+    let other = thread::spawn(rt, move || settle_and_see(entry, &theirs, &waking));
+    let other = other.expect(rt, "a thread");
     let mut got = wait.sleep(sleeper);
     if got.is_none() {
         parker.park(rt);
         got = wait.poll();
     }
+    stage.store(PASSED, Ordering::SeqCst);
     equal(rt, got, Some(7));
     holds(rt, other.join(rt));
 }
@@ -146,6 +174,26 @@ fn a_settle_wakes_the_kept_waker_once(rt: HostRuntime) {
     drop(settle);
     drop(wait);
     holds(&rt, !second.is_woken());
+}
+
+/// The ends of a cell whose waiter left before the settle, which woke the task all the same.
+fn settle_for_one_that_left(
+    rt: &(impl Abort + AllocGlobal),
+    task: &MockTask,
+) -> (WaitEnd<u64>, SettleEnd<u64>) {
+    let (mut wait, mut settle) = cell(rt);
+    holds(rt, settle.set_waker(waker_of(rt, task)).is_none());
+    equal(rt, wait.leave(), None);
+    holds(rt, !task.is_woken());
+    equal(rt, settle.settle(7), Some(7));
+    holds(rt, task.is_woken());
+    (wait, settle)
+}
+
+#[test]
+fn a_settle_wakes_the_task_of_a_waiter_that_left(rt: HostRuntime) {
+    let task = new_task(&rt);
+    let _ends = settle_for_one_that_left(&rt, &task);
 }
 
 #[derive(Drop)]

@@ -3,7 +3,7 @@
 //! Each ends the test by itself, so that a test has nothing to hand out where something is missing.
 ghost use Rattle.std.specs.Prelude.{◌≡◌};
 ghost use Rattle.kanal_cell.specs.CellRule.{fresh};
-ghost use Rattle.kanal_cell.specs.CellEnds.{wait_view, settle_view};
+ghost use Rattle.kanal_cell.specs.CellEnds.{AreOfOneCell, wait_view, settle_view};
 ghost use Rattle.kanal_cell.specs.declared.signal.rule.Role.TheVariants.{Waiter, Settler};
 
 use crossbeam_utils::sync::{Parker, Unparker};
@@ -56,6 +56,7 @@ pub fn boxed(rt: &(impl Abort + AllocGlobal), number: u32) -> Box<u32> {
 pub fn cell<P: Drop>(rt: &(impl Abort + AllocGlobal)) -> (WaitEnd<P>, SettleEnd<P>)
     ensures waiter { wait_view result.0 ≡ fresh Waiter }
     ensures settler { settle_view result.1 ≡ fresh Settler }
+    ensures cell { AreOfOneCell result.0 result.1 }
 {
     signal::new(rt.alloc()).expect(rt, "a cell")
 }

@@ -2,15 +2,16 @@
 //!
 //! They stand on `rule` and `pointer`. A put comes before the step that gives its slot to the
 //! other end, and a take after the step that brought the slot.
-ghost use Rattle.std.specs.Prelude.{◌≡◌, ◌↔◌, true, false, Some, None, if◌then◌else◌, IfOk, IsSome, IsTrue};
+ghost use Rattle.std.specs.Prelude.{◌≡◌, ◌↔◌, ◌∷◌, [], true, false, Some, None, if◌then◌else◌, IfOk, IsSome, IsTrue};
 ghost use Rattle.kanal_cell.specs.CellRule.{fresh, after_poll, after_sleep, after_leave, after_settle, HasNotLeft, HasNotSettled, MaySleep};
-ghost use Rattle.kanal_cell.specs.CellEnds.{wait_view, settle_view, kept_waker};
+ghost use Rattle.kanal_cell.specs.CellEnds.{AreOfOneCell, wait_view, settle_view, kept_waker};
 ghost use Rattle.kanal_cell.specs.declared.signal.rule.Role.TheVariants.{Waiter, Settler};
 
 use super::rule::{
-    ENDED, LEFT, Leaves, Parts, Polls, SLEEPING, SettlerBegins, Settles, Signal, Sleeps,
-    WaiterBegins,
+    CellTable, ENDED, EndSeat, LEFT, Leaves, Parts, Polls, SLEEPING, SettlerBegins, Settles,
+    Signal, Sleeps, WaiterBegins,
 };
+use super::waking::{KeptWaker, Waking};
 use super::{SettleEnd, WaitEnd};
 use crate::error::NoMemory;
 use crate::pointer;
@@ -19,6 +20,24 @@ use crossbeam_utils::sync::Unparker;
 use futures::task::Waker;
 use std::alloc::Global;
 use std::sync::Arc;
+
+type Seated<P> = (CellTable<P>, EndSeat<P>, EndSeat<P>);
+
+/// A table for a cell, with the waiter's seat, which is lent the sleeper's slot, and the settler's, which
+/// is lent the outcome's.
+fn table_with_seats<P: Drop>(alloc: Global) -> Result<Seated<P>, NoMemory>
+    ensures sized { IfOk result (λ made. (made.0.shared.table_id.words ≡ 1) × (made.0.shared.table_id.slots ≡ 2)) }
+    ensures waiter { IfOk result (λ made. (made.1.table_id ≡ made.0.shared.table_id) × (made.1.me ≡ (fresh Waiter, (1, None) ∷ []))) }
+    ensures settler { IfOk result (λ made. (made.2.table_id ≡ made.0.shared.table_id) × (made.2.me ≡ (fresh Settler, (0, None) ∷ []))) }
+{
+    let Ok((table, mut waiter)) = Table::vacant(alloc, &[0], 2, &()) else {
+        return Err(NoMemory);
+    };
+    table.shared.load::<WaiterBegins>(&mut waiter, 0);
+    let mut settler = table.shared.split_seat::<Parts>(&mut waiter);
+    table.shared.load::<SettlerBegins>(&mut settler, 0);
+    Ok((table, waiter, settler))
+}
 
 /// Makes a cell, and answers its two ends.
 ///
@@ -33,13 +52,11 @@ pub fn new<P: Drop>(alloc: Global) -> Result<(WaitEnd<P>, SettleEnd<P>), NoMemor
     ensures waiter { IfOk result (λ ends. wait_view ends.0 ≡ fresh Waiter) }
     ensures settler { IfOk result (λ ends. settle_view ends.1 ≡ fresh Settler) }
     ensures waker { IfOk result (λ ends. kept_waker ends.1 ≡ None) }
+    ensures cell { IfOk result (λ ends. AreOfOneCell ends.0 ends.1) }
 {
-    let Ok((table, mut waiter)) = Table::vacant(alloc, &[0], 2, &()) else {
+    let Ok((table, waiter, settler)) = table_with_seats::<P>(alloc) else {
         return Err(NoMemory);
     };
-    table.shared.load::<WaiterBegins>(&mut waiter, 0);
-    let mut settler = table.shared.split_seat::<Parts>(&mut waiter);
-    table.shared.load::<SettlerBegins>(&mut settler, 0);
     let Ok(signal) = Arc::new(alloc, Signal { table }) else {
         return Err(NoMemory);
     };
@@ -54,7 +71,7 @@ pub fn new<P: Drop>(alloc: Global) -> Result<(WaitEnd<P>, SettleEnd<P>), NoMemor
     let settle = SettleEnd {
         signal: other,
         seat: settler,
-        waker: None,
+        kept: KeptWaker::nobody(),
     };
     Ok((wait, settle))
 }
@@ -162,13 +179,8 @@ impl<P: Drop> SettleEnd<P> {
         ensures answer { result ≡ (if (settle_view self.new).found.left then Some outcome else None) }
         ensures waker { kept_waker self.new ≡ None }
     {
-        let (sleeper, back) = self.end(outcome);
-        if let Some(sleeper) = sleeper {
-            sleeper.unpark();
-        }
-        if let Some(waker) = self.waker.take() {
-            waker.wake();
-        }
+        let (waking, back) = self.end(outcome);
+        waking.wake();
         back
     }
 
@@ -202,16 +214,17 @@ impl<P: Drop> SettleEnd<P> {
         ensures displaced { result ≡ kept_waker self.old }
         ensures kept { kept_waker self.new ≡ Some waker }
     {
-        self.waker.replace(waker)
+        self.kept.replace(waker)
     }
 
-    /// Makes the step of a settle, and hands out the sleeper and the outcome that it took.
-    fn end(&mut self, outcome: P) -> (Option<Unparker>, Option<P>)
+    /// Makes the step of a settle, and hands out whom it has to wake and the outcome that it took.
+    fn end(&mut self, outcome: P) -> (Waking, Option<P>)
         requires unspent { HasNotSettled (settle_view self.old) }
         ensures step { settle_view self.new ≡ after_settle (settle_view self.old) (settle_view self.new).found }
-        ensures sleeper { IsSome result.0 ↔ ((settle_view self.new).found.sleeping ≡ true) }
+        ensures sleeper { IsSome result.0.sleeper ↔ ((settle_view self.new).found.sleeping ≡ true) }
+        ensures waker { result.0.waker ≡ kept_waker self.old }
         ensures back { result.1 ≡ (if (settle_view self.new).found.left then Some outcome else None) }
-        ensures waker { kept_waker self.new ≡ kept_waker self.old }
+        ensures kept { kept_waker self.new ≡ None }
     {
         pointer::put_outcome(&self.signal.table.shared, &mut self.seat, outcome);
         let found = self
@@ -231,6 +244,6 @@ impl<P: Drop> SettleEnd<P> {
         } else {
             None
         };
-        (sleeper, back)
+        (self.kept.take_out(&self.seat, sleeper), back)
     }
 }

@@ -2,7 +2,7 @@
 //!
 //! It stands on `atomic_table`. Nothing here is called by itself: the ends in `calls` name these
 //! types at their steps. No other module may make a `Seat` of a cell, nor step on its word.
-use atomic_table::{Play, Split, Table, TableRule};
+use atomic_table::{Play, Seat, Split, Table, TableRule};
 use crossbeam_utils::sync::Unparker;
 use std::alloc::Global;
 
@@ -138,8 +138,14 @@ impl<P> Play<Option<Held<P>>, View> for Settles {
     ghost then = { settled };
 }
 
-/// What the two ends share: one word and two slots, under the rule.
+/// One word and two slots, under the rule.
+pub(crate) type CellTable<P> = Table<Option<Held<P>>, View, (), SignalRule, Global>;
+
+/// The seat of an end at the table of its cell.
+pub(crate) type EndSeat<P> = Seat<Option<Held<P>>, View>;
+
+/// What the two ends share.
 #[derive(Drop)]
 pub struct Signal<P> {
-    pub(crate) table: Table<Option<Held<P>>, View, (), SignalRule, Global>,
+    pub(crate) table: CellTable<P>,
 }

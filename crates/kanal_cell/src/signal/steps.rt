@@ -2,7 +2,7 @@
 //!
 //! It is the model of the running cell. It stands on nothing, and no value of it is ever shared.
 //! A step that the running cell's conditions rule out replies `Spent` here and changes nothing.
-ghost use Rattle.std.specs.Prelude.{◌≡◌, ◌||◌, Some, None, if◌then◌else◌, IfOk};
+ghost use Rattle.std.specs.Prelude.{◌≡◌, ◌||◌, [], Some, None, if◌then◌else◌, IfOk, IsOk};
 ghost use Rattle.kanal_cell.specs.CellMoves.{empty, is_home, answer, next, word_of, owner_of};
 ghost use Rattle.kanal_cell.specs.declared.signal.steps.CellStep.TheVariants.{Settle};
 ghost use Rattle.kanal_cell.specs.CellHistory.{IsHistory};
@@ -209,6 +209,7 @@ impl CellCore {
 /// ```
 pub fn cell_run(alloc: Global, steps: &[CellStep]) -> Result<CellReport, NoMemory>
     ensures history { IfOk result (λ report. IsHistory steps.now report) }
+    ensures empty { steps.now ≡ [] → IsOk result }
 {
     let Ok(mut replies) = Vec::with_capacity(alloc, steps.len()) else {
         return Err(NoMemory);

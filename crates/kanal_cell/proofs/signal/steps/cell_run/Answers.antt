@@ -16,14 +16,12 @@ loop-step-init c = record {
   said = λ k x h e. absurd (omega arith);
 }
 
-pub returns : goal.returns
-returns c =
+pub returns-clause-history : goal.returns-clause-history
+returns-clause-history c =
     let i = c.loop-step.invariant in
     let end : c.loop-step.step-index ≡ length c.args.steps.now = omega arith in
     let last = subst (λ n. StateAt c.args.steps.now n c.loop-step.core) end i.state in record {
-      history = record {
-        replies = all_said c.args.steps.now c.loop-step.replies.items (i.long ∙ end) (λ k x h e. i.said k x (omega (arith, h, end)) e);
-        word = c.word.ensures ∙ word_is c.args.steps.now c.loop-step.core last;
-        owner = c.owner.ensures ∙ owner_is c.args.steps.now c.loop-step.core last;
-      };
+      replies = all_said c.args.steps.now c.loop-step.replies.items (i.long ∙ end) (λ k x h e. i.said k x (omega (arith, h, end)) e);
+      word = c.word.ensures ∙ word_is c.args.steps.now c.loop-step.core last;
+      owner = c.owner.ensures ∙ owner_is c.args.steps.now c.loop-step.core last;
     }

@@ -1,6 +1,6 @@
 use Rattle.std.proofs.Common.{rules}
 use Rattle.kanal_cell.proofs.CellKeeps.{halves, begins}
-use Rattle.kanal_cell.proofs.signal.calls.new.Goals as goal
+use Rattle.kanal_cell.proofs.signal.calls.table_with_seats.Goals as goal
 
 pub load-requires : goal.load-requires
 load-requires g c = (search rules, search rules, halves _ _ _ (search rules))

@@ -1,0 +1,86 @@
+//! Who is woken by a settle: the waker that is kept for it, and the sleeper that it took.
+//!
+//! It stands on `atomic_table`. A kept waker is taken out to be woken only after the settler has made
+//! its step, and what was taken out is let go by waking it and in no other way. No other module may
+//! look into either type.
+ghost use Rattle.std.specs.Prelude.{◌≡◌, true, None, Some};
+
+use super::rule::EndSeat;
+use crossbeam_utils::sync::Unparker;
+use futures::task::Waker;
+
+/// The waker that a settle will wake, if one is kept.
+#[derive(Drop)]
+pub(crate) struct KeptWaker {
+    pub(super) waker: Option<Waker>,
+}
+
+impl KeptWaker {
+    /// No waker is kept.
+    pub(super) fn nobody() -> Self
+        ensures { result.waker ≡ None }
+    {
+        KeptWaker { waker: None }
+    }
+
+    /// Keeps the waker, and answers the one that was kept before.
+    pub(super) fn replace(&mut self, waker: Waker) -> Option<Waker>
+        ensures displaced { result ≡ self.old.waker }
+        ensures kept { self.new.waker ≡ Some waker }
+    {
+        self.waker.replace(waker)
+    }
+
+    /// Takes the waker out, to be woken with the sleeper. The settler of the seat has made its step.
+    pub(super) fn take_out<P>(&mut self, settler: &EndSeat<P>, sleeper: Option<Unparker>) -> Waking
+        requires stepped { settler.now.me.0.set.ended ≡ true }
+        ensures waker { result.waker ≡ self.old.waker }
+        ensures sleeper { result.sleeper ≡ sleeper }
+        ensures kept { self.new.waker ≡ None }
+    {
+        let _ = settler;
+        Waking {
+            sleeper,
+            waker: self.waker.take(),
+            is_woken: false,
+        }
+    }
+}
+
+/// Whom a settle has to wake. Only `wake` lets it go.
+pub(crate) struct Waking {
+    pub(super) sleeper: Option<Unparker>,
+    pub(super) waker: Option<Waker>,
+    is_woken: bool,
+}
+
+impl Drop for Waking {
+    fn drop(self)
+        requires { self.is_woken ≡ true }
+    {
+        let Waking {
+            sleeper,
+            waker,
+            is_woken: _,
+        } = self;
+        drop(sleeper);
+        drop(waker);
+    }
+}
+
+impl Waking {
+    /// Wakes the sleeper and the waker.
+    pub(super) fn wake(self) {
+        let Waking {
+            sleeper,
+            waker,
+            is_woken: _,
+        } = self;
+        if let Some(sleeper) = sleeper {
+            sleeper.unpark();
+        }
+        if let Some(waker) = waker {
+            waker.wake();
+        }
+    }
+}

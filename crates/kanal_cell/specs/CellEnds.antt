@@ -21,3 +21,7 @@ module _ {P : Type 0} where
   -- what the waiter waits for is what the settler settles
   abbrev pub AreOfOneCell : WaitEnd P → SettleEnd P → Type 0
   AreOfOneCell wait settle = wait.seat.table_id ≡ settle.seat.table_id
+
+  -- the settler is that of the same cell as before
+  abbrev pub StaysAtCell : SettleEnd P → SettleEnd P → Type 0
+  StaysAtCell old new = new.seat.table_id ≡ old.seat.table_id

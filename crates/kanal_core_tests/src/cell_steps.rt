@@ -1,5 +1,5 @@
 //! The table of steps on the plain cell, and its rows on a running cell.
-use crate::given::{cell, equal, holds, new_parker, unparker_of};
+use crate::given::{cell, equal, holds, new_parker, park_woken, unparker_of};
 use kanal_cell::signal::CellReply::{Flag, Left, Outcome, Pending, Settled, Slept, Spent};
 use kanal_cell::signal::CellStep::{IsLeft, Leave, Poll, Settle, Sleep};
 use kanal_cell::signal::{CellReply, CellStep, Owner, cell_run};
@@ -97,8 +97,7 @@ fn a_sleep_then_a_settle(rt: HostRuntime) {
     equal(&rt, settle.settle(5), None);
     equal(&rt, wait.poll(), Some(5));
     equal(&rt, wait.poll(), None);
-    // The settle woke the sleeper, so this returns at once.
-    parker.park(&rt);
+    park_woken(&rt, &parker);
 }
 
 #[test]
@@ -134,5 +133,5 @@ fn a_sleep_a_leave_then_a_settle(rt: HostRuntime) {
     equal(&rt, wait.sleep(unparker_of(&rt, &parker)), None);
     equal(&rt, wait.leave(), None);
     equal(&rt, settle.settle(5), Some(5));
-    parker.park(&rt);
+    park_woken(&rt, &parker);
 }

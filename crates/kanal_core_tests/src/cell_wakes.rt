@@ -3,7 +3,7 @@ ghost use Rattle.std.specs.Prelude.{◌≡◌};
 ghost use Rattle.kanal_cell.specs.CellRule.{HasNotLeft, HasNotSettled};
 ghost use Rattle.kanal_cell.specs.CellEnds.{wait_view, settle_view};
 
-use crate::given::{cell, counter, equal, holds, new_parker, shared, unparker_of};
+use crate::given::{PASSED, cell, counter, equal, goes_on, holds, new_parker, shared, unparker_of};
 use crossbeam_utils::sync::Unparker;
 use futures::Future;
 use futures::executor::block_on;
@@ -18,21 +18,6 @@ use std::sync::atomic::{AtomicU64, Ordering};
 use std::sync::{Arc, Mutex, Wait};
 use std::thread;
 use std::thread::{JoinHandle, Threads};
-
-/// How often a thread looks whether another has gone on.
-const TURNS: u32 = 10_000_000;
-
-/// Sees the thread that may be parked go on; where it doesn't, wakes it.
-fn goes_on(stage: &AtomicU64, waking: &Unparker) -> bool {
-    for _ in 0..TURNS {
-        if stage.load(Ordering::SeqCst) == PASSED {
-            return true;
-        }
-        thread::yield_now();
-    }
-    waking.unpark();
-    false
-}
 
 /// Settles, and sees the thread that waits go on.
 fn settle_and_see(entry: Entry, stage: &AtomicU64, waking: &Unparker) -> bool {
@@ -71,9 +56,6 @@ fn a_settle_wakes_the_parked_thread(rt: HostRuntime) {
 
 /// The thread that may park is about to.
 const PARKS: u64 = 1;
-
-/// It has gone on.
-const PASSED: u64 = 2;
 
 /// Sees the thread about to park, gives it many turns in which it must not go on, and then wakes it.
 fn stays_parked(stage: &AtomicU64, waking: &Unparker) -> bool {

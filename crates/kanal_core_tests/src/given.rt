@@ -13,8 +13,10 @@ use kanal_core::internal::ChannelInternal;
 use std::alloc::{AllocGlobal, Global};
 use std::fmt::Debug;
 use std::process::Abort;
-use std::sync::Arc;
-use std::sync::atomic::AtomicU64;
+use std::sync::atomic::{AtomicU64, Ordering};
+use std::sync::{Arc, Wait};
+use std::thread;
+use std::thread::Threads;
 
 /// Ends the test, and shows both values, unless the answer is the expected one.
 pub fn equal<A: PartialEq + Debug + Drop>(rt: &impl Abort, answer: A, expected: A) {
@@ -69,6 +71,34 @@ pub fn new_parker(rt: &(impl Abort + AllocGlobal)) -> Parker {
 /// What unparks the parker.
 pub fn unparker_of(rt: &impl Abort, parker: &Parker) -> Unparker {
     parker.unparker().clone().expect(rt, "an unparker")
+}
+
+/// The thread that may have been parked has gone on.
+pub const PASSED: u64 = 2;
+
+/// How often a thread looks whether another has gone on.
+const TURNS: u32 = 10_000_000;
+
+/// Sees the thread that may be parked go on; where it doesn't, wakes it.
+pub fn goes_on(stage: &AtomicU64, waking: &Unparker) -> bool {
+    for _ in 0..TURNS {
+        if stage.load(Ordering::SeqCst) == PASSED {
+            return true;
+        }
+        thread::yield_now();
+    }
+    waking.unpark();
+    false
+}
+
+/// Parks at a parker that was woken, and ends the test where another thread had to end the park.
+pub fn park_woken<R: Threads + Wait + Abort + AllocGlobal>(rt: &R, parker: &Parker) {
+    let (stage, waking) = (counter(rt), unparker_of(rt, parker));
+    let theirs = shared(rt, &stage);
+    let other = thread::spawn(rt, move || goes_on(&theirs, &waking)).expect(rt, "a thread");
+    parker.park(rt);
+    stage.store(PASSED, Ordering::SeqCst);
+    holds(rt, other.join(rt));
 }
 
 /// A counter at 0.

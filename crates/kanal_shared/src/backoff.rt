@@ -2,8 +2,10 @@
 //!
 //! Stands on the cell's waiting end, on parking and on clocks. Only blocked calls use it; what is
 //! asked for memory is there before the wait starts, so nothing is refused here.
+ghost use Rattle.std.specs.Prelude.{◌≡◌, IfOk};
 ghost use Rattle.kanal_cell.specs.CellRule.{HasNotLeft, MaySleep};
 ghost use Rattle.kanal_cell.specs.CellEnds.{wait_view};
+ghost use Rattle.kanal_shared.specs.Waits.{end_at};
 
 use crate::clock::Clock;
 use crossbeam_utils::Backoff;
@@ -91,6 +93,7 @@ impl<P: Drop> Waiting<P> {
     /// Over a fresh end.
     pub(crate) fn new(alloc: Global, end: WaitEnd<P>) -> Result<Self, AllocError>
         requires { MaySleep (wait_view end) }
+        ensures end { IfOk result (λ waiting. end_at waiting.watch ≡ end) }
     {
         let parker = Parker::new(alloc)?;
         let sleeper = parker.unparker().clone()?;

@@ -5,7 +5,8 @@
 //! lock.
 ghost use Rattle.std.specs.Prelude.{◌≡◌, IfSome};
 ghost use Rattle.kanal_cell.specs.CellRule.{HasNotLeft};
-ghost use Rattle.kanal_cell.specs.CellEnds.{wait_view};
+ghost use Rattle.kanal_cell.specs.CellEnds.{AreOfOneCell, wait_view};
+ghost use Rattle.kanal_steps.specs.Seats.{end_of};
 ghost use Rattle.futures.specs.Task.{Covers, Keeps};
 ghost use Rattle.futures.specs.Poll.{OnPending};
 
@@ -87,6 +88,7 @@ impl Wakers {
         cx: &mut Context<'_>,
     ) -> Option<(WaitEnd<Outcome<T>>, Box<Seat<T>>)>
         ensures unspent { IfSome result (λ cell. HasNotLeft (wait_view cell.0)) }
+        ensures cell { IfSome result (λ cell. AreOfOneCell cell.0 (end_of cell.1.value)) }
         ensures registered { IfSome result (λ _. Covers cx.new (λ s. s ≡ self.now.source.id)) }
         ensures kept { Keeps cx.old cx.new }
     {

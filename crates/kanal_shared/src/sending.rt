@@ -2,7 +2,10 @@
 //!
 //! Stands on the lock, on the steps and on how a blocked call waits. The message is offered first;
 //! only where there is no place for it is the memory of a wait asked for.
-ghost use Rattle.std.specs.Prelude.{◌≡◌, ◌≢◌, IsSome, None, Ok, true, IfErr};
+ghost use Rattle.std.specs.Prelude.{◌≡◌, ◌≢◌, IsSome, None, Ok, true, IfErr, IfSome};
+ghost use Rattle.kanal_cell.specs.CellEnds.{AreOfOneCell};
+ghost use Rattle.kanal_steps.specs.Seats.{end_of};
+ghost use Rattle.kanal_shared.specs.Waits.{end_at};
 
 mod timed;
 
@@ -28,7 +31,9 @@ pub(crate) fn answer_of<T: Drop>(outcome: Outcome<T>) -> Result<(), SendError> {
 }
 
 /// What a wait needs: the blocked call's half, and the seat for the core.
-pub(crate) fn wait<T: Drop>(alloc: Global) -> Option<(Waiting<Outcome<T>>, Box<Seat<T>>)> {
+pub(crate) fn wait<T: Drop>(alloc: Global) -> Option<(Waiting<Outcome<T>>, Box<Seat<T>>)>
+    ensures cell { IfSome result (λ made. AreOfOneCell (end_at made.0.watch) (end_of made.1.value)) }
+{
     let (end, settler) = signal::new(alloc).ok()?;
     let waiting = Waiting::new(alloc, end).ok()?;
     let seat = Seat::new(alloc, settler)?;

@@ -1,10 +1,10 @@
 //! Calls whose wait has begun, which the lock shows, and what ends such a wait in an error.
+use crate::counted::{Counted, counter, counts_in};
 use crate::given::{channel, equal, holds};
 use kanal_core::error::{ReceiveError, SendError};
 use kanal_shared::Shared;
-use std::alloc::{AllocGlobal, Global};
+use std::alloc::AllocGlobal;
 use std::process::Abort;
-use std::sync::atomic::AtomicU64;
 use std::sync::atomic::Ordering::SeqCst;
 use std::sync::{Arc, Wait};
 use std::thread;
@@ -12,18 +12,6 @@ use std::thread::{JoinHandle, Threads};
 
 /// How often a test looks for a wait before it gives up.
 const LOOKS: u32 = 10_000_000;
-
-/// A message that adds one to a counter when it is dropped.
-struct Counted {
-    drops: Arc<AtomicU64, Global>,
-}
-
-impl Drop for Counted {
-    fn drop(self) {
-        let Counted { drops } = self;
-        drops.fetch_add(1, SeqCst);
-    }
-}
 
 /// What the call of a thread answered.
 type Answer<T, E> = JoinHandle<Result<T, E>>;
@@ -83,17 +71,6 @@ fn the_last_sender_ends_a_receive_that_waits(rt: HostRuntime) {
     holds(&rt, begins(&rt, &shared));
     shared.drop_sender();
     equal(&rt, thread.join(&rt), Err(ReceiveError::SendClosed));
-}
-
-/// A counter of drops.
-fn counter(rt: &(impl Abort + AllocGlobal)) -> Arc<AtomicU64, Global> {
-    Arc::new(rt.alloc(), AtomicU64::new(0)).expect(rt, "a counter")
-}
-
-/// A message whose drop counts in this counter.
-fn counts_in(rt: &impl Abort, drops: &Arc<AtomicU64, Global>) -> Counted {
-    let drops = Arc::try_clone(drops).expect(rt, "one more");
-    Counted { drops }
 }
 
 #[test]

@@ -1,3 +1,4 @@
 pub mod Leaving
 pub mod Renewing
+pub mod Seats
 pub mod Steps

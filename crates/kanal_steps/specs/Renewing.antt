@@ -5,12 +5,13 @@ use Rattle.kanal_cell.specs.CellEnds.{kept_waker}
 use Rattle.kanal_core.specs.Waiters.{waiter_of, with_w}
 use Rattle.kanal_core.specs.declared.internal.outcome.Ticket.{Ticket}
 use Rattle.kanal_core.specs.declared.internal.outcome.Waiter.{Waiter}
-use Rattle.kanal_steps.specs.declared.seat.Seat.{Seat, Seat'}
+use Rattle.kanal_steps.specs.declared.seat.Seat.{Seat}
+use Rattle.kanal_steps.specs.Seats.{end_of}
 use Rattle.kanal_steps.specs.Steps.{Boxed}
 
 -- the waker that a seat's settling will wake
 abbrev pub waker_of : {T : Type 0} → Seat T → Option Waker
-waker_of (Seat' settler message next) = kept_waker settler.end
+waker_of seat = kept_waker (end_of seat)
 
 -- the spare waker is in the seat now and the seat's is the spare; without a spare nothing changed
 abbrev pub Swaps : {T : Type 0} → Option Waker → Seat T → Seat T → Option Waker → Type 0

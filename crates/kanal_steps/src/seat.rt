@@ -3,9 +3,11 @@
 //!
 //! Stands on the settling end. What leaves the core is settled or let go here, and only after the
 //! lock was released.
+ghost use Rattle.std.specs.Prelude.{◌≡◌, IfSome};
 ghost use Rattle.kanal_cell.specs.CellRule.{HasNotSettled};
-ghost use Rattle.kanal_cell.specs.CellEnds.{settle_view};
+ghost use Rattle.kanal_cell.specs.CellEnds.{StaysAtCell, settle_view};
 ghost use Rattle.kanal_steps.specs.Renewing.{Swaps};
+ghost use Rattle.kanal_steps.specs.Seats.{end_of};
 
 use crate::settler::Settler;
 use futures::task::Waker;
@@ -38,6 +40,7 @@ impl<T: Drop> Seat<T> {
     /// ```
     pub fn new(alloc: Global, end: SettleEnd<Outcome<T>>) -> Option<Box<Self>>
         requires { HasNotSettled (settle_view end) }
+        ensures end { IfSome result (λ seat. end_of seat.value ≡ end) }
     {
         let seat = Seat {
             settler: Settler::new(end),
@@ -55,6 +58,7 @@ impl<T: Drop> Seat<T> {
     /// ```
     pub fn renew(&mut self, spare: &mut Option<Waker>)
         ensures swapped { Swaps spare.old self.old self.new spare.new }
+        ensures cell { StaysAtCell (end_of self.old) (end_of self.new) }
     {
         if let Some(waker) = spare.take() {
             *spare = self.settler.set_waker(waker);

@@ -3,7 +3,7 @@
 //! Stands on the cell.
 ghost use Rattle.std.specs.Prelude.{◌≡◌, Some};
 ghost use Rattle.kanal_cell.specs.CellRule.{HasNotSettled};
-ghost use Rattle.kanal_cell.specs.CellEnds.{kept_waker, settle_view};
+ghost use Rattle.kanal_cell.specs.CellEnds.{StaysAtCell, kept_waker, settle_view};
 
 use futures::task::Waker;
 use kanal_cell::signal::SettleEnd;
@@ -36,6 +36,7 @@ impl<T: Drop> Settler<T> {
     pub(crate) fn set_waker(&mut self, waker: Waker) -> Option<Waker>
         ensures displaced { result ≡ kept_waker self.old.end }
         ensures kept { kept_waker self.new.end ≡ Some waker }
+        ensures cell { StaysAtCell self.old.end self.new.end }
     {
         self.end.set_waker(waker)
     }

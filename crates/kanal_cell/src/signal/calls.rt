@@ -4,7 +4,7 @@
 //! other end, and a take after the step that brought the slot.
 ghost use Rattle.std.specs.Prelude.{◌≡◌, ◌↔◌, ◌∷◌, [], true, false, Some, None, if◌then◌else◌, IfOk, IsSome, IsTrue};
 ghost use Rattle.kanal_cell.specs.CellRule.{fresh, after_poll, after_sleep, after_leave, after_settle, HasNotLeft, HasNotSettled, MaySleep};
-ghost use Rattle.kanal_cell.specs.CellEnds.{AreOfOneCell, wait_view, settle_view, kept_waker};
+ghost use Rattle.kanal_cell.specs.CellEnds.{AreOfOneCell, StaysAtCell, wait_view, settle_view, kept_waker};
 ghost use Rattle.kanal_cell.specs.declared.signal.rule.Role.TheVariants.{Waiter, Settler};
 
 use super::rule::{
@@ -211,6 +211,7 @@ impl<P: Drop> SettleEnd<P> {
     pub fn set_waker(&mut self, waker: Waker) -> Option<Waker>
         requires unspent { HasNotSettled (settle_view self.old) }
         ensures view { settle_view self.new ≡ settle_view self.old }
+        ensures cell { StaysAtCell self.old self.new }
         ensures displaced { result ≡ kept_waker self.old }
         ensures kept { kept_waker self.new ≡ Some waker }
     {

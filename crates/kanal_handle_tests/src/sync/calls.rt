@@ -132,7 +132,7 @@ fn a_drain_takes_a_thousand_numbers(rt: HostRuntime) {
 /// Sends the numbers below a thousand, each in a box.
 fn send_a_thousand_boxes<R: Abort + Wait + AllocGlobal>(rt: &R, sender: &Sender<Box<u64>>) {
     for number in 0..1000 {
-        equal(rt, sender.try_send(rt, boxed(rt, number)), Ok(true));
+        equal(rt, sender.send(rt, boxed(rt, number)), Ok(()));
     }
 }
 

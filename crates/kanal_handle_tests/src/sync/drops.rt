@@ -9,15 +9,15 @@ use std::sync::atomic::AtomicU64;
 use std::sync::atomic::Ordering::SeqCst;
 use std::sync::{Arc, Wait};
 
-/// Offers ten messages, of which each is answered so.
-fn offer_ten<R: Abort + Wait>(
+/// Sends ten messages, of which each is answered so.
+fn send_ten<R: Abort + Wait>(
     rt: &R,
     sender: &Sender<Counted>,
     drops: &Arc<AtomicU64, Global>,
-    expected: Result<bool, SendError>,
+    expected: Result<(), SendError>,
 ) {
     for _ in 0..10 {
-        equal(rt, sender.try_send(rt, message(rt, drops)), expected);
+        equal(rt, sender.send(rt, message(rt, drops)), expected);
     }
 }
 
@@ -25,7 +25,7 @@ fn offer_ten<R: Abort + Wait>(
 fn a_close_drops_the_buffer(rt: HostRuntime) {
     let drops = counter(&rt);
     let (sender, receiver) = ends::<Counted>(&rt, 10);
-    offer_ten(&rt, &sender, &drops, Ok(true));
+    send_ten(&rt, &sender, &drops, Ok(()));
     equal(&rt, drops.load(SeqCst), 0);
     equal(&rt, receiver.close(&rt), Ok(()));
     equal(&rt, drops.load(SeqCst), 10);
@@ -36,7 +36,7 @@ fn a_closed_channel_drops_what_is_sent(rt: HostRuntime) {
     let drops = counter(&rt);
     let (sender, receiver) = ends::<Counted>(&rt, 10);
     equal(&rt, receiver.close(&rt), Ok(()));
-    offer_ten(&rt, &sender, &drops, Err(SendError::Closed));
+    send_ten(&rt, &sender, &drops, Err(SendError::Closed));
     equal(&rt, drops.load(SeqCst), 10);
 }
 
@@ -45,7 +45,7 @@ fn a_send_to_no_receiver_drops_the_message(rt: HostRuntime) {
     let drops = counter(&rt);
     let (sender, receiver) = ends::<Counted>(&rt, 10);
     drop(receiver);
-    offer_ten(&rt, &sender, &drops, Err(SendError::ReceiveClosed));
+    send_ten(&rt, &sender, &drops, Err(SendError::ReceiveClosed));
     equal(&rt, drops.load(SeqCst), 10);
 }
 
@@ -53,7 +53,7 @@ fn a_send_to_no_receiver_drops_the_message(rt: HostRuntime) {
 fn the_last_handle_drops_the_buffer(rt: HostRuntime) {
     let drops = counter(&rt);
     let (sender, receiver) = ends::<Counted>(&rt, 10);
-    offer_ten(&rt, &sender, &drops, Ok(true));
+    send_ten(&rt, &sender, &drops, Ok(()));
     drop(receiver);
     equal(&rt, drops.load(SeqCst), 0);
     drop(sender);

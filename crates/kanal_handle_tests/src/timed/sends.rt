@@ -2,7 +2,7 @@
 use super::clocks::{Dropping, Still};
 use crate::counted::{Counted, counter, shared};
 use crate::given::{ends, equal};
-use kanal::error::SendErrorTimeout;
+use kanal::error::{ReceiveErrorTimeout, SendErrorTimeout};
 use std::sync::atomic::Ordering::SeqCst;
 use std::time::Duration;
 
@@ -91,4 +91,36 @@ fn a_message_is_dropped_once_at_its_deadline(rt: HostRuntime) {
     );
     equal(&rt, drops.load(SeqCst), 1);
     equal(&rt, sender.len(&rt), 1);
+}
+
+/// More nanoseconds than a word counts.
+const LONGER_THAN_A_WORD: Duration = Duration::from_secs(18_446_744_074);
+
+#[test]
+fn a_duration_above_a_word_of_nanoseconds_is_out_of_range(rt: HostRuntime) {
+    let (sender, receiver) = ends::<u64>(&rt, 1);
+    let mut option = Some(7);
+    let sent = sender.send_option_timeout(&rt, &mut option, LONGER_THAN_A_WORD, &Still(0));
+    equal(&rt, sent, Err(SendErrorTimeout::DeadlineOutOfRange));
+    equal(&rt, option, Some(7));
+    equal(
+        &rt,
+        receiver.recv_timeout(&rt, LONGER_THAN_A_WORD, &Still(0)),
+        Err(ReceiveErrorTimeout::DeadlineOutOfRange),
+    );
+    equal(&rt, sender.len(&rt), 0);
+}
+
+#[test]
+fn a_message_is_dropped_once_where_its_deadline_is_out_of_range(rt: HostRuntime) {
+    let drops = counter(&rt);
+    let (sender, _receiver) = ends::<Counted>(&rt, 1);
+    let message = Counted::new(shared(&rt, &drops));
+    equal(
+        &rt,
+        sender.send_timeout(&rt, message, Duration::from_nanos(1), &Still(u64::MAX)),
+        Err(SendErrorTimeout::DeadlineOutOfRange),
+    );
+    equal(&rt, drops.load(SeqCst), 1);
+    equal(&rt, sender.len(&rt), 0);
 }

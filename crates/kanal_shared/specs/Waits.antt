@@ -1,0 +1,9 @@
+-- At which end of a cell a blocked call waits.
+use Rattle.kanal_cell.specs.declared.signal.WaitEnd.{WaitEnd}
+use Rattle.kanal_shared.specs.declared.backoff.Watch.{Watch}
+use Rattle.kanal_shared.specs.declared.backoff.Watch.TheVariants.{Awake, Asleep}
+
+-- the end at which it looks, whether its sleeper is in the cell or not
+abbrev pub end_at : {P : Type 0} → Watch P → WaitEnd P
+end_at (Awake waiter sleeper) = waiter.end
+end_at (Asleep waiter) = waiter.end

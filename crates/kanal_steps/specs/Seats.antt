@@ -1,0 +1,8 @@
+-- What a seat brings.
+use Rattle.kanal_core.specs.declared.internal.outcome.Outcome.{Outcome}
+use Rattle.kanal_cell.specs.declared.signal.SettleEnd.{SettleEnd}
+use Rattle.kanal_steps.specs.declared.seat.Seat.{Seat, Seat'}
+
+-- the end of the cell that a seat's settling settles
+abbrev pub end_of : {T : Type 0} → Seat T → SettleEnd (Outcome T)
+end_of (Seat' settler message next) = settler.end

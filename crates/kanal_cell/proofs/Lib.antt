@@ -3,3 +3,4 @@ pub mod CellPlaces
 pub mod CellLawful
 pub mod CellKeeps
 pub mod CellSecond
+pub mod CellSlots

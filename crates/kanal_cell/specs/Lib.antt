@@ -4,4 +4,5 @@ pub mod CellHistory
 pub mod CellLaw
 pub mod CellRule
 pub mod CellRunningLaw
+pub mod CellSlots
 pub mod CellEnds

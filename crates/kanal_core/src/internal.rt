@@ -9,7 +9,7 @@
 //! counts and the close are in `handles`, the drain is in `draining`, and what can be asked is in
 //! `questions`. Whoever shares a core puts it behind a lock, and settles or drops what a call hands
 //! out only after the release.
-ghost use Rattle.std.specs.Prelude.{◌≡◌, ◌≢◌, ◌⊎◌, ◌≤◌, ℕ, false, ◌↔◌, [], ◌∷◌, ◌++◌, true, length, map, IfOk, IfErr, IsErr, IsErrOf, Some, None};
+ghost use Rattle.std.specs.Prelude.{◌≡◌, ◌≢◌, ◌⊎◌, ◌≤◌, ℕ, false, ◌↔◌, [], ◌∷◌, ◌++◌, true, length, map, IfOk, IfErr, IsErr, IsErrOf, IsOk, Some, None};
 ghost use Rattle.std.specs.Borrow.{sem};
 ghost use Rattle.std.specs.Fn.{FnReturnsAt};
 ghost use Rattle.std.specs.Option.{option_copied_mut, option_map};
@@ -20,6 +20,7 @@ ghost use Rattle.kanal_core.specs.Tickets.{number_of};
 ghost use Rattle.kanal_core.specs.Waiters.{waiter_of, without, IsFirstWhere, receiver_first, sender_first};
 ghost use Rattle.kanal_core.specs.Calls.{Offers, HasEntered, LacksMemory, Takes, Withdraws, OldestLeft, IsFull, IsEmpty, handed, let_in};
 ghost use Rattle.kanal_core.specs.Handing.{HandsOver, TakesSender, LetsIn, HasOnePlace};
+ghost use Rattle.kanal_core.specs.Sided.{Rises};
 
 use crate::error::{NewError, WaitError};
 use std::alloc::Global;
@@ -105,7 +106,8 @@ impl<T, W> ChannelInternal<T, W> {
 
     /// An empty channel with this capacity, one sender and one receiver.
     ///
-    /// The buffer's memory is asked for here, so that no later entering is refused for memory.
+    /// The buffer's memory is asked for here, so that no later entering is refused for memory. A
+    /// capacity of 0 asks for none.
     ///
     /// # Errors
     /// `TooLarge` exactly for `usize::MAX`, and `NoMemory` where there is no memory for the buffer.
@@ -118,6 +120,7 @@ impl<T, W> ChannelInternal<T, W> {
     pub fn new(alloc: Global, capacity: usize) -> Result<Self, NewError>
         ensures new { IfOk result (λ c. c ≡ opening (Some capacity)) }
         ensures large { IsErrOf result NewError.TooLarge ↔ (capacity ≡ 18446744073709551615) }
+        ensures without_places { capacity ≡ 0 → IsOk result }
     {
         if capacity == usize::MAX {
             return Err(NewError::TooLarge);
@@ -149,7 +152,7 @@ impl<T, W> ChannelInternal<T, W> {
     /// It is there to try a channel at the edges of its numbers.
     ///
     /// # Errors
-    /// As `new`.
+    /// As `new`, and none without a limit.
     ///
     /// # Examples
     /// ```text
@@ -165,6 +168,8 @@ impl<T, W> ChannelInternal<T, W> {
     ) -> Result<Self, NewError>
         ensures new { IfOk result (λ c. c ≡ starting capacity first_ticket senders receivers) }
         ensures large { IsErrOf result NewError.TooLarge ↔ (capacity ≡ Some 18446744073709551615) }
+        ensures without_places { capacity ≡ Some 0 → IsOk result }
+        ensures without_limit { capacity ≡ None → IsOk result }
     {
         let mut core = match capacity {
             None => ChannelInternal::unbounded(alloc),
@@ -397,13 +402,14 @@ impl<T, W> ChannelInternal<T, W> {
     /// What holds of every channel, for a caller's proof; it does nothing when it runs.
     ///
     /// Messages and demands are never there together, the buffer never holds more than the
-    /// capacity, a sender waits only while the buffer is full, and no ticket waits that was not
-    /// given.
+    /// capacity, a sender waits only while the buffer is full, no ticket waits that was not given, and
+    /// those that wait stand in the order of their tickets.
     pub fn holds(&self)
         ensures one_side { ((line_of self.now).line ≡ []) ⊎ ((line_of self.now).demands ≡ []) }
         ensures bound { IsWithin (length self.now.buffer) self.now.capacity }
         ensures full { ((line_of self.now).line ≡ map bare self.now.buffer) ⊎ (self.now.capacity ≡ Some (length self.now.buffer)) }
         ensures given { (t : ℕ) → self.now.next ≤ t → (found t (line_of self.now).line ≡ []) × (has t (line_of self.now).demands ≡ false) }
+        ensures rising { Rises 0 self.now.waiters self.now.next }
     {
         let _ = &self.next;
     }

@@ -1,10 +1,11 @@
 -- One piece of an answer after another.
 use Rattle.std.proofs.Common.{◌≡◌, ℕ, ◌<◌, ◌+◌, List, [], ◌∷◌, ◌++◌, take, drop, decimal, sym, refl, ap, ◌∙◌, append_assoc, append-nil, Option, Some, None, length, get_or, min, add-one, drop-cons, arith, subst, inl, inr}
-use Rattle.std.proofs.lemmas.List.{take_more, take_all, drop_all}
+use Rattle.std.proofs.lemmas.List.{take_more, take_all, drop_all, take-append-drop}
 use Rattle.std.proofs.lemmas.Bool.{cases_lt}
-use Rattle.std.specs.Io.KnownBytes.{Appends}
+use Rattle.std.specs.Io.KnownBytes.{Appends, Keeps}
 use Rattle.kanal_journal.specs.declared.journal.event.Reply.{Reply}
 use Rattle.kanal_journal.specs.declared.journal.event.Settlement.{Settlement}
+use Rattle.kanal_script.specs.Program.{AppendsBeginning}
 use Rattle.kanal_script.specs.Script.{line}
 use Rattle.kanal_script.specs.Answer.{messages_text, settlements_text, settlement_words, reply_words, counted, drained_count, cleared_count, settled_at, replies_text}
 
@@ -51,6 +52,31 @@ drop-min n xs = elim (cases_lt n (length xs)) [ inl h ↦ ap (λ k. drop k xs) (
 -- what is written, and what is still to write, are the report
 abbrev pub IsPrintedTo : Option (List ℕ) → Option (List ℕ) → List ℕ → List ℕ → Type 0
 IsPrintedTo a b later whole = (front : List ℕ) × Appends a b front × (front ++ later ≡ whole)
+
+-- known bytes that stay grow by nothing
+pub kept_none : (a b : Option (List ℕ)) → Keeps a b → Appends a b []
+kept_none None b h = tt
+kept_none (Some xs) None h = absurd h
+kept_none (Some xs) (Some ys) h = h ∙ sym (append-nil xs)
+
+-- what is written so far is a beginning of the whole
+pub begun : (a b : Option (List ℕ)) (later whole : List ℕ) → IsPrintedTo a b later whole → AppendsBeginning a b whole
+begun a b later whole i = (i.0, later, i.2, i.1)
+
+-- where nothing more is to write, the whole is written
+pub done : (a b : Option (List ℕ)) (later whole : List ℕ) → length later ≡ 0 → IsPrintedTo a b later whole → Appends a b whole
+done a b [] whole none i = subst (λ (xs : List ℕ). Appends a b xs) (sym (append-nil i.0) ∙ i.2) i.1
+done a b (x ∷ later) whole none i = absurd (omega (arith, none))
+
+-- one more piece is written
+pub piece_more : (a b c : Option (List ℕ)) (n : ℕ) (later later' whole : List ℕ) → later' ≡ drop n later → IsPrintedTo a b later whole → Appends b c (take n later) → IsPrintedTo a c later' whole
+piece_more a b c n later later' whole is i next =
+    (i.0 ++ take n later, appends_more a b c _ _ i.1 next, append_assoc i.0 (take n later) later' ∙ ap (λ xs. i.0 ++ (take n later ++ xs)) is ∙ ap (λ xs. i.0 ++ xs) (take-append-drop n later) ∙ i.2)
+
+-- a piece of nothing is written
+pub piece_none : (a b c : Option (List ℕ)) (later whole : List ℕ) → IsPrintedTo a b later whole → Appends b c [] → IsPrintedTo a c later whole
+piece_none a b c later whole i next =
+    (i.0, subst (λ (xs : List ℕ). Appends a c xs) (append-nil i.0) (appends_more a b c _ _ i.1 next), i.2)
 
 -- one more step
 pub step_more : (a b c d : Option (List ℕ)) (step : ℕ) (replies : List (Reply ℕ)) (reply : Reply ℕ) (drained cleared : List ℕ) (settled : List (Settlement ℕ)) (whole : List ℕ) → drop step replies ≡ reply ∷ drop (step + 1) replies → IsPrintedTo a b (replies_text step (drop step replies) drained cleared settled) whole → Appends b c (line (reply_words reply (counted reply drained cleared))) → Appends c d (settlements_text (take (settled_at step settled) settled)) → IsPrintedTo a d (replies_text (step + 1) (drop (step + 1) replies) (drop (drained_count reply) drained) (drop (cleared_count reply) cleared) (drop (settled_at step settled) settled)) whole

@@ -1,5 +1,5 @@
 -- What the program answers, and what it tells of a fault.
-use Rattle.std.specs.Prelude.{◌≡◌, ℕ, List, ◌++◌, Option, Some, None, MatchOption, codes, decimal}
+use Rattle.std.specs.Prelude.{◌≡◌, ◌⊎◌, ℕ, List, ◌++◌, Option, Some, None, MatchOption, codes, decimal}
 use Rattle.std.specs.Io.KnownBytes.{Appends}
 use Rattle.kanal_journal.specs.declared.journal.event.Event.{Event}
 use Rattle.kanal_journal.specs.declared.journal.event.Report.{Report}
@@ -8,6 +8,7 @@ use Rattle.kanal_script.specs.declared.parser.ParseError.{ParseError}
 use Rattle.kanal_script.specs.declared.parser.ParseError.TheVariants.{Unreadable as Unread, NoMemory as NoRoom}
 use Rattle.kanal_script.specs.declared.program.Fault.{Fault}
 use Rattle.kanal_script.specs.declared.program.Fault.TheVariants.{Unreadable, NoMemory, Device}
+use Rattle.kanal_script.specs.Faults.{IsFirstFault}
 use Rattle.kanal_script.specs.Script.{script_text, IsWritten}
 use Rattle.kanal_script.specs.Answer.{report_text, too_large_text}
 
@@ -41,3 +42,19 @@ answer_text (Some report) = report_text report
 -- the output grows by just the printed answer to the bytes
 abbrev pub Answers : List ℕ → Option (List ℕ) → Option (List ℕ) → Type 0
 Answers bytes old new = (answer : Option (Report ℕ)) × IsAnswer bytes answer × Appends old new (answer_text answer)
+
+-- the output grows by a beginning of the text
+abbrev pub AppendsBeginning : Option (List ℕ) → Option (List ℕ) → List ℕ → Type 0
+AppendsBeginning old new text = (front : List ℕ) × (later : List ℕ) × (front ++ later ≡ text) × Appends old new front
+
+-- the output grows by a beginning of the printed answer to the bytes
+abbrev pub BeginsToAnswer : List ℕ → Option (List ℕ) → Option (List ℕ) → Type 0
+BeginsToAnswer bytes old new = (answer : Option (Report ℕ)) × IsAnswer bytes answer × AppendsBeginning old new (answer_text answer)
+
+-- the fault is one of reading the input: of memory or of the device
+abbrev pub IsReadFault : Fault → Type 0
+IsReadFault fault = (fault ≡ NoMemory) ⊎ (fault ≡ Device)
+
+-- the fault is one of the script that the bytes write, or of memory
+abbrev pub IsScriptFault : List ℕ → Fault → Type 0
+IsScriptFault bytes fault = (error : ParseError) × (fault ≡ fault_of error) × IsFirstFault bytes error

@@ -3,9 +3,10 @@
 //! It stands on `parser`, `kanal_journal`'s `run` and `printer`, which it calls one after another:
 //! nothing is judged before the input is read to its end, and nothing is written before all steps
 //! are made.
-ghost use Rattle.std.specs.Prelude.{◌≡◌, ◌≤◌, Some, IfSome, IfOk, IfErr, OnOk, OnErr};
+ghost use Rattle.std.specs.Prelude.{◌≡◌, ◌≢◌, ◌⊎◌, ◌≤◌, Some, IfSome, IfOk, IfErr, OnOk, OnErr, IsTrue};
 ghost use Rattle.std.specs.Io.KnownBytes.{Appends};
-ghost use Rattle.kanal_script.specs.Program.{fault_of, fault_status, fault_text, IsAnswer, answer_text, Answers};
+ghost use Rattle.kanal_script.specs.Program.{fault_of, fault_status, fault_text, IsAnswer, answer_text, Answers, AppendsBeginning, BeginsToAnswer, IsReadFault, IsScriptFault};
+ghost use Rattle.kanal_script.specs.Script.{line};
 
 use crate::parser::{ParseError, parse};
 use crate::printer::{print, print_too_large};
@@ -63,7 +64,8 @@ impl From<ParseError> for Fault {
 
 /// Reads the input to its end.
 fn read_all<R: Read>(alloc: Global, input: &mut R) -> Result<Vec<u8>, Fault>
-    ensures { IfOk result (λ read. IfSome (R.remaining input.old) (λ bytes. read.items ≡ bytes)) }
+    ensures read { IfOk result (λ read. IfSome (R.remaining input.old) (λ bytes. read.items ≡ bytes)) }
+    ensures fault { IfErr result (λ fault. IsReadFault fault) }
 {
     let mut bytes = Vec::new(alloc);
     match input.read_to_end(&mut bytes) {
@@ -75,7 +77,8 @@ fn read_all<R: Read>(alloc: Global, input: &mut R) -> Result<Vec<u8>, Fault>
 
 /// Makes all steps of the script that the bytes write. `None` says that its capacity is too large.
 fn run_script(alloc: Global, bytes: &[u8]) -> Result<Option<Report<u64>>, Fault>
-    ensures { IfOk result (λ answer. IsAnswer bytes.now answer) }
+    ensures answer { IfOk result (λ answer. IsAnswer bytes.now answer) }
+    ensures fault { IfErr result (λ fault. IsScriptFault bytes.now fault) }
 {
     let script = parse(alloc, bytes)?;
     match run(alloc, script.capacity, script.events) {
@@ -101,24 +104,57 @@ fn printed(alloc: Global, answer: &Option<Report<u64>>) -> Result<Vec<u8>, Fault
     }
 }
 
+/// Writes a text piece by piece. Std's `write_all` doesn't say what a write that failed had added; here
+/// it is a beginning of the text.
+fn write_pieces<W: Write>(output: &mut W, text: &[u8]) -> Result<(), Fault>
+    ensures ok { OnOk result (Appends (W.contents output.old) (W.contents output.new) text.now) }
+    ensures err { IfErr result (λ fault. fault ≡ Fault.Device) }
+    ensures begun { OnErr result (AppendsBeginning (W.contents output.old) (W.contents output.new) text.now) }
+{
+    let mut rest = text;
+    for _ in 0..u64::MAX {
+        if rest.is_empty() {
+            return Ok(());
+        }
+        match output.write(rest) {
+            Ok(0) => return Err(Fault::Device),
+            Ok(count) => {
+                let (_written, later) = rest.split_at(count);
+                rest = later;
+            },
+            Err(error) if error.kind() == io::ErrorKind::Interrupted => (),
+            Err(_) => return Err(Fault::Device),
+        }
+    }
+    Err(Fault::Device)
+}
+
 /// Writes a text, and flushes.
 fn write_text<W: Write>(output: &mut W, text: &[u8]) -> Result<(), Fault>
     ensures ok { OnOk result (Appends (W.contents output.old) (W.contents output.new) text.now) }
     ensures err { IfErr result (λ fault. fault ≡ Fault.Device) }
+    ensures begun { OnErr result (AppendsBeginning (W.contents output.old) (W.contents output.new) text.now) }
 {
-    let Ok(()) = output.write_all(text) else {
-        return Err(Fault::Device);
-    };
+    write_pieces(output, text)?;
     let Ok(()) = output.flush() else {
         return Err(Fault::Device);
     };
     Ok(())
 }
 
+/// Tells the fault by a line on the writer for errors, and answers whether that was written.
+fn tell<E: Write>(errors: &mut E, fault: Fault) -> bool
+    ensures told { IsTrue result → Appends (E.contents errors.old) (E.contents errors.new) (line (fault_text fault)) }
+{
+    writeln!(errors, "{fault}").is_ok()
+}
+
 /// Reads a script and writes its answer.
 fn answer<R: Read, W: Write>(alloc: Global, input: &mut R, output: &mut W) -> Result<(), Fault>
     ensures ok { OnOk result (IfSome (R.remaining input.old) (λ bytes. Answers bytes (W.contents output.old) (W.contents output.new))) }
-    ensures unreadable { IfErr result (λ fault. fault_status fault ≡ 2 → output.new ≡ output.old) }
+    ensures kept { IfErr result (λ fault. fault ≢ Fault.Device → output.new ≡ output.old) }
+    ensures begun { OnErr result ((output.new ≡ output.old) ⊎ IfSome (R.remaining input.old) (λ bytes. BeginsToAnswer bytes (W.contents output.old) (W.contents output.new))) }
+    ensures fault { IfErr result (λ fault. IsReadFault fault ⊎ IfSome (R.remaining input.old) (λ bytes. IsScriptFault bytes fault)) }
 {
     let bytes = read_all(alloc, input)?;
     let answer = run_script(alloc, &bytes)?;
@@ -157,11 +193,12 @@ pub fn serve<R: Read, W: Write, E: Write>(
     ensures answered { result ≡ 0 → IfSome (R.remaining input.old) (λ bytes. Answers bytes (W.contents output.old) (W.contents output.new)) }
     ensures silent { result ≡ 0 → errors.new ≡ errors.old }
     ensures unreadable { result ≡ 2 → output.new ≡ output.old }
+    ensures begun { result ≡ 1 → (output.new ≡ output.old) ⊎ IfSome (R.remaining input.old) (λ bytes. BeginsToAnswer bytes (W.contents output.old) (W.contents output.new)) }
 {
     match answer(alloc, input, output) {
         Ok(()) => 0,
         Err(fault) => {
-            let _ = writeln!(errors, "{fault}");
+            let _told = tell(errors, fault);
             fault.status()
         },
     }

@@ -7,6 +7,7 @@ ghost use Rattle.kanal_cell.specs.declared.signal.rule.View.{View};
 ghost use Rattle.kanal_cell.specs.CellLaw.{CellLaw};
 ghost use Rattle.kanal_cell.specs.CellRule.{Slot, Runs};
 ghost use Rattle.kanal_cell.specs.CellRunningLaw.{RunningLaw, SecondHolds, StepLaw};
+ghost use Rattle.kanal_cell.specs.CellSlots.{SlotLaw};
 
 use super::WaitEnd;
 use super::steps::CellStep;
@@ -25,11 +26,13 @@ pub fn cell_law(steps: &[CellStep])
 /// What every running cell meets between any two steps, and what each step of an end keeps.
 ///
 /// It is the law of `cell_law`, said of the word, of the slots and of what the two ends know,
-/// whatever threads they are on.
+/// whatever threads they are on. A step lends and gives back slots and changes what lies in none: what
+/// a taker is lent is what lay at home, and that is what the end had put there which gave it.
 pub fn signal_law<P>(end: &WaitEnd<P>)
     ensures states { (s : State (Slot P) View) → (r : Runs s) → RunningLaw s r }
     ensures steps { StepLaw }
     ensures second { SecondHolds P }
+    ensures slots { SlotLaw P }
 {
     let _ = end;
 }

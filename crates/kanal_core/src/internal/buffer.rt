@@ -2,7 +2,7 @@
 //!
 //! Stands on a deque alone. A limited buffer has all its memory from the start, so that entering
 //! it is never refused for memory. Only the core holds one.
-ghost use Rattle.std.specs.Prelude.{◌≡◌, ◌+◌, ◌^◌, ◌<◌, ◌≤◌, [], ◌∷◌, ◌++◌, length, true, IfOk, IfErr, OnOk, MatchOption, None, Some};
+ghost use Rattle.std.specs.Prelude.{◌≡◌, ◌+◌, ◌^◌, ◌<◌, ◌≤◌, [], ◌∷◌, ◌++◌, length, true, IfOk, IfErr, IsOk, OnOk, MatchOption, None, Some};
 ghost use Rattle.std.specs.Vec.{vec_capacity, vec_len};
 ghost use Rattle.kanal_core.specs.Line.{is_below};
 
@@ -33,9 +33,10 @@ impl<T> Model for Buffer<T> {
 }
 
 impl<T> Buffer<T> {
-    /// An empty buffer with room for so many messages.
+    /// An empty buffer with room for so many messages; for none it asks for no memory.
     pub fn bounded(alloc: Global, limit: usize) -> Result<Self, AllocError>
-        ensures { IfOk result (λ b. b ≡ record { messages = []; limit = Some limit }) }
+        ensures new { IfOk result (λ b. b ≡ record { messages = []; limit = Some limit }) }
+        ensures without_places { limit ≡ 0 → IsOk result }
     {
         let messages = VecDeque::with_capacity(alloc, limit)?;
         Ok(Buffer {

@@ -1,7 +1,7 @@
 //! The drain: the whole line moves to a vector's end.
 //!
 //! Stands on the two rooms. All room in the vector is there before the first message moves.
-ghost use Rattle.std.specs.Prelude.{◌≡◌, ◌↔◌, ◌+◌, ◌<◌, ◌≤◌, ◌++◌, cond, [], length, map, IfErr, IfOk, IsErrOf, OnOk};
+ghost use Rattle.std.specs.Prelude.{◌≡◌, ◌↔◌, ◌+◌, ◌<◌, ◌≤◌, ◌++◌, cond, [], length, map, IfErr, IfOk, IsErrOf, OnErr, OnOk};
 ghost use Rattle.std.specs.Vec.{vec_capacity, vec_len};
 ghost use Rattle.kanal_core.specs.Line.{messages};
 ghost use Rattle.kanal_core.specs.Moves.{drain};
@@ -20,6 +20,7 @@ fn reserve<T>(into: &mut Vec<T>, count: usize) -> Result<(), DrainError>
     ensures room { OnOk result (vec_len into.old + count ≤ vec_capacity into.new) }
     ensures enough { vec_len into.old + count ≤ vec_capacity into.old → vec_capacity into.new ≡ vec_capacity into.old }
     ensures refused { IfErr result (λ e. (e ≡ DrainError.NoMemory) × (vec_capacity into.old < vec_len into.old + count)) }
+    ensures no_growth { OnErr result (vec_capacity into.new ≡ vec_capacity into.old) }
 {
     if count <= into.capacity() - into.len() {
         return Ok(());
@@ -41,7 +42,7 @@ impl<T, W> ChannelInternal<T, W> {
     /// # Errors
     /// `Closed` exactly where no receiver is left, and otherwise `NoMemory`, which comes only where
     /// the vector had too little room for the whole line. Neither changes the channel, nor what the
-    /// vector holds.
+    /// vector holds and how much it has room for.
     ///
     /// # Examples
     /// ```text
@@ -58,6 +59,7 @@ impl<T, W> ChannelInternal<T, W> {
         ensures refused { IfErr result (λ _. (self.new ≡ self.old) × (into.new.items ≡ into.old.items)) }
         ensures room { vec_len into.old + length (line_of self.old).line ≤ vec_capacity into.old → vec_capacity into.new ≡ vec_capacity into.old }
         ensures memory { IsErrOf result DrainError.NoMemory → vec_capacity into.old < vec_len into.old + length (line_of self.old).line }
+        ensures no_growth { OnErr result (vec_capacity into.new ≡ vec_capacity into.old) }
     {
         if self.receivers == 0 {
             return Err(DrainError::Closed);

@@ -22,3 +22,6 @@ pub returns-clause-given : goal.returns-clause-given
 returns-clause-given g c =
     let now = c.self.inside in
     rw (← c.self.view_is) (λ t h. not-given now.capacity now.senders now.receivers now.next now.buffer.messages now.waiters none t h c.self.invariant.rises c.self.invariant.side)
+
+pub returns-clause-rising : goal.returns-clause-rising
+returns-clause-rising g c = rw (← c.self.view_is) c.self.invariant.rises

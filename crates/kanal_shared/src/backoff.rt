@@ -3,11 +3,14 @@
 //! Stands on the cell's waiting end, on parking and on clocks. Only blocked calls use it; what is
 //! asked for memory is there before the wait starts, so nothing is refused here.
 ghost use Rattle.std.specs.Prelude.{◌≡◌, IfOk};
-ghost use Rattle.kanal_cell.specs.CellRule.{HasNotLeft, MaySleep};
+ghost use Rattle.kanal_cell.specs.CellRule.{MaySleep};
 ghost use Rattle.kanal_cell.specs.CellEnds.{wait_view};
 ghost use Rattle.kanal_shared.specs.Waits.{end_at};
 
+mod awake;
+
 use crate::clock::Clock;
+use awake::{Asleep, Awake};
 use crossbeam_utils::Backoff;
 use crossbeam_utils::sync::{Parker, Unparker};
 use kanal_cell::signal::WaitEnd;
@@ -21,46 +24,6 @@ const YIELDS: u32 = 64;
 
 /// How long a timed wait sleeps at most before it reads its clock again, in nanoseconds.
 const NAP: u64 = 1_000_000;
-
-/// A waiting end that has neither slept nor had its outcome.
-#[derive(Drop)]
-struct Awake<P> {
-    end: WaitEnd<P>,
-    ghost unspent: { MaySleep (wait_view end) },
-}
-
-/// A waiting end whose sleeper may lie in the cell.
-#[derive(Drop)]
-struct Asleep<P> {
-    end: WaitEnd<P>,
-    ghost unspent: { HasNotLeft (wait_view end) },
-}
-
-impl<P: Drop> Awake<P> {
-    /// The outcome, or the end back.
-    fn poll(self) -> Result<P, Self> {
-        let Awake { mut end } = self;
-        match end.poll() {
-            Some(outcome) => Ok(outcome),
-            None => Err(Awake { end }),
-        }
-    }
-
-    /// The outcome, or the end with the sleeper in its cell.
-    fn sleep(self, sleeper: Unparker) -> Result<P, Asleep<P>> {
-        let Awake { mut end } = self;
-        match end.sleep(sleeper) {
-            Some(outcome) => Ok(outcome),
-            None => Err(Asleep { end }),
-        }
-    }
-}
-
-impl<P: Drop> Asleep<P> {
-    fn poll(&mut self) -> Option<P> {
-        self.end.poll()
-    }
-}
 
 /// Whether a blocked call has put its sleeper into the cell.
 #[derive(Drop)]
@@ -97,7 +60,7 @@ impl<P: Drop> Waiting<P> {
     {
         let parker = Parker::new(alloc)?;
         let sleeper = parker.unparker().clone()?;
-        let watch = Watch::Awake(Awake { end }, sleeper);
+        let watch = Watch::Awake(Awake::new(end), sleeper);
         Ok(Waiting { watch, parker })
     }
 

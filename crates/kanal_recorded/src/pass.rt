@@ -314,7 +314,7 @@ impl<T: Copy> Pass<T> {
     ) -> Option<Outcome<T>>
         ensures { self.new ≡ self.old }
     {
-        channel.shared.lock(rt).state.outcome(ticket)
+        channel.shared.lock(rt).outcome(ticket)
     }
 
     /// How much of the journal this pass has seen, for another pass to hear. It waits for nobody.

@@ -32,3 +32,18 @@ pub returns-then-is_merged-clause-paired : goal.returns-then-is_merged-clause-pa
 returns-then-is_merged-clause-paired g c =
     let journal = c.into_journal.ensures in
     λ n. rw (journal.journal.1, journal.told.0, journal.told.1) (journal.paired n)
+
+pub returns-then-is_merged-clause-entries : goal.returns-then-is_merged-clause-entries
+returns-then-is_merged-clause-entries g c = search rules
+
+pub returns-then-is_merged-clause-settled : goal.returns-then-is_merged-clause-settled
+returns-then-is_merged-clause-settled g c = search rules
+
+pub returns-then-is_merged-clause-drained : goal.returns-then-is_merged-clause-drained
+returns-then-is_merged-clause-drained g c = search rules
+
+pub returns-then-is_merged-clause-cleared : goal.returns-then-is_merged-clause-cleared
+returns-then-is_merged-clause-cleared g c = search rules
+
+pub returns-clause-same : goal.returns-clause-same
+returns-clause-same g c = search rules

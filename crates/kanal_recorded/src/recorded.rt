@@ -1,6 +1,6 @@
 //! The recorded channel, which threads share, and the drawing of its passes.
 //!
-//! Stands on the recorded state and the lock. The lock is got by a pass alone.
+//! Stands on the lock, and on what lies under it. The lock is got where a pass is drawn, and by a pass.
 ghost use Rattle.std.specs.Prelude.{◌≡◌, ◌↔◌, ℕ, length, IfErr, IfOk, IsErrOf, Some};
 ghost use Rattle.std.specs.List.{sum_by};
 ghost use Rattle.kanal_journal.specs.Paired.{Paired, until};

@@ -1,7 +1,8 @@
 //! What lies under the lock of a recorded channel.
 //!
-//! A contract sees nothing of what is under a lock, so all that is done there is a function of this
-//! room, which is given the state and says what becomes of it. Stands on the recorded state.
+//! A contract sees nothing of what is under a lock. So what is done there is a function that is given
+//! the state and says what becomes of it: the functions of this room, and a pass's own step. Stands on
+//! the recorded state, and on the comparison of the passes' lists with a journal.
 ghost use Rattle.std.specs.Prelude.{◌≡◌, ◌↔◌, ◌+◌, ℕ, IfErr, IfOk, IsErr, IsErrOf, Some};
 ghost use Rattle.kanal_journal.specs.Paired.{Paired, until};
 ghost use Rattle.kanal_journal.specs.Replays.{opened, outcome_of};

@@ -78,7 +78,7 @@ module _ {T : Type 0} where
   numbered-before n (s ∷ ss) = (omega arith, numbered-before n ss)
 
   -- each settlement is of an earlier step
-  settled-earlier : (a b : Account T) (events : List (Event T)) → Leads a events b → AllBefore (length a.replies) a.settled → AllBefore (length b.replies) b.settled
+  pub settled-earlier : (a b : Account T) (events : List (Event T)) → Leads a events b → AllBefore (length a.replies) a.settled → AllBefore (length b.replies) b.settled
   settled-earlier a b [] l h = rw l h
   settled-earlier a b (e ∷ es) l h =
       let told = l.1.0 in

@@ -56,7 +56,7 @@ abbrev pub tickets_of : {T : Type 0} → List (ℕ × Outcome T) → List ℕ
 tickets_of settled = map (λ s. s.0) settled
 
 -- what is taken has those tickets
-taken-tickets : (T : Type 0) (ts : List ℕ) → tickets_of {T = T} (map (λ t. (t, Taken)) ts) ≡ ts
+pub taken-tickets : (T : Type 0) (ts : List ℕ) → tickets_of {T = T} (map (λ t. (t, Taken)) ts) ≡ ts
 taken-tickets T [] = refl
 taken-tickets T (t ∷ ts) = ap (λ us. t ∷ us) (taken-tickets T ts)
 
@@ -89,7 +89,7 @@ module _ {T : Type 0} where
       one (Some t) m rest ts h = ap (λ us. t ∷ us) h
 
   -- all that waits is what ends
-  ended-tickets : (reason : Reason) (l : Line T) → tickets_of (ended reason l) ≡ waits l
+  pub ended-tickets : (reason : Reason) (l : Line T) → tickets_of (ended reason l) ≡ waits l
   ended-tickets reason l = map-append (λ (s : ℕ × Outcome T). s.0) (filter_map (ended_entry reason) l.line) (map (λ t. (t, Ended reason None)) l.demands) ∙ rw (ended-entries reason l.line, ended-receives T reason l.demands) refl
 
   serve-next : (old : Line T) (line : List (Entry T)) (ds : List ℕ) → (serve old line ds).line.next ≡ old.next

@@ -25,3 +25,4 @@ pub mod Examples
 pub mod Standing
 pub mod Lawful
 pub mod Over
+pub mod Rising

@@ -1,5 +1,7 @@
 -- Words of the laws that users of a channel lean on.
-use Rattle.std.specs.Prelude.{◌≡◌, ℕ, ◌==◌, Bool, true, false, List, [], ◌∷◌, length, filter}
+use Rattle.std.specs.Prelude.{◌≡◌, ℕ, ◌+◌, ◌≤◌, ◌==◌, Bool, true, false, not, List, [], ◌∷◌, length, map, filter, Option}
+use Rattle.std.specs.Option.{is_some}
+use Rattle.kanal_core.specs.Line.{Entry, is_below}
 use Rattle.kanal_journal.specs.declared.journal.event.Event.{Event}
 use Rattle.kanal_journal.specs.declared.journal.event.Event.TheVariants.{Recv, TryRecv}
 use Rattle.kanal_journal.specs.declared.journal.event.Refusal.TheVariants.{Closed, SendClosed, NoHandle}
@@ -9,7 +11,25 @@ use Rattle.kanal_journal.specs.declared.journal.event.Settlement.{Settlement}
 use Rattle.kanal_journal.specs.Runs.{Account}
 use Rattle.kanal_journal.specs.Paired.{History, along, withdrawn}
 
+-- the numbers rise, from `low` on and below `next`
+abbrev pub AreRising : ℕ → List ℕ → ℕ → Type 0
+AreRising low [] next = low ≤ next
+AreRising low (t ∷ ts) next = (low ≤ t) × AreRising (t + 1) ts next
+
 module _ {T : Type 0} where
+  -- the entries, of which the first stands at this place, have a ticket exactly from the capacity on: those whose place is below it have none
+  abbrev pub WaitByPlace : Option ℕ → ℕ → List (Entry T) → Type 0
+  WaitByPlace capacity place [] = Unit {0}
+  WaitByPlace capacity place (e ∷ es) = (is_some e.ticket ≡ not (is_below place capacity)) × WaitByPlace capacity (place + 1) es
+
+  -- the entries without a ticket
+  abbrev pub without_ticket : List (Entry T) → List (Entry T)
+  without_ticket line = filter (λ e. not (is_some e.ticket)) line
+
+  -- the tickets that the step settled, in the order in which they stand
+  abbrev pub settled_at : ℕ → List (Settlement T) → List ℕ
+  settled_at step settled = map (λ s. s.ticket) (filter (λ s. s.step == step) settled)
+
   -- the history that an account tells of these events
   abbrev pub told_history : List (Event T) → Account T → History T
   told_history events account = record { events = events; replies = account.replies; settled = account.settled; drained = account.drained }

@@ -8,7 +8,7 @@ ghost use Rattle.kanal_journal.specs.declared.journal.event.Side.TheVariants.{Tx
 ghost use Rattle.kanal_journal.specs.Steps.{Told};
 ghost use Rattle.kanal_journal.specs.Runs.{Account, Answers, Leads, opening, has_side};
 ghost use Rattle.kanal_journal.specs.Paired.{kept, demands};
-ghost use Rattle.kanal_journal.specs.Laws.{told_history, settled_times, withdrawn_times, StaysOver};
+ghost use Rattle.kanal_journal.specs.Laws.{AreRising, WaitByPlace, without_ticket, settled_at, told_history, settled_times, withdrawn_times, StaysOver};
 
 use crate::journal::{Event, Refusal, Reply};
 
@@ -30,11 +30,25 @@ pub fn lengths_agree<T>(capacity: Option<usize>, events: &[Event<T>])
     let _ = events;
 }
 
-/// The buffer never holds more than the capacity, and a sender waits only while it is full.
+/// The entries without a ticket, which are the buffer, are never more than the capacity, and a sender
+/// waits only while it is full.
 pub fn buffer_is_bounded<T>(capacity: Option<usize>, events: &[Event<T>])
-    ensures bound { (a : Account T) → Leads (opening capacity) events.now a → IsWithin (buffered a.line) a.line.capacity }
+    ensures bound { (a : Account T) → Leads (opening capacity) events.now a → IsWithin (length (without_ticket a.line.line)) a.line.capacity }
     ensures full { (a : Account T) → Leads (opening capacity) events.now a → tickets a.line.line ≢ [] → is_at (buffered a.line) a.line.capacity ≡ true }
     ensures same { (a : Account T) → Leads (opening capacity) events.now a → a.line.capacity ≡ capacity }
+{
+    let _ = capacity;
+    let _ = events;
+}
+
+/// A send waits exactly while its place in the line, counted from 0, is at or above the capacity; the
+/// tickets of the line and those of the demands rise, and all were given; and the settlements of each
+/// step stand in the order of their tickets.
+pub fn tickets_follow_places<T>(capacity: Option<usize>, events: &[Event<T>])
+    ensures places { (a : Account T) → Leads (opening capacity) events.now a → WaitByPlace a.line.capacity 0 a.line.line }
+    ensures line { (a : Account T) → Leads (opening capacity) events.now a → AreRising 0 (tickets a.line.line) a.line.next }
+    ensures demands { (a : Account T) → Leads (opening capacity) events.now a → AreRising 0 a.line.demands a.line.next }
+    ensures settled { (a : Account T) → Leads (opening capacity) events.now a → (step : ℕ) → AreRising 0 (settled_at step a.settled) a.line.next }
 {
     let _ = capacity;
     let _ = events;

@@ -8,6 +8,7 @@
 mod finish;
 mod pass;
 mod recorded;
+mod shared;
 
 pub use pass::{Note, Pass, Seen};
 pub use recorded::{Mismatch, Recorded};

@@ -1,7 +1,7 @@
 //! The passes by which threads call a recorded channel.
 //!
 //! Stands on the recorded channel. A call gets the lock, makes room in the pass's own list, lends the
-//! state to one step, and notes what that answered; only a pass gets the lock.
+//! state to one step, and notes what that answered.
 ghost use Rattle.std.specs.Prelude.{◌≡◌};
 ghost use Rattle.kanal_recorded.specs.Passes.{Notes, NotesAt, heard, newcomer, seen_length};
 ghost use Rattle.kanal_journal.specs.Replays.{Records};
@@ -64,7 +64,7 @@ impl<T: Copy> Pass<T> {
         }
     }
 
-    /// The party's number.
+    /// The party's number. It waits for nobody.
     ///
     /// # Examples
     /// ```text
@@ -76,7 +76,8 @@ impl<T: Copy> Pass<T> {
         self.party
     }
 
-    /// The calls that were made, oldest first, but for those that found no memory.
+    /// The calls that were made, oldest first, but for those that found no memory. It waits for
+    /// nobody.
     ///
     /// # Examples
     /// ```text
@@ -88,11 +89,12 @@ impl<T: Copy> Pass<T> {
         self.notes.as_slice()
     }
 
-    /// Sends the message, and starts a wait where there is no place for it.
+    /// Sends the message, and starts a wait where there is no place for it. It waits for the lock alone.
     ///
     /// `Sent` where it entered, `Waits` with the ticket where it waits. `Refused` gives the message back:
-    /// `Closed` or `ReceiveClosed` where nothing can enter, `TooMany` where the tickets are used up,
-    /// `NoHandle` where no live sender is left, `NoMemory` where memory was refused.
+    /// `NoHandle` where no live sender is left, `Closed` where both counts are 0, `ReceiveClosed` where
+    /// the receivers' alone is, `TooMany` where the tickets are used up, `NoMemory` where memory was
+    /// refused.
     ///
     /// # Examples
     /// ```text
@@ -104,10 +106,11 @@ impl<T: Copy> Pass<T> {
         self.call(rt, channel, Event::Send(message))
     }
 
-    /// Sends the message if it can enter at once.
+    /// Sends the message if it can enter at once. It waits for the lock alone.
     ///
     /// `Yes` where it entered, `No` with the message where there is no place. `Refused` gives the message
-    /// back: `Closed` or `ReceiveClosed`, `NoHandle`, or `NoMemory`.
+    /// back: `NoHandle` where no live sender is left, `Closed` where both counts are 0, `ReceiveClosed`
+    /// where the receivers' alone is, `NoMemory` where memory was refused.
     ///
     /// # Examples
     /// ```text
@@ -119,10 +122,12 @@ impl<T: Copy> Pass<T> {
         self.call(rt, channel, Event::TrySend(message))
     }
 
-    /// Receives a message, and starts a wait where none is there.
+    /// Receives a message, and starts a wait where none is there. It waits for the lock alone.
     ///
-    /// `Got` with the front of the line, or `Waits` with the ticket. `Refused` otherwise: `Closed`, or
-    /// `SendClosed` where nothing is there and no sender is left, `TooMany`, `NoHandle`, or `NoMemory`.
+    /// `Got` with the front of the line, or `Waits` with the ticket. `Refused` otherwise: `NoHandle` where
+    /// no live receiver is left, `Closed` where the receivers' count is 0, `SendClosed` where nothing is
+    /// there and the senders' count is 0, `TooMany` where the tickets are used up, `NoMemory` where memory
+    /// was refused.
     ///
     /// # Examples
     /// ```text
@@ -134,10 +139,11 @@ impl<T: Copy> Pass<T> {
         self.call(rt, channel, Event::Recv)
     }
 
-    /// Receives a message as a timed call does whose deadline has passed.
+    /// Receives a message as a timed call does whose deadline has passed. It waits for the lock alone.
     ///
-    /// `Got` with the front of the line. `Refused` otherwise: `Closed`, `Timeout` where nothing is there,
-    /// `NoHandle`, or `NoMemory`.
+    /// `Got` with the front of the line. `Refused` otherwise: `NoHandle` where no live receiver is left,
+    /// `Closed` where the receivers' count is 0, `Timeout` where nothing is there, `NoMemory` where memory
+    /// was refused.
     ///
     /// # Examples
     /// ```text
@@ -149,10 +155,11 @@ impl<T: Copy> Pass<T> {
         self.call(rt, channel, Event::RecvLate)
     }
 
-    /// Receives a message if one is there.
+    /// Receives a message if one is there. It waits for the lock alone.
     ///
-    /// `Got` with the front of the line, `Nothing` where none is there. `Refused` otherwise: `Closed`,
-    /// `SendClosed`, `NoHandle`, or `NoMemory`.
+    /// `Got` with the front of the line, `Nothing` where none is there. `Refused` otherwise: `NoHandle`
+    /// where no live receiver is left, `Closed` where the receivers' count is 0, `SendClosed` where nothing
+    /// is there and the senders' count is 0, `NoMemory` where memory was refused.
     ///
     /// # Examples
     /// ```text
@@ -164,9 +171,11 @@ impl<T: Copy> Pass<T> {
         self.call(rt, channel, Event::TryRecv)
     }
 
-    /// Takes all messages, those of waiting senders too; the recorded channel keeps them.
+    /// Takes all messages, those of waiting senders too; the recorded channel keeps them. It waits for the
+    /// lock alone.
     ///
-    /// `Drained` with their number. `Refused` otherwise: `Closed`, `NoHandle`, or `NoMemory`.
+    /// `Drained` with their number. `Refused` otherwise, and nothing is taken: `NoHandle` where no live
+    /// receiver is left, `Closed` where the receivers' count is 0, `NoMemory` where memory was refused.
     ///
     /// # Examples
     /// ```text
@@ -178,10 +187,10 @@ impl<T: Copy> Pass<T> {
         self.call(rt, channel, Event::Drain)
     }
 
-    /// Takes back the wait with this ticket's number.
+    /// Takes back the wait with this ticket's number. It waits for the lock alone.
     ///
-    /// `Withdrawn`, with the message of a send. `Refused` otherwise: `NotWaiting` where the ticket
-    /// doesn't wait, or `NoMemory`.
+    /// `Withdrawn`, with the message of a send. `Refused` otherwise, and the wait stays: `NotWaiting` where
+    /// the ticket doesn't wait, `NoMemory` where memory was refused.
     ///
     /// # Examples
     /// ```text
@@ -193,9 +202,10 @@ impl<T: Copy> Pass<T> {
         self.call(rt, channel, Event::Withdraw(ticket))
     }
 
-    /// Adds a live handle of the senders' side.
+    /// Adds a live handle of the senders' side. It waits for the lock alone.
     ///
-    /// `Done`; a count that is 0 stays 0. `Refused` otherwise: `TooMany`, `NoHandle`, or `NoMemory`.
+    /// `Done`; a count that is 0 stays 0. `Refused` otherwise, and no handle is added: `NoHandle` where no
+    /// live sender is left, `TooMany` where the count is u32::MAX, `NoMemory` where memory was refused.
     ///
     /// # Examples
     /// ```text
@@ -207,9 +217,10 @@ impl<T: Copy> Pass<T> {
         self.call(rt, channel, Event::CloneTx)
     }
 
-    /// Adds a live handle of the receivers' side.
+    /// Adds a live handle of the receivers' side. It waits for the lock alone.
     ///
-    /// `Done`; a count that is 0 stays 0. `Refused` otherwise: `TooMany`, `NoHandle`, or `NoMemory`.
+    /// `Done`; a count that is 0 stays 0. `Refused` otherwise, and no handle is added: `NoHandle` where no
+    /// live receiver is left, `TooMany` where the count is u32::MAX, `NoMemory` where memory was refused.
     ///
     /// # Examples
     /// ```text
@@ -221,9 +232,10 @@ impl<T: Copy> Pass<T> {
         self.call(rt, channel, Event::CloneRx)
     }
 
-    /// Drops a live handle of the senders' side; the last ends all waits.
+    /// Drops a live handle of the senders' side; the last ends all waits. It waits for the lock alone.
     ///
-    /// `Done`. `Refused` otherwise: `NoHandle`, or `NoMemory`.
+    /// `Done`. `Refused` otherwise, and no handle is dropped: `NoHandle` where no live sender is left,
+    /// `NoMemory` where memory was refused.
     ///
     /// # Examples
     /// ```text
@@ -235,9 +247,10 @@ impl<T: Copy> Pass<T> {
         self.call(rt, channel, Event::DropTx)
     }
 
-    /// Drops a live handle of the receivers' side; the last ends all waits.
+    /// Drops a live handle of the receivers' side; the last ends all waits. It waits for the lock alone.
     ///
-    /// `Done`. `Refused` otherwise: `NoHandle`, or `NoMemory`.
+    /// `Done`. `Refused` otherwise, and no handle is dropped: `NoHandle` where no live receiver is left,
+    /// `NoMemory` where memory was refused.
     ///
     /// # Examples
     /// ```text
@@ -249,10 +262,12 @@ impl<T: Copy> Pass<T> {
         self.call(rt, channel, Event::DropRx)
     }
 
-    /// Closes both sides, ends all waits and clears the buffer; the recorded channel keeps the messages.
+    /// Closes both sides, ends all waits and clears the buffer; the recorded channel keeps the messages. It
+    /// waits for the lock alone.
     ///
-    /// `Cleared` with the number of messages. `Refused` otherwise: `CloseError` where both counts are 0,
-    /// `NoHandle` where neither side has a live handle, or `NoMemory`.
+    /// `Cleared` with the number of messages. `Refused` otherwise, and nothing is closed: `NoHandle` where
+    /// neither side has a live handle, `CloseError` where both counts are 0, `NoMemory` where memory was
+    /// refused.
     ///
     /// # Examples
     /// ```text
@@ -264,10 +279,10 @@ impl<T: Copy> Pass<T> {
         self.call(rt, channel, Event::Close)
     }
 
-    /// Asks a question through this side.
+    /// Asks a question through this side. It waits for the lock alone.
     ///
-    /// `Number` or `Flag`. `Refused` otherwise: `NoHandle` where that side has no live handle, or
-    /// `NoMemory`.
+    /// `Number` or `Flag`. `Refused` otherwise: `NoHandle` where that side has no live handle, `NoMemory`
+    /// where memory was refused.
     ///
     /// # Examples
     /// ```text
@@ -285,9 +300,10 @@ impl<T: Copy> Pass<T> {
         self.call(rt, channel, Event::Ask(side, question))
     }
 
-    /// Asks whether no sender is left and no message is in the buffer.
+    /// Asks whether no sender is left and no message is in the buffer. It waits for the lock alone.
     ///
-    /// `Flag`. `Refused` otherwise: `NoHandle` where no live receiver is left, or `NoMemory`.
+    /// `Flag`. `Refused` otherwise: `NoHandle` where no live receiver is left, `NoMemory` where memory was
+    /// refused.
     ///
     /// # Examples
     /// ```text
@@ -300,7 +316,8 @@ impl<T: Copy> Pass<T> {
     }
 
     /// What became of the wait with this ticket's number so far, by the channel's journal: `None`
-    /// where it waits, was withdrawn or was never given. The pass keeps nothing of this question.
+    /// where it waits, was withdrawn or was never given. The pass keeps nothing of this question. It waits
+    /// for the lock, and has no error.
     ///
     /// # Examples
     /// ```text
@@ -314,7 +331,7 @@ impl<T: Copy> Pass<T> {
     ) -> Option<Outcome<T>>
         ensures { self.new ≡ self.old }
     {
-        channel.shared.lock(rt).state.outcome(ticket)
+        channel.shared.lock(rt).outcome(ticket)
     }
 
     /// How much of the journal this pass has seen, for another pass to hear. It waits for nobody.

@@ -1,17 +1,17 @@
 //! The recorded channel, which threads share, and the drawing of its passes.
 //!
-//! Stands on the recorded state and the lock. The lock is got by a pass alone.
+//! Stands on the lock, and on what lies under it. The lock is got where a pass is drawn, and by a pass.
 ghost use Rattle.std.specs.Prelude.{◌≡◌, ◌↔◌, ℕ, length, IfErr, IfOk, IsErrOf, Some};
 ghost use Rattle.std.specs.List.{sum_by};
 ghost use Rattle.kanal_journal.specs.Paired.{Paired, until};
-ghost use Rattle.kanal_recorded.specs.Merges.{Finishes, IsIdentity, journal_history};
+ghost use Rattle.kanal_recorded.specs.Merges.{Finishes, IsIdentity, IsLedTo, journal_history};
 ghost use Rattle.kanal_recorded.specs.Passes.{newcomer};
 
-use crate::finish::{is_capacity, is_merged};
 use crate::pass::Pass;
+use crate::shared::Shared;
 use kanal_core::error::{NewError, TooMany};
 use kanal_core::mutex::Mutex;
-use kanal_journal::journal::{Journal, RecordedState};
+use kanal_journal::journal::Journal;
 use std::alloc::Global;
 use std::marker::Model;
 use std::sync::Wait;
@@ -19,13 +19,6 @@ use std::sync::Wait;
 /// The passes' lists and the journal don't agree.
 #[derive(Clone, Copy, Debug, PartialEq, Eq)]
 pub struct Mismatch;
-
-/// What lies under the lock: the channel with its journal, and how many passes were drawn.
-#[derive(Drop)]
-pub(crate) struct Shared<T: Copy> {
-    pub(crate) state: RecordedState<T>,
-    parties: u32,
-}
 
 /// A channel whose calls are recorded, for many threads.
 ///
@@ -64,9 +57,9 @@ impl<T: Copy> Recorded<T> {
         ensures capacity { IfOk result (λ r. r ≡ capacity) }
         ensures large { IsErrOf result NewError.TooLarge ↔ (capacity ≡ Some 18446744073709551615) }
     {
-        let state = RecordedState::new(alloc, capacity)?;
+        let shared = Shared::new(alloc, capacity)?;
         Ok(Recorded {
-            shared: Mutex::new(Shared { state, parties: 0 }),
+            shared: Mutex::new(shared),
             capacity,
             alloc,
         })
@@ -84,12 +77,7 @@ impl<T: Copy> Recorded<T> {
     pub fn pass<R: Wait>(&self, rt: &R) -> Result<Pass<T>, TooMany>
         ensures { IfOk result (λ p. p ≡ newcomer p.party) }
     {
-        let mut shared = self.shared.lock(rt);
-        let party = shared.parties;
-        if party == u32::MAX {
-            return Err(TooMany);
-        }
-        shared.parties = party + 1;
+        let party = self.shared.lock(rt).next_party()?;
         Ok(Pass::new(self.alloc, party))
     }
 
@@ -98,8 +86,9 @@ impl<T: Copy> Recorded<T> {
     /// They agree exactly if no two passes have one party, every party of the journal has a pass, and
     /// each pass's list is what the journal has of its party, at the places kept, none of them before
     /// what the pass had seen. The journal is then one legal history of one line of messages, with
-    /// each pass's calls in it, in its own order, after all that it had seen or heard. It asks for no
-    /// memory and waits for nobody.
+    /// each pass's calls in it, in its own order, after all that it had seen or heard; its events lead
+    /// from a new channel to what was told, so that each of `kanal_journal::laws` holds of it. It asks
+    /// for no memory and waits for nobody.
     ///
     /// The premise is that `==` of messages calls only the same value equal.
     ///
@@ -121,6 +110,7 @@ impl<T: Copy> Recorded<T> {
         T: Eq,
         requires { IsIdentity T.eq }
         ensures finished { IfOk result (λ j. Finishes self passes.items j) }
+        ensures leads { IfOk result (λ j. IsLedTo self j) }
         ensures paired { IfOk result (λ j. (n : ℕ) → Paired (until n (journal_history j))) }
         ensures count { IfOk result (λ j. sum_by (λ p. length p.notes) passes.items ≡ length j.entries.items) }
         ensures mismatch { IfErr result (λ e. (e.1 ≡ self) × (e.2 ≡ passes)) }
@@ -130,18 +120,16 @@ impl<T: Copy> Recorded<T> {
             capacity,
             alloc,
         } = self;
-        let Shared { state, parties } = shared.into_inner();
-        if is_capacity(state.capacity(), capacity)
-            && is_merged(state.entries(), passes.as_slice())
-        {
-            return Ok(state.into_journal());
+        match shared.into_inner().finish(capacity, passes.as_slice()) {
+            Ok(journal) => Ok(journal),
+            Err(shared) => {
+                let recorded = Recorded {
+                    shared: Mutex::new(shared),
+                    capacity,
+                    alloc,
+                };
+                Err((Mismatch, recorded, passes))
+            },
         }
-        let shared = Mutex::new(Shared { state, parties });
-        let recorded = Recorded {
-            shared,
-            capacity,
-            alloc,
-        };
-        Err((Mismatch, recorded, passes))
     }
 }

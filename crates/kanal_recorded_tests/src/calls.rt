@@ -1,6 +1,6 @@
 //! Each call of a pass once, with ample memory.
 use crate::given::{equal, holds};
-use crate::parties::{pass_on, recorded};
+use crate::parties::{channel, pass, pass_on, recorded};
 use kanal_journal::journal::{Ask, Refusal, Reply, Side};
 use kanal_recorded::Note;
 
@@ -10,6 +10,15 @@ fn parties_are_numbered_from_0(rt: HostRuntime) {
     equal(&rt, parties.a.party(), 0);
     equal(&rt, parties.b.party(), 1);
     drop(parties);
+}
+
+#[test]
+fn nine_parties(rt: HostRuntime) {
+    let channel = channel(&rt, Some(1));
+    for number in 0..9 {
+        equal(&rt, pass(&rt, &channel).party(), number);
+    }
+    drop(channel);
 }
 
 #[test]

@@ -1,8 +1,9 @@
 //! Histories that agree.
 use crate::given::{equal, holds};
-use crate::parties::{Parties, channel, end, finish, pass_on, recorded};
-use kanal_core::internal::Outcome;
-use kanal_journal::journal::{Journal, Reply};
+use crate::parties::{Parties, add, channel, end, finish, pass, pass_on, recorded};
+use kanal_core::internal::{Outcome, Reason};
+use kanal_journal::journal::{Ask, Journal, Reply, Side};
+use kanal_recorded::{Pass, Recorded};
 use std::alloc::AllocGlobal;
 use std::process::Abort;
 use std::sync::Wait;
@@ -55,6 +56,23 @@ fn the_outcome_of_a_wait(rt: HostRuntime) {
     drop(parties);
 }
 
+/// Of the two waits of b the first is given what a sends, and the other ends with the channel.
+#[test]
+fn the_outcomes_of_two_waits(rt: HostRuntime) {
+    let mut parties = recorded(&rt, Some(1));
+    let (a, b, channel) = (&mut parties.a, &mut parties.b, &parties.channel);
+    equal(&rt, b.recv(&rt, channel), Reply::Waits(0));
+    equal(&rt, b.recv(&rt, channel), Reply::Waits(1));
+    equal(&rt, a.try_send(&rt, channel, 7), Reply::Yes);
+    equal(&rt, b.outcome(&rt, channel, 0), Some(Outcome::Given(7)));
+    equal(&rt, b.outcome(&rt, channel, 1), None);
+    equal(&rt, a.close(&rt, channel), Reply::Cleared(0));
+    let ended = Outcome::Ended(Reason::Closed, None);
+    equal(&rt, b.outcome(&rt, channel, 1), Some(ended));
+    equal(&rt, b.outcome(&rt, channel, 0), Some(Outcome::Given(7)));
+    drop(parties);
+}
+
 #[test]
 fn no_calls(rt: HostRuntime) {
     let journal = finish(&rt, channel(&rt, Some(1)), Vec::new(rt.alloc()));
@@ -76,6 +94,46 @@ fn fill<R: Abort + Wait + AllocGlobal>(rt: &R) -> Parties {
 fn the_capacity_is_kept(rt: HostRuntime) {
     let journal = end(&rt, fill(&rt));
     equal(&rt, journal.capacity, Some(2));
+    drop(journal);
+}
+
+/// A channel without limit, into which a sent a hundred messages.
+fn fill_without_limit<R: Abort + Wait + AllocGlobal>(rt: &R) -> Parties {
+    let mut parties = recorded(rt, None);
+    let (a, channel) = (&mut parties.a, &parties.channel);
+    let bounded = a.ask(rt, channel, Side::Tx, Ask::IsBounded);
+    equal(rt, bounded, Reply::Flag(false));
+    for message in 0..100 {
+        equal(rt, a.try_send(rt, channel, message), Reply::Yes);
+    }
+    parties
+}
+
+#[test]
+fn without_limit(rt: HostRuntime) {
+    let journal = end(&rt, fill_without_limit(&rt));
+    equal(&rt, journal.capacity, None);
+    equal(&rt, journal.entries.len(), 101);
+    drop(journal);
+}
+
+/// Six passes, each of which sent a message.
+fn six<R: Abort + Wait + AllocGlobal>(rt: &R, channel: &Recorded<u64>) -> Vec<Pass<u64>> {
+    let mut passes = Vec::new(rt.alloc());
+    for message in 0..6 {
+        let mut pass = pass(rt, channel);
+        equal(rt, pass.try_send(rt, channel, message), Reply::Yes);
+        add(rt, &mut passes, pass);
+    }
+    passes
+}
+
+#[test]
+fn six_passes(rt: HostRuntime) {
+    let channel = channel(&rt, Some(6));
+    let passes = six(&rt, &channel);
+    let journal = finish(&rt, channel, passes);
+    equal(&rt, journal.entries.len(), 6);
     drop(journal);
 }
 

@@ -73,6 +73,21 @@ fn a_missing_pass(rt: HostRuntime) {
     drop(journal);
 }
 
+#[test]
+fn no_passes_after_calls(rt: HostRuntime) {
+    let Parties { channel, a, b } = hand_over(&rt);
+    equal(&rt, told_of(&rt, channel, Vec::new(rt.alloc())), Mismatch);
+    drop((a, b));
+}
+
+#[test]
+fn a_pass_drawn_after_a_mismatch(rt: HostRuntime) {
+    let Parties { channel, a, b } = hand_over(&rt);
+    let (channel, back) = come_back(&rt, channel, a);
+    equal(&rt, pass(&rt, &channel).party(), 2);
+    drop((channel, back, b));
+}
+
 /// Asks how many messages are there, which is none.
 fn ask_of_none<R: Abort + Wait>(rt: &R, channel: &Recorded<u64>, pass: &mut Pass<u64>) {
     let messages = pass.ask(rt, channel, Side::Tx, Ask::Len);

@@ -5,7 +5,8 @@
 ghost use Rattle.std.specs.Prelude.{◌≡◌, ◌↔◌, ℕ, IfOk, IsErrOf, Some, length};
 ghost use Rattle.kanal_core.specs.Line.{messages};
 ghost use Rattle.kanal_journal.specs.Paired.{Paired, until, rest};
-ghost use Rattle.kanal_journal.specs.Replays.{Records, Replays, opened, outcome_of, history_of};
+ghost use Rattle.kanal_journal.specs.Replays.{Records, Replays, opened, outcome_of, history_of, events_of};
+ghost use Rattle.kanal_journal.specs.Runs.{Leads, opening};
 ghost use Rattle.kanal_journal.specs.Recorders.{IsSound};
 
 use super::event::{Event, Reply};
@@ -83,12 +84,14 @@ impl<T: Copy> RecordedState<T> {
 
     /// What the journal says, for a caller's proof; it does nothing when it runs.
     ///
-    /// The journal replays to what is there. Of the messages that entered and the receives that were
+    /// The journal replays to what is there, and its events lead there from a new channel, so that
+    /// each of the `laws` holds of it. Of the messages that entered and the receives that were
     /// made, leaving out those that were withdrawn, ended or cleared, the i-th message went to the
     /// i-th receive as soon as both were there, after every number of entries; and the line holds
     /// the messages that went to none.
     pub fn replays(&self)
         ensures replays { Replays self.now.capacity self.now.entries self.now.account }
+        ensures leads { Leads (opening self.now.capacity) (events_of self.now.entries) self.now.account }
         ensures paired { (n : ℕ) → Paired (until n (history_of self.now)) }
         ensures left { messages self.now.account.line.line ≡ rest (history_of self.now) }
     {
@@ -146,7 +149,8 @@ impl<T: Copy> RecordedState<T> {
         self.recorder.outcome(ticket)
     }
 
-    /// The journal, moved out with all that was told along it.
+    /// The journal, moved out with all that was told along it. Its events lead from a new channel to
+    /// what was told, so that each of the `laws` holds of it.
     ///
     /// # Examples
     /// ```text
@@ -156,6 +160,7 @@ impl<T: Copy> RecordedState<T> {
         ensures journal { (result.capacity ≡ self.capacity) × (result.entries.items ≡ self.entries) }
         ensures told { (result.settled.items ≡ self.account.settled) × (result.drained.items ≡ self.account.drained) × (result.cleared.items ≡ self.account.cleared) }
         ensures replays { Replays self.capacity self.entries self.account }
+        ensures leads { Leads (opening self.capacity) (events_of self.entries) self.account }
         ensures paired { (n : ℕ) → Paired (until n (history_of self)) }
     {
         let RecordedState { recorder, capacity } = self;

@@ -9,6 +9,8 @@ mod cell_steps;
 #[cfg(test)]
 mod cell_wakes;
 #[cfg(test)]
+mod core_buffer;
+#[cfg(test)]
 mod core_calls;
 #[cfg(test)]
 mod core_drains;

@@ -89,6 +89,7 @@ impl<T> Buffer<T> {
     }
 
     /// Puts a message at the back, or gives it back where an unlimited buffer finds no memory.
+    #[inline(always)]
     pub fn push_back(&mut self, message: T) -> Result<(), T>
         requires { is_below (length self.old.messages) self.old.limit ≡ true }
         ensures entered { OnOk result (self.new ≡ record self.old { messages = self.old.messages ++ message ∷ [] }) }

@@ -1,7 +1,8 @@
 //! Waits on the core, at a W that isn't Copy.
 use crate::given::{boxed, core_from, core_of, equal, holds};
 use crate::waits::{
-    enter, expect_receive_closed, expect_send_closed, filled, receive, refused_send, send,
+    enter, expect_receive_closed, expect_send_closed, filled, receive, refused_receive,
+    refused_send, send,
 };
 use kanal_core::error::WaitError;
 use kanal_core::internal::{
@@ -161,6 +162,21 @@ fn expect_refused(rt: &impl Abort, core: &mut Core, message: u64, w: Box<u32>) {
 /// Whether no message is there.
 fn is_empty(core: &mut Core) -> bool {
     matches!(core.take(), Take::Empty)
+}
+
+/// The wait of a receive is refused as no ticket is left, and the W comes back.
+fn expect_refused_receive(rt: &impl Abort, core: &mut Core, w: Box<u32>) {
+    let (reason, w) = refused_receive(rt, core, w);
+    equal(rt, (reason, *w), (WaitError::TooMany, 8));
+}
+
+#[test]
+fn the_last_ticket_of_a_receive(rt: HostRuntime) {
+    let mut core: Core = core_from(&rt, 0, u64::MAX - 1, 1, 1);
+    let ticket = receive(&rt, &mut core, boxed(&rt, 7));
+    equal(&rt, ticket.number(), u64::MAX - 1);
+    expect_refused_receive(&rt, &mut core, boxed(&rt, 8));
+    holds(&rt, is_handed(&mut core, 5, 7));
 }
 
 #[test]

@@ -77,17 +77,30 @@ pub fn refused_send<T: Drop, W: Drop>(
     answer.err().expect(rt, "the wait is refused")
 }
 
-/// The ticket of a receive that finds no message.
-fn received<W: Drop>(core: &mut ChannelInternal<u64, W>, w: W) -> Option<Ticket> {
+type Received<W> = Result<Ticket, (WaitError, W)>;
+
+/// What the wait of a receive answers that finds no message.
+fn received<W: Drop>(core: &mut ChannelInternal<u64, W>, w: W) -> Option<Received<W>> {
     match core.take() {
-        Take::Empty => core.wait_recv(w).ok(),
+        Take::Empty => Some(core.wait_recv(w)),
         _ => None,
     }
 }
 
 /// A receive finds no message, and waits with this ticket.
 pub fn receive<W: Drop>(rt: &impl Abort, core: &mut ChannelInternal<u64, W>, w: W) -> Ticket {
-    received(core, w).expect(rt, "the receive waits")
+    let answer = received(core, w).expect(rt, "the receive finds no message");
+    answer.ok().expect(rt, "the receive waits")
+}
+
+/// A receive finds no message, and its wait is refused with this.
+pub fn refused_receive<W: Drop>(
+    rt: &impl Abort,
+    core: &mut ChannelInternal<u64, W>,
+    w: W,
+) -> (WaitError, W) {
+    let answer = received(core, w).expect(rt, "the receive finds no message");
+    answer.err().expect(rt, "the wait is refused")
 }
 
 /// The W, the reason and the message of the next wait that ended.

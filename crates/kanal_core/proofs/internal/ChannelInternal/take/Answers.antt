@@ -1,4 +1,4 @@
-use Rattle.std.proofs.Common.{rules, length, ◌∙◌, subst}
+use Rattle.std.proofs.Common.{length, ◌∙◌, subst}
 use Rattle.kanal_core.specs.Line.{IsWithin}
 use Rattle.kanal_core.specs.Sided.{IsOneSided}
 use Rattle.kanal_core.proofs.LettingIn.{TakenSoundly, taken-soundly}

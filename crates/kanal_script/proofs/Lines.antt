@@ -1,7 +1,9 @@
 -- One line after another.
-use Rattle.std.proofs.Common.{◌≡◌, ℕ, ◌<◌, List, [], ◌∷◌, ◌++◌, length, ap, append_assoc, arith, inl, inr, Option, refl, length-append, append-nil, subst, ◌+◌}
+use Rattle.std.proofs.Common.{◌≡◌, ℕ, ◌<◌, List, [], ◌∷◌, ◌++◌, length, ap, append_assoc, arith, inl, inr, sym, ◌∙◌, Option, refl, length-append, append-nil, subst, ◌+◌}
 use Rattle.kanal_journal.specs.declared.journal.event.Event.{Event}
+use Rattle.std.proofs.lemmas.List.{append_cancel_right}
 use Rattle.kanal_script.specs.Faults.{IsReadBefore}
+use Rattle.kanal_script.specs.Words.{EndsLine, EndsWord}
 use Rattle.kanal_script.specs.Script.{line, capacity_words, event_words, events_text, script_text, IsReadTo}
 
 -- one more event is one more line
@@ -36,3 +38,13 @@ number_more events events' event rest rest' number number' more e before next mo
 pub read_before : (bytes : List ℕ) (capacity : Option ℕ) (events : List (Event ℕ)) (rest : List ℕ) (number : ℕ) → 0 < length rest → IsReadTo bytes (script_text capacity events) rest → (0 < length rest → number ≡ length events + 2) → IsReadBefore bytes number
 read_before bytes capacity events rest number more (inl e) n = inr (capacity, events, rest, e, n more)
 read_before bytes capacity events rest number more (inr e) n = absurd (omega (arith, ap length e.1))
+
+-- a line that the bytes begin with: its words, and then the line's end
+pub line_end : (bytes words rest : List ℕ) → IsReadTo bytes (line words) rest → (s : List ℕ) × (bytes ≡ words ++ s) × EndsLine s
+line_end bytes words rest (inl e) = (10 ∷ rest, e ∙ append_assoc words (10 ∷ []) rest, refl)
+line_end bytes words rest (inr e) = ([], append_cancel_right bytes words (10 ∷ []) e.0 ∙ sym (append-nil words), tt)
+
+-- where a line ends a word ends
+pub line_word : (s : List ℕ) → EndsLine s → EndsWord s
+line_word [] end = tt
+line_word (b ∷ bs) end = inr end

@@ -1,4 +1,5 @@
 pub mod Script
+pub mod Words
 pub mod Answer
 pub mod Program
 pub mod Faults

@@ -2,9 +2,13 @@
 //!
 //! It stands on `script` and on the names of `kanal_journal`'s events. The input is cut into lines
 //! at each line feed, and a line into words at each single space. No other module cuts input.
-ghost use Rattle.std.specs.Prelude.{◌≡◌, ◌↔◌, ℕ, ◌+◌, ◌<◌, ◌≤◌, ◌^◌, [], ◌∷◌, ◌++◌, length, IsTrue, IsNone, IfSome, IfOk, IfErr, OnOk, ◌≢◌, decimal};
+ghost use Rattle.std.specs.Prelude.{◌≡◌, ◌↔◌, ℕ, ◌+◌, ◌<◌, ◌≤◌, ◌^◌, [], ◌∷◌, ◌++◌, length, take, drop, MatchOption, List, Option, IsTrue, IsSome, IsNone, IfSome, IfOk, IfErr, IsErr, OnOk, ◌≢◌, decimal};
 ghost use Rattle.kanal_script.specs.declared.parser.ParseError.TheVariants.{NoMemory};
 ghost use Rattle.kanal_script.specs.Faults.{IsFirstFault};
+ghost use Rattle.kanal_script.specs.Words.{is_separator, word_of, after_word, IsWord, EndsWord, EndsLine, EventFits, FitsWord, limit_word};
+ghost use Rattle.kanal_journal.specs.declared.journal.event.Event.{Event};
+ghost use Rattle.kanal_journal.specs.declared.journal.event.Side.{Side};
+ghost use Rattle.kanal_journal.specs.declared.journal.event.Ask.{Ask};
 ghost use Rattle.kanal_script.specs.Script.{line, capacity_words, side_word, ask_word, event_words, script_text, IsReadTo, IsWritten, IsPlain};
 
 use crate::script::Script;
@@ -51,17 +55,22 @@ impl<'a> Parser<'a> {
     /// Takes what stands before the next space, line feed or end, if it is text.
     fn word(&mut self) -> Option<&'a str>
         ensures taken { IfSome result (λ word. self.old.rest.now ≡ word.now ++ self.new.rest.now) }
+        ensures read { (w s : List ℕ) → IsWord w → EndsWord s → self.old.rest.now ≡ w ++ s → MatchOption result ⊥ (λ word. (word.now ≡ w) × (self.new.rest.now ≡ s)) }
         ensures line { self.new.line ≡ self.old.line }
     {
         let rest = self.rest;
         let (word, after) = rest.split_at(word_len(rest));
         self.rest = after;
-        str::from_utf8(word).ok()
+        match str::from_utf8(word) {
+            Ok(text) => Some(text),
+            Err(_) => None,
+        }
     }
 
     /// Takes the byte if it is the next one.
     fn skip(&mut self, byte: u8) -> bool
         ensures taken { IsTrue result → self.old.rest.now ≡ byte ∷ self.new.rest.now }
+        ensures read { (s : List ℕ) → self.old.rest.now ≡ byte ∷ s → IsTrue result }
         ensures line { self.new.line ≡ self.old.line }
     {
         match self.rest.split_first() {
@@ -76,6 +85,7 @@ impl<'a> Parser<'a> {
     /// Takes a space and the word behind it.
     fn next_word(&mut self) -> Option<&'a str>
         ensures taken { IfSome result (λ word. self.old.rest.now ≡ 32 ∷ (word.now ++ self.new.rest.now)) }
+        ensures read { (w s : List ℕ) → IsWord w → EndsWord s → self.old.rest.now ≡ 32 ∷ (w ++ s) → MatchOption result ⊥ (λ word. (word.now ≡ w) × (self.new.rest.now ≡ s)) }
         ensures line { self.new.line ≡ self.old.line }
     {
         if self.skip(b' ') { self.word() } else { None }
@@ -84,6 +94,8 @@ impl<'a> Parser<'a> {
     /// Takes a space and a number.
     fn argument(&mut self) -> Option<u64>
         ensures taken { IfSome result (λ n. self.old.rest.now ≡ 32 ∷ (decimal n ++ self.new.rest.now)) }
+        ensures fits { IfSome result (λ n. n < 2 ^ 64) }
+        ensures read { (n : ℕ) (s : List ℕ) → n < 2 ^ 64 → EndsWord s → self.old.rest.now ≡ 32 ∷ (decimal n ++ s) → IsSome result × (self.new.rest.now ≡ s) }
         ensures line { self.new.line ≡ self.old.line }
     {
         number(self.next_word()?)
@@ -92,11 +104,23 @@ impl<'a> Parser<'a> {
     /// Takes the words of a `cap` line.
     fn capacity(&mut self) -> Option<Option<usize>>
         ensures taken { IfSome result (λ capacity. self.old.rest.now ≡ capacity_words capacity ++ self.new.rest.now) }
+        ensures fits { IfSome result (λ capacity. FitsWord capacity) }
+        ensures read { (capacity : Option ℕ) (s : List ℕ) → FitsWord capacity → EndsWord s → self.old.rest.now ≡ capacity_words capacity ++ s → IsSome result × (self.new.rest.now ≡ s) }
         ensures line { self.new.line ≡ self.old.line }
     {
-        if self.word()? != "cap" {
-            return None;
+        match self.word()? {
+            "cap" => self.limit(),
+            _ => None,
         }
+    }
+
+    /// Takes a space and what the capacity is.
+    fn limit(&mut self) -> Option<Option<usize>>
+        ensures taken { IfSome result (λ capacity. self.old.rest.now ≡ 32 ∷ (limit_word capacity ++ self.new.rest.now)) }
+        ensures fits { IfSome result (λ capacity. FitsWord capacity) }
+        ensures read { (capacity : Option ℕ) (s : List ℕ) → FitsWord capacity → EndsWord s → self.old.rest.now ≡ 32 ∷ (limit_word capacity ++ s) → IsSome result × (self.new.rest.now ≡ s) }
+        ensures line { self.new.line ≡ self.old.line }
+    {
         match self.next_word()? {
             "unbounded" => Some(None),
             word => Some(Some(number(word)? as usize)),
@@ -106,6 +130,8 @@ impl<'a> Parser<'a> {
     /// Takes the words of an event.
     fn event(&mut self) -> Option<Event<u64>>
         ensures taken { IfSome result (λ event. self.old.rest.now ≡ event_words event ++ self.new.rest.now) }
+        ensures fits { IfSome result (λ event. EventFits event) }
+        ensures read { (event : Event ℕ) (s : List ℕ) → EventFits event → EndsWord s → self.old.rest.now ≡ event_words event ++ s → IsSome result × (self.new.rest.now ≡ s) }
         ensures line { self.new.line ≡ self.old.line }
     {
         match self.word()? {
@@ -133,6 +159,7 @@ impl<'a> Parser<'a> {
     /// Takes a space and the name of a side.
     fn side(&mut self) -> Option<Side>
         ensures taken { IfSome result (λ side. self.old.rest.now ≡ 32 ∷ (side_word side ++ self.new.rest.now)) }
+        ensures read { (side : Side) (s : List ℕ) → EndsWord s → self.old.rest.now ≡ 32 ∷ (side_word side ++ s) → IsSome result × (self.new.rest.now ≡ s) }
         ensures line { self.new.line ≡ self.old.line }
     {
         match self.next_word()? {
@@ -145,6 +172,7 @@ impl<'a> Parser<'a> {
     /// Takes a space and the name of a question.
     fn question(&mut self) -> Option<Ask>
         ensures taken { IfSome result (λ ask. self.old.rest.now ≡ 32 ∷ (ask_word ask ++ self.new.rest.now)) }
+        ensures read { (ask : Ask) (s : List ℕ) → EndsWord s → self.old.rest.now ≡ 32 ∷ (ask_word ask ++ s) → IsSome result × (self.new.rest.now ≡ s) }
         ensures line { self.new.line ≡ self.old.line }
     {
         match self.next_word()? {
@@ -165,6 +193,7 @@ impl<'a> Parser<'a> {
     fn end_line(&mut self) -> bool
         ensures taken { IsTrue result → IsReadTo self.old.rest.now (line []) self.new.rest.now }
         ensures next { IsTrue result → 0 < length self.new.rest.now → self.new.line ≡ self.old.line + 1 }
+        ensures read { EndsLine self.old.rest.now → IsTrue result }
     {
         if self.rest.is_empty() {
             return true;
@@ -180,38 +209,59 @@ impl<'a> Parser<'a> {
     /// Takes the first line.
     fn capacity_line(&mut self) -> Result<Option<usize>, ParseError>
         ensures taken { IfOk result (λ capacity. IsReadTo self.old.rest.now (line (capacity_words capacity)) self.new.rest.now) }
+        ensures fits { IfOk result (λ capacity. FitsWord capacity) }
+        ensures unreadable { IsErr result → (capacity : Option ℕ) (rest : List ℕ) → FitsWord capacity → ¬ (IsReadTo self.old.rest.now (line (capacity_words capacity)) rest) }
         ensures next { OnOk result (0 < length self.new.rest.now → self.new.line ≡ self.old.line + 1) }
         ensures fault { IfErr result (λ error. error ≡ ParseError.Unreadable self.old.line) }
     {
         let line = self.line;
-        match self.capacity() {
-            Some(capacity) if self.end_line() => Ok(capacity),
-            _ => Err(ParseError::Unreadable(line)),
+        let Some(capacity) = self.capacity() else {
+            return Err(ParseError::Unreadable(line));
+        };
+        if !self.end_line() {
+            return Err(ParseError::Unreadable(line));
         }
+        Ok(capacity)
     }
 
     /// Takes a line after the first.
     fn event_line(&mut self) -> Result<Event<u64>, ParseError>
         ensures taken { IfOk result (λ event. IsReadTo self.old.rest.now (line (event_words event)) self.new.rest.now) }
+        ensures fits { IfOk result (λ event. EventFits event) }
+        ensures unreadable { IsErr result → (event : Event ℕ) (rest : List ℕ) → EventFits event → ¬ (IsReadTo self.old.rest.now (line (event_words event)) rest) }
         ensures next { OnOk result (0 < length self.new.rest.now → self.new.line ≡ self.old.line + 1) }
         ensures fault { IfErr result (λ error. error ≡ ParseError.Unreadable self.old.line) }
     {
         let line = self.line;
-        match self.event() {
-            Some(event) if self.end_line() => Ok(event),
-            _ => Err(ParseError::Unreadable(line)),
+        let Some(event) = self.event() else {
+            return Err(ParseError::Unreadable(line));
+        };
+        if !self.end_line() {
+            return Err(ParseError::Unreadable(line));
         }
+        Ok(event)
     }
+}
+
+/// Whether the byte is a space or a line feed.
+fn is_separator(byte: u8) -> bool
+    ensures { result ≡ is_separator byte }
+{
+    byte == b' ' || byte == b'\n'
 }
 
 /// How many bytes stand before the first space or line feed.
 fn word_len(bytes: &[u8]) -> usize
-    ensures { result ≤ length bytes.now }
+    ensures within { result ≤ length bytes.now }
+    ensures word { take result bytes.now ≡ word_of bytes.now }
+    ensures after { drop result bytes.now ≡ after_word bytes.now }
 {
-    bytes
-        .iter()
-        .position(|byte| *byte == b' ' || *byte == b'\n')
-        .unwrap_or(bytes.len())
+    for (place, byte) in bytes.iter().enumerate() {
+        if is_separator(*byte) {
+            return place;
+        }
+    }
+    bytes.len()
 }
 
 /// Whether the word begins as a number does: with no plus, and with no zero before a digit.
@@ -247,7 +297,8 @@ pub fn number(word: &str) -> Option<u64>
 ///
 /// Its first line must be a `cap` line, and each line after it an event. A last line feed may be
 /// left out. The error tells the first line that can't be read, or that memory was refused before
-/// one was found; all lines before it were read.
+/// one was found. All lines before that one were read, and every script that the input begins with
+/// ends before it.
 ///
 /// ```
 /// let script = parse(rt.alloc(), b"cap 1\ntry_send 7")?;

@@ -3,8 +3,9 @@
 //! It stands on `parser`, `kanal_journal`'s `run` and `printer`, which it calls one after another:
 //! nothing is judged before the input is read to its end, and nothing is written before all steps
 //! are made.
-ghost use Rattle.std.specs.Prelude.{◌≡◌, ◌≢◌, ◌⊎◌, ◌≤◌, Some, IfSome, IfOk, IfErr, OnOk, OnErr, IsTrue};
+ghost use Rattle.std.specs.Prelude.{◌≡◌, ◌≢◌, ◌⊎◌, ◌≤◌, ℕ, Some, IfSome, IfOk, IfErr, OnOk, OnErr, IsTrue};
 ghost use Rattle.std.specs.Io.KnownBytes.{Appends};
+ghost use Rattle.kanal_script.specs.Faults.{IsFirstFault};
 ghost use Rattle.kanal_script.specs.Program.{fault_of, fault_status, fault_text, IsAnswer, answer_text, Answers, AppendsBeginning, BeginsToAnswer, IsReadFault, IsScriptFault};
 ghost use Rattle.kanal_script.specs.Script.{line};
 
@@ -169,7 +170,7 @@ fn answer<R: Read, W: Write>(alloc: Global, input: &mut R, output: &mut W) -> Re
 ///
 /// - 0: the whole answer is written and flushed. A capacity that is too large is answered, too, by
 ///   the line `refused TooLarge`.
-/// - 2: a line can't be read. Nothing is written to `output`.
+/// - 2: a line can't be read, by any reading of the input. Nothing is written to `output`.
 /// - 1: memory is refused, or a device fails. Where it was `output` that failed, a beginning of the
 ///   answer may be written.
 ///
@@ -193,6 +194,7 @@ pub fn serve<R: Read, W: Write, E: Write>(
     ensures answered { result ≡ 0 → IfSome (R.remaining input.old) (λ bytes. Answers bytes (W.contents output.old) (W.contents output.new)) }
     ensures silent { result ≡ 0 → errors.new ≡ errors.old }
     ensures unreadable { result ≡ 2 → output.new ≡ output.old }
+    ensures first { result ≡ 2 → IfSome (R.remaining input.old) (λ bytes. (number : ℕ) × IsFirstFault bytes (ParseError.Unreadable number)) }
     ensures begun { result ≡ 1 → (output.new ≡ output.old) ⊎ IfSome (R.remaining input.old) (λ bytes. BeginsToAnswer bytes (W.contents output.old) (W.contents output.new)) }
 {
     match answer(alloc, input, output) {

@@ -1,0 +1,139 @@
+-- Cutting a line into words.
+use Rattle.std.proofs.Common.{◌≡◌, ◌≢◌, ℕ, ◌<◌, ◌+◌, ◌⊎◌, ◌^◌, zero, suc, decimal, codes, nat_lt, ◌&&◌, Option, Some, None, IsSome, IsNone, Bool, true, false, true≢false, List, [], ◌∷◌, ◌++◌, length, take, drop, get_or, refl, sym, ap, ◌∙◌, subst, inl, inr, append_assoc, append-nil, add-one, drop-cons, arith, ne_eqb}
+use Rattle.std.proofs.lemmas.List.{take_more, drop_all}
+use Rattle.std.proofs.lemmas.Bool.{ltb-true}
+use Rattle.std.specs.List.{list_all}
+use Rattle.std.proofs.lemmas.Str.{IsUtf8-from_ascii}
+use Rattle.std.proofs.lemmas.Str.Ascii.{IsAscii-nil}
+use Rattle.std.proofs.lemmas.Str.Parse.{digit_from_value}
+use Rattle.std.proofs.lemmas.Fmt.{decimal_is_IsNumeral}
+use Rattle.std.specs.Str.{IsAscii, IsUtf8}
+use Rattle.std.specs.Str.Parse.{AllDigits}
+use Rattle.kanal_script.specs.Script.{capacity_words}
+use Rattle.kanal_script.specs.Words.{is_separator, word_of, after_word, IsWord, EndsWord, FitsWord, limit_word}
+
+and_left : (a b : Bool) → a && b ≡ true → a ≡ true
+and_left true b e = refl
+and_left false b e = e
+
+and_right : (a b : Bool) → a && b ≡ true → b ≡ true
+and_right true b e = e
+and_right false b e = absurd (true≢false (sym e))
+
+-- the list from a place on: what stands there, and the rest
+at_place : (bytes : List ℕ) (i : ℕ) → i < length bytes → drop i bytes ≡ get_or bytes i 0 ∷ drop (i + 1) bytes
+at_place bytes i inside = subst (λ k. drop i bytes ≡ get_or bytes i 0 ∷ drop k bytes) (sym (add-one i)) (drop-cons bytes i 0 inside)
+
+-- a byte that is no separator belongs to the word
+word_on : (b : ℕ) (bs : List ℕ) → is_separator b ≡ false → word_of (b ∷ bs) ≡ b ∷ word_of bs
+word_on b bs e = rw e refl
+
+after_on : (b : ℕ) (bs : List ℕ) → is_separator b ≡ false → after_word (b ∷ bs) ≡ after_word bs
+after_on b bs e = rw e refl
+
+-- and at a separator the word ends
+word_end : (b : ℕ) (bs : List ℕ) → is_separator b ≡ true → word_of (b ∷ bs) ≡ []
+word_end b bs e = rw e refl
+
+after_end : (b : ℕ) (bs : List ℕ) → is_separator b ≡ true → after_word (b ∷ bs) ≡ b ∷ bs
+after_end b bs e = rw e refl
+
+-- so far no separator was seen
+abbrev pub IsCutTo : ℕ → List ℕ → Type 0
+IsCutTo i bytes = (take i bytes ++ word_of (drop i bytes) ≡ word_of bytes) × (after_word (drop i bytes) ≡ after_word bytes)
+
+pub cut_more : (bytes : List ℕ) (i : ℕ) → i < length bytes → is_separator (get_or bytes i 0) ≡ false → IsCutTo i bytes → IsCutTo (i + 1) bytes
+cut_more bytes i inside more cut =
+    let there = at_place bytes i inside in (
+      ap (λ xs. xs ++ word_of (drop (i + 1) bytes)) (take_more bytes i 0 inside)
+          ∙ append_assoc (take i bytes) (get_or bytes i 0 ∷ []) (word_of (drop (i + 1) bytes))
+          ∙ sym (ap (λ xs. take i bytes ++ xs) (ap word_of there ∙ word_on (get_or bytes i 0) (drop (i + 1) bytes) more))
+          ∙ cut.0,
+      sym (ap after_word there ∙ after_on (get_or bytes i 0) (drop (i + 1) bytes) more) ∙ cut.1,
+    )
+
+pub cut_here : (bytes : List ℕ) (i : ℕ) → i < length bytes → is_separator (get_or bytes i 0) ≡ true → IsCutTo i bytes → (take i bytes ≡ word_of bytes) × (drop i bytes ≡ after_word bytes)
+cut_here bytes i inside end cut =
+    let there = at_place bytes i inside in (
+      sym (append-nil (take i bytes)) ∙ sym (ap (λ xs. take i bytes ++ xs) (ap word_of there ∙ word_end (get_or bytes i 0) (drop (i + 1) bytes) end)) ∙ cut.0,
+      there ∙ sym (ap after_word there ∙ after_end (get_or bytes i 0) (drop (i + 1) bytes) end) ∙ cut.1,
+    )
+
+pub cut_end : (bytes : List ℕ) (i : ℕ) → i ≡ length bytes → IsCutTo i bytes → (take (length bytes) bytes ≡ word_of bytes) × (drop (length bytes) bytes ≡ after_word bytes)
+cut_end bytes i is cut =
+    let none = drop_all (length bytes) bytes (omega arith) in
+    let cut' = subst (λ k. IsCutTo k bytes) is cut in (
+      sym (append-nil (take (length bytes) bytes)) ∙ sym (ap (λ xs. take (length bytes) bytes ++ word_of xs) none) ∙ cut'.0,
+      none ∙ sym (ap after_word none) ∙ cut'.1,
+    )
+
+-- what is neither a space nor a line feed is no separator,
+not_separator : (b : ℕ) → b ≢ 32 → b ≢ 10 → is_separator b ≡ false
+not_separator b m n = rw (ne_eqb b 32 m, ne_eqb b 10 n) refl
+
+-- and these two are
+a_separator : (b : ℕ) → (b ≡ 32) ⊎ (b ≡ 10) → is_separator b ≡ true
+a_separator b (inl e) = rw e refl
+a_separator b (inr e) = rw e refl
+
+-- a word and what ends it are cut where they meet
+pub cut : (w s : List ℕ) → IsWord w → EndsWord s → (word_of (w ++ s) ≡ w) × (after_word (w ++ s) ≡ s)
+cut [] [] word end = (refl, refl)
+cut [] (b ∷ bs) word end = let e = a_separator b end in (word_end b bs e, after_end b bs e)
+cut (x ∷ w) s word end =
+    let e = not_separator x word.1 word.2 in
+    let rest = cut w s word.3 end in
+    (word_on x (w ++ s) e ∙ ap (λ xs. x ∷ xs) rest.0, after_on x (w ++ s) e ∙ rest.1)
+
+pub cut_off : (bytes w s : List ℕ) → IsWord w → EndsWord s → bytes ≡ w ++ s → (word_of bytes ≡ w) × (after_word bytes ≡ s)
+cut_off bytes w s word end is = let there = cut w s word end in (ap word_of is ∙ there.0, ap after_word is ∙ there.1)
+
+-- a word is text
+ascii : (w : List ℕ) → IsWord w → IsAscii w
+ascii [] word i = IsAscii-nil i
+ascii (x ∷ w) word zero = word.0
+ascii (x ∷ w) word (suc i) = ascii w word.3 i
+
+pub word_utf8 : (w : List ℕ) → IsWord w → IsUtf8 w
+word_utf8 w word = IsUtf8-from_ascii w (ascii w word)
+
+-- digits are a word
+digits_word : (ds : List ℕ) → AllDigits 10 ds → IsWord ds
+digits_word [] all = tt
+digits_word (d ∷ ds) all =
+    let range = digit_from_value d all.0 in
+    (omega (arith, range.0, range.1), (λ e. omega (arith, range.0, range.1, e)), (λ e. omega (arith, range.0, range.1, e)), digits_word ds all.1)
+
+pub decimal_word : (n : ℕ) → n < 2 ^ 64 → IsWord (decimal n)
+decimal_word n small = digits_word (decimal n) (decimal_is_IsNumeral n small).0.1
+
+-- what isn't None is Some
+pub some_of : {A : Type 0} (o : Option A) → (IsNone o → ⊥) → IsSome o
+some_of None n = absurd (n refl)
+some_of (Some x) n = refl
+
+-- a word whose bytes are all between the space and the end of ASCII
+pub letters : (w : List ℕ) → list_all (λ b. nat_lt 32 b && nat_lt b 128) w ≡ true → IsWord w
+letters [] all = tt
+letters (b ∷ bs) all =
+    let here = and_left (nat_lt 32 b && nat_lt b 128) (list_all (λ b. nat_lt 32 b && nat_lt b 128) bs) all in
+    let low = ltb-true 32 b (and_left (nat_lt 32 b) (nat_lt b 128) here) in
+    let high = ltb-true b 128 (and_right (nat_lt 32 b) (nat_lt b 128) here) in
+    (high, (λ e. omega (arith, low, e)), (λ e. omega (arith, low, e)), letters bs (and_right (nat_lt 32 b && nat_lt b 128) (list_all (λ b. nat_lt 32 b && nat_lt b 128) bs) all))
+
+-- the words of a capacity's line
+pub cap_word : IsWord (codes "cap")
+cap_word = letters (codes "cap") refl
+
+pub limit_is_word : (capacity : Option ℕ) → FitsWord capacity → IsWord (limit_word capacity)
+limit_is_word None fits = letters (codes "unbounded") refl
+limit_is_word (Some n) fits = decimal_word n fits
+
+pub capacity_cut : (capacity : Option ℕ) (s : List ℕ) → capacity_words capacity ++ s ≡ codes "cap" ++ (32 ∷ (limit_word capacity ++ s))
+capacity_cut None s = refl
+capacity_cut (Some n) s = refl
+
+-- what is neither the name of no limit nor a number is no limit
+pub no_limit : (word : List ℕ) (capacity : Option ℕ) → FitsWord capacity → word ≡ limit_word capacity → word ≢ codes "unbounded" → ((n : ℕ) → n < 2 ^ 64 → word ≢ decimal n) → ⊥
+no_limit word None fits is name number = name is
+no_limit word (Some n) fits is name number = number n fits is

@@ -1,7 +1,8 @@
 //! The receiver of a channel for threads.
 //!
 //! Stands on the receiver for tasks; nothing is done here but handing on.
-ghost use Rattle.std.specs.Prelude.{◌≡◌, ◌++◌, List, length, Some, IfOk, IfErr, codes};
+ghost use Rattle.std.specs.Prelude.{◌≡◌, ◌++◌, List, length, Some, IfOk, IfErr, OnErr, codes};
+ghost use Rattle.std.specs.Vec.{vec_capacity};
 
 use crate::async_receiver::AsyncReceiver;
 use crate::messages::Messages;
@@ -109,6 +110,7 @@ impl<T: Drop> Receiver<T> {
     pub fn drain_into<R: Wait>(&self, rt: &R, into: &mut Vec<T>) -> Result<usize, ReceiveError>
         ensures drained { IfOk result (λ n. (more : List T) × (into.new.items ≡ into.old.items ++ more) × (length more ≡ n)) }
         ensures refused { IfErr result (λ _. into.new.items ≡ into.old.items) }
+        ensures no_growth { OnErr result (vec_capacity into.new ≡ vec_capacity into.old) }
     {
         self.inner.drain_into(rt, into)
     }

@@ -27,7 +27,8 @@ module _ {T : Type 0} where
   quiet line = record { line = line; settled = [] }
 
   -- Serving: while a message and a demand are there, the front goes to the first demand.
-  -- One side of a channel's line is always empty, so only an entering message is ever served here.
+  -- One side of a channel's line is always empty, so only an entering message is ever served here. Moves go by the
+  -- tickets in the entries; that a send waits by its place is a law, `tickets_follow_places` of `kanal_journal::laws`.
   abbrev pub serve : Line T → List (Entry T) → List ℕ → Moved T
   serve old line [] = quiet (record old { line = line; demands = [] })
   serve old [] (d ∷ ds) = quiet (record old { line = []; demands = d ∷ ds })

@@ -2,7 +2,8 @@
 //!
 //! Stands on the lock, on the steps and on how a blocked call waits. A message is asked for first;
 //! only where there is none is the memory of a wait asked for.
-ghost use Rattle.std.specs.Prelude.{◌≡◌, ◌++◌, List, length, IfOk, IfErr};
+ghost use Rattle.std.specs.Prelude.{◌≡◌, ◌++◌, List, length, IfOk, IfErr, OnErr};
+ghost use Rattle.std.specs.Vec.{vec_capacity};
 
 mod timed;
 
@@ -85,6 +86,7 @@ impl<T: Drop> Shared<T> {
     pub fn drain_into<R: Wait>(&self, rt: &R, into: &mut Vec<T>) -> Result<usize, ReceiveError>
         ensures drained { IfOk result (λ n. (more : List T) × (into.new.items ≡ into.old.items ++ more) × (length more ≡ n)) }
         ensures refused { IfErr result (λ _. into.new.items ≡ into.old.items) }
+        ensures no_growth { OnErr result (vec_capacity into.new ≡ vec_capacity into.old) }
     {
         let mut guard = self.lock(rt);
         match steps::drain(&mut guard, into) {

@@ -3,7 +3,7 @@
 //! Stands on the core's contracts. A step says in the line's terms what it did, and hands out all
 //! that left the core; nothing is settled or let go here, since the lock is held. A handle changes a
 //! core by a step or by the core's own calls, and by nothing else.
-ghost use Rattle.std.specs.Prelude.{◌≡◌, ◌≢◌, ◌↔◌, ◌+◌, ◌≤◌, ◌++◌, List, [], ◌∷◌, IsSome, Some, None, Ok, true, cond, map, length, IfOk, IfErr, IsErrOf, MatchOption};
+ghost use Rattle.std.specs.Prelude.{◌≡◌, ◌≢◌, ◌↔◌, ◌+◌, ◌≤◌, ◌++◌, List, [], ◌∷◌, IsSome, Some, None, Ok, true, cond, map, length, IfOk, IfErr, OnErr, IsErrOf, MatchOption};
 ghost use Rattle.std.specs.Vec.{vec_capacity, vec_len};
 ghost use Rattle.kanal_core.specs.Line.{messages};
 ghost use Rattle.kanal_core.specs.Moves.{drain, drop_receiver, drop_sender};
@@ -267,6 +267,7 @@ pub fn drain<T: Drop>(
     ensures refused { IfErr result (λ _. (core.new ≡ core.old) × (into.new.items ≡ into.old.items)) }
     ensures reason { IfErr result (λ e. RefusesDrain (line_of core.old) (vec_len into.old) (vec_capacity into.old) e) }
     ensures room { vec_len into.old + length (line_of core.old).line ≤ vec_capacity into.old → vec_capacity into.new ≡ vec_capacity into.old }
+    ensures no_growth { OnErr result (vec_capacity into.new ≡ vec_capacity into.old) }
 {
     match core.drain_into(into) {
         Ok(drained) => Ok(drained),

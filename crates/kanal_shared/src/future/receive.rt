@@ -103,6 +103,7 @@ impl<'a, T: Drop> ReceiveFuture<'a, T> {
     fn begin(&mut self, cx: &mut Context<'_>) -> Poll<Result<T, ReceiveError>>
         requires { receive_is_over self.old ≡ true }
         ensures ends { IfReady result (λ _. receive_is_over self.new ≡ true) }
+        ensures goes_on { OnPending result (receive_is_over self.new ≡ false) }
         ensures registered { OnPending result (Covers cx.new (λ s. s ≡ receive_source self.new)) }
         ensures kept { Keeps cx.old cx.new }
     {
@@ -129,6 +130,7 @@ impl<'a, T: Drop> ReceiveFuture<'a, T> {
     ) -> Poll<Result<T, ReceiveError>>
         requires { receive_is_over self.old ≡ true }
         ensures ends { IfReady result (λ _. receive_is_over self.new ≡ true) }
+        ensures goes_on { OnPending result (receive_is_over self.new ≡ false) }
         ensures registered { OnPending result (Covers cx.new (λ s. s ≡ receive_source self.new)) }
         ensures kept { Keeps cx.old cx.new }
     {
@@ -151,6 +153,7 @@ impl<'a, T: Drop> ReceiveFuture<'a, T> {
     fn wait(&mut self, started: Started<T>, cx: &mut Context<'_>) -> Poll<Result<T, ReceiveError>>
         requires { receive_is_over self.old ≡ true }
         ensures ends { IfReady result (λ _. receive_is_over self.new ≡ true) }
+        ensures goes_on { OnPending result (receive_is_over self.new ≡ false) }
         ensures registered { OnPending result (Covers cx.new (λ s. s ≡ receive_source self.new)) }
         ensures kept { Keeps cx.old cx.new }
     {
@@ -205,6 +208,7 @@ impl<T: Drop> Future for ReceiveFuture<'_, T> {
         ensures kept { Keeps cx.old cx.new }
         ensures over { receive_is_over self.old ≡ true → (result ≡ Poll.Ready (Err ReceiveError.Finished)) × (receive_is_over self.new ≡ true) }
         ensures ends { IfReady result (λ _. receive_is_over self.new ≡ true) }
+        ensures goes_on { OnPending result (receive_is_over self.new ≡ false) }
     {
         match mem::replace(&mut self.state, State::Done) {
             State::Zero(()) => self.begin(cx),

@@ -87,6 +87,7 @@ impl<'a, T: Drop> SendFuture<'a, T> {
     fn begin(&mut self, message: T, cx: &mut Context<'_>) -> Poll<Result<(), SendError>>
         requires { send_is_over self.old ≡ true }
         ensures ends { IfReady result (λ _. send_is_over self.new ≡ true) }
+        ensures goes_on { OnPending result (send_is_over self.new ≡ false) }
         ensures registered { OnPending result (Covers cx.new (λ s. s ≡ send_source self.new)) }
         ensures kept { Keeps cx.old cx.new }
     {
@@ -115,6 +116,7 @@ impl<'a, T: Drop> SendFuture<'a, T> {
     ) -> Poll<Result<(), SendError>>
         requires { send_is_over self.old ≡ true }
         ensures ends { IfReady result (λ _. send_is_over self.new ≡ true) }
+        ensures goes_on { OnPending result (send_is_over self.new ≡ false) }
         ensures registered { OnPending result (Covers cx.new (λ s. s ≡ send_source self.new)) }
         ensures kept { Keeps cx.old cx.new }
     {
@@ -137,6 +139,7 @@ impl<'a, T: Drop> SendFuture<'a, T> {
     fn wait(&mut self, started: Started<T>, cx: &mut Context<'_>) -> Poll<Result<(), SendError>>
         requires { send_is_over self.old ≡ true }
         ensures ends { IfReady result (λ _. send_is_over self.new ≡ true) }
+        ensures goes_on { OnPending result (send_is_over self.new ≡ false) }
         ensures registered { OnPending result (Covers cx.new (λ s. s ≡ send_source self.new)) }
         ensures kept { Keeps cx.old cx.new }
     {
@@ -191,6 +194,7 @@ impl<T: Drop> Future for SendFuture<'_, T> {
         ensures kept { Keeps cx.old cx.new }
         ensures over { send_is_over self.old ≡ true → (result ≡ Poll.Ready (Err SendError.Finished)) × (send_is_over self.new ≡ true) }
         ensures ends { IfReady result (λ _. send_is_over self.new ≡ true) }
+        ensures goes_on { OnPending result (send_is_over self.new ≡ false) }
     {
         match mem::replace(&mut self.state, State::Done) {
             State::Zero(message) => self.begin(message, cx),

@@ -106,6 +106,7 @@ impl<T: Drop> Stream for ReceiveStream<'_, T> {
         ensures kept { Keeps cx.old cx.new }
         ensures over { stream_is_over self.old ≡ true → (result ≡ Poll.Ready None) × (stream_is_over self.new ≡ true) }
         ensures ends { IfReady result (λ o. IfNone o (stream_is_over self.new ≡ true)) }
+        ensures goes_on { OnPending result (stream_is_over self.new ≡ false) }
     {
         if self.fault.is_some() {
             return Poll::Ready(None);

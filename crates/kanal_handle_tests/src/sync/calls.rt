@@ -101,6 +101,15 @@ fn no_channel_has_the_largest_capacity(rt: HostRuntime) {
     equal(&rt, refusal_of(&rt, usize::MAX), Some(NewError::TooLarge));
 }
 
+#[test]
+fn there_is_no_memory_for_the_capacity_below_it(rt: HostRuntime) {
+    equal(
+        &rt,
+        refusal_of(&rt, usize::MAX - 1),
+        Some(NewError::NoMemory),
+    );
+}
+
 /// Sends the numbers below a thousand.
 fn send_a_thousand<R: Abort + Wait>(rt: &R, sender: &Sender<u64>) {
     for number in 0..1000 {

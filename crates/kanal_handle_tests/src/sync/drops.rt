@@ -1,8 +1,8 @@
 //! Messages that count their drops, read while the handles live.
 use crate::counted::{Counted, counter, message};
-use crate::given::{ends, equal};
-use kanal::Sender;
+use crate::given::{ends, equal, holds};
 use kanal::error::SendError;
+use kanal::{Receiver, Sender};
 use std::alloc::Global;
 use std::process::Abort;
 use std::sync::atomic::AtomicU64;
@@ -29,6 +29,33 @@ fn a_close_drops_the_buffer(rt: HostRuntime) {
     equal(&rt, drops.load(SeqCst), 0);
     equal(&rt, receiver.close(&rt), Ok(()));
     equal(&rt, drops.load(SeqCst), 10);
+}
+
+/// Sends seven messages and receives them, so that the next ones go round the buffer's end.
+fn go_round<R: Abort + Wait>(
+    rt: &R,
+    sender: &Sender<Counted>,
+    receiver: &Receiver<Counted>,
+    drops: &Arc<AtomicU64, Global>,
+) {
+    for _ in 0..7 {
+        equal(rt, sender.send(rt, message(rt, drops)), Ok(()));
+    }
+    for _ in 0..7 {
+        holds(rt, receiver.recv(rt).is_ok());
+    }
+}
+
+#[test]
+fn a_close_drops_a_buffer_that_went_round(rt: HostRuntime) {
+    let drops = counter(&rt);
+    let (sender, receiver) = ends::<Counted>(&rt, 10);
+    go_round(&rt, &sender, &receiver, &drops);
+    equal(&rt, drops.load(SeqCst), 7);
+    send_ten(&rt, &sender, &drops, Ok(()));
+    equal(&rt, drops.load(SeqCst), 7);
+    equal(&rt, receiver.close(&rt), Ok(()));
+    equal(&rt, drops.load(SeqCst), 17);
 }
 
 #[test]

@@ -94,18 +94,20 @@ fn a_message_is_dropped_once_at_its_deadline(rt: HostRuntime) {
 }
 
 /// More nanoseconds than a word counts.
-const LONGER_THAN_A_WORD: Duration = Duration::from_secs(18_446_744_074);
+fn longer_than_a_word() -> Duration {
+    Duration::from_secs(18_446_744_074)
+}
 
 #[test]
 fn a_duration_above_a_word_of_nanoseconds_is_out_of_range(rt: HostRuntime) {
     let (sender, receiver) = ends::<u64>(&rt, 1);
     let mut option = Some(7);
-    let sent = sender.send_option_timeout(&rt, &mut option, LONGER_THAN_A_WORD, &Still(0));
+    let sent = sender.send_option_timeout(&rt, &mut option, longer_than_a_word(), &Still(0));
     equal(&rt, sent, Err(SendErrorTimeout::DeadlineOutOfRange));
     equal(&rt, option, Some(7));
     equal(
         &rt,
-        receiver.recv_timeout(&rt, LONGER_THAN_A_WORD, &Still(0)),
+        receiver.recv_timeout(&rt, longer_than_a_word(), &Still(0)),
         Err(ReceiveErrorTimeout::DeadlineOutOfRange),
     );
     equal(&rt, sender.len(&rt), 0);

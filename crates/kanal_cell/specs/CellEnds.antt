@@ -16,7 +16,7 @@ module _ {P : Type 0} where
 
   -- the waker that a settle will wake
   abbrev pub kept_waker : SettleEnd P → Option Waker
-  kept_waker e = e.kept.waker
+  kept_waker e = e.waker
 
   -- what the waiter waits for is what the settler settles
   abbrev pub AreOfOneCell : WaitEnd P → SettleEnd P → Type 0

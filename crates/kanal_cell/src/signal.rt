@@ -15,9 +15,9 @@ ghost use Rattle.std.specs.Arc.{arc_value};
 ghost use Rattle.kanal_cell.specs.CellRule.{IsWaiter, IsSettler};
 
 use atomic_table::Seat;
+use futures::task::Waker;
 use std::alloc::Global;
 use std::sync::Arc;
-use waking::KeptWaker;
 
 mod calls;
 mod law;
@@ -46,7 +46,7 @@ pub struct WaitEnd<P> {
 pub struct SettleEnd<P> {
     signal: Arc<Signal<P>, Global>,
     seat: Seat<Option<Held<P>>, View>,
-    kept: KeptWaker,
+    waker: Option<Waker>,
     ghost sized: { ((arc_value signal).table.shared.table_id.words ≡ 1) × ((arc_value signal).table.shared.table_id.slots ≡ 2) },
     ghost fits: { seat.table_id ≡ (arc_value signal).table.shared.table_id },
     ghost view: { IsSettler seat.me.0 seat.me.1 },

@@ -11,7 +11,7 @@ use super::rule::{
     CellTable, ENDED, EndSeat, LEFT, Leaves, Parts, Polls, SLEEPING, SettlerBegins, Settles,
     Signal, Sleeps, WaiterBegins,
 };
-use super::waking::{KeptWaker, Waking};
+use super::waking::{Waking, take_out};
 use super::{SettleEnd, WaitEnd};
 use crate::error::NoMemory;
 use crate::pointer;
@@ -71,7 +71,7 @@ pub fn new<P: Drop>(alloc: Global) -> Result<(WaitEnd<P>, SettleEnd<P>), NoMemor
     let settle = SettleEnd {
         signal: other,
         seat: settler,
-        kept: KeptWaker::nobody(),
+        waker: None,
     };
     Ok((wait, settle))
 }
@@ -215,7 +215,7 @@ impl<P: Drop> SettleEnd<P> {
         ensures displaced { result ≡ kept_waker self.old }
         ensures kept { kept_waker self.new ≡ Some waker }
     {
-        self.kept.replace(waker)
+        self.waker.replace(waker)
     }
 
     /// Makes the step of a settle, and hands out whom it has to wake and the outcome that it took.
@@ -245,6 +245,6 @@ impl<P: Drop> SettleEnd<P> {
         } else {
             None
         };
-        (self.kept.take_out(&self.seat, sleeper), back)
+        (take_out(&mut self.waker, &self.seat, sleeper), back)
     }
 }

@@ -2,48 +2,29 @@
 //!
 //! It stands on `atomic_table`. A kept waker is taken out to be woken only after the settler has made
 //! its step, and what was taken out is let go by waking it and in no other way. No other module may
-//! look into either type.
+//! look into that.
 ghost use Rattle.std.specs.Prelude.{◌≡◌, true, None, Some};
 
 use super::rule::EndSeat;
 use crossbeam_utils::sync::Unparker;
 use futures::task::Waker;
 
-/// The waker that a settle will wake, if one is kept.
-#[derive(Drop)]
-pub(crate) struct KeptWaker {
-    pub(super) waker: Option<Waker>,
-}
-
-impl KeptWaker {
-    /// No waker is kept.
-    pub(super) fn nobody() -> Self
-        ensures { result.waker ≡ None }
-    {
-        KeptWaker { waker: None }
-    }
-
-    /// Keeps the waker, and answers the one that was kept before.
-    pub(super) fn replace(&mut self, waker: Waker) -> Option<Waker>
-        ensures displaced { result ≡ self.old.waker }
-        ensures kept { self.new.waker ≡ Some waker }
-    {
-        self.waker.replace(waker)
-    }
-
-    /// Takes the waker out, to be woken with the sleeper. The settler of the seat has made its step.
-    pub(super) fn take_out<P>(&mut self, settler: &EndSeat<P>, sleeper: Option<Unparker>) -> Waking
-        requires stepped { settler.now.me.0.set.ended ≡ true }
-        ensures waker { result.waker ≡ self.old.waker }
-        ensures sleeper { result.sleeper ≡ sleeper }
-        ensures kept { self.new.waker ≡ None }
-    {
-        let _ = settler;
-        Waking {
-            sleeper,
-            waker: self.waker.take(),
-            is_woken: false,
-        }
+/// Takes the kept waker out, to be woken with the sleeper. The settler of the seat has made its step.
+pub(super) fn take_out<P>(
+    kept: &mut Option<Waker>,
+    settler: &EndSeat<P>,
+    sleeper: Option<Unparker>,
+) -> Waking
+    requires stepped { settler.now.me.0.set.ended ≡ true }
+    ensures waker { result.waker ≡ kept.old }
+    ensures sleeper { result.sleeper ≡ sleeper }
+    ensures kept { kept.new ≡ None }
+{
+    let _ = settler;
+    Waking {
+        sleeper,
+        waker: kept.take(),
+        is_woken: false,
     }
 }
 

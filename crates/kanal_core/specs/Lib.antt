@@ -9,7 +9,6 @@ pub mod Channel
 pub mod Calls
 pub mod Endings
 pub mod Rooms
-pub mod Stores
 pub mod Sided
 pub mod Handing
 pub mod CoreLends

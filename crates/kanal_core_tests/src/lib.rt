@@ -1,5 +1,5 @@
-//! Tests of the core and of the hand-over cell: that calls succeed with ample memory, the drops of the
-//! core's messages and the texts of its errors, and the cell's steps, drops, threads and wakes.
+//! Tests of the core and of the hand-over cell: that calls succeed with ample memory, the texts of the
+//! core's errors, and the cell's steps, drops, threads and wakes.
 #![tactic(auto)]
 
 #[cfg(test)]
@@ -14,8 +14,6 @@ mod core_buffer;
 mod core_calls;
 #[cfg(test)]
 mod core_drains;
-#[cfg(test)]
-mod core_drops;
 #[cfg(test)]
 mod core_handles;
 #[cfg(test)]

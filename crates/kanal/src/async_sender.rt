@@ -5,6 +5,7 @@
 ghost use Rattle.std.specs.Prelude.{◌≡◌, ◌≢◌, IsSome, Some, None, Ok, true, false, codes};
 ghost use Rattle.kanal_shared.specs.Futures.{send_is_over};
 
+use crate::options::{answer_of, restored, taken};
 use crate::sender::Sender;
 use crate::sender_view::SenderView;
 use kanal_core::error::{CloseError, SendError, TooMany};
@@ -73,8 +74,7 @@ impl<T: Drop> AsyncSender<T> {
     /// sender.try_send(&rt, 2)   answers  Ok(false)   after that
     /// ```
     pub fn try_send<R: Wait>(&self, rt: &R, message: T) -> Result<bool, SendError> {
-        let mut option = Some(message);
-        self.try_send_option(rt, &mut option)
+        answer_of(self.shared.offer(rt, message))
     }
 
     /// Sends the option's message where there is a place for it, and empties the option exactly
@@ -100,7 +100,8 @@ impl<T: Drop> AsyncSender<T> {
         ensures sent { result ≡ Ok true → option.new ≡ None }
         ensures kept { result ≢ Ok true → option.new ≡ option.old }
     {
-        self.shared.try_send_option(rt, option)
+        let message = taken(option);
+        restored(self.shared.offer(rt, message), option)
     }
 
     /// Sends the message where there is a place for it and the lock is free: it waits for nobody.
@@ -114,8 +115,7 @@ impl<T: Drop> AsyncSender<T> {
     /// sender.try_send_realtime(1)   answers  Ok(true)   in a new bounded channel for one
     /// ```
     pub fn try_send_realtime(&self, message: T) -> Result<bool, SendError> {
-        let mut option = Some(message);
-        self.try_send_option_realtime(&mut option)
+        answer_of(self.shared.offer_realtime(message))
     }
 
     /// Sends the option's message where there is a place for it and the lock is free, and empties
@@ -137,7 +137,8 @@ impl<T: Drop> AsyncSender<T> {
         ensures sent { result ≡ Ok true → option.new ≡ None }
         ensures kept { result ≢ Ok true → option.new ≡ option.old }
     {
-        self.shared.try_send_option_realtime(option)
+        let message = taken(option);
+        restored(self.shared.offer_realtime(message), option)
     }
 
     /// One more sender of the channel. Where no sender is left it stays so, and the answer is still

@@ -25,6 +25,7 @@ mod async_receiver;
 mod async_sender;
 mod channel;
 mod messages;
+mod options;
 mod receiver;
 mod receiver_view;
 mod sender;

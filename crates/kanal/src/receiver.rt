@@ -64,7 +64,7 @@ impl<T: Drop> Receiver<T> {
         duration: Duration,
         clock: &C,
     ) -> Result<T, ReceiveErrorTimeout> {
-        self.inner.shared().recv_timeout(rt, duration, clock)
+        self.inner.shared().recv_before(rt, duration, clock)
     }
 
     /// Receives the front message, if there is one. `Ok(None)` says that there is none. It waits for

@@ -64,7 +64,7 @@ impl<T: Drop> ReceiverView<'_, T> {
         duration: Duration,
         clock: &C,
     ) -> Result<T, ReceiveErrorTimeout> {
-        self.receiver.shared().recv_timeout(rt, duration, clock)
+        self.receiver.shared().recv_before(rt, duration, clock)
     }
 
     /// Receives the front message, if there is one. `Ok(None)` says that there is none. It waits for

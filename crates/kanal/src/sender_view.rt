@@ -6,6 +6,7 @@ ghost use Rattle.std.specs.Prelude.{◌≡◌, ◌≢◌, IsSome, None, Ok, true
 ghost use Rattle.kanal_shared.specs.Timed.{StartedNoWait};
 
 use crate::async_sender::AsyncSender;
+use crate::options::{restored_late, taken, timed_answer_of};
 use kanal_core::error::{CloseError, SendError, SendErrorTimeout};
 use kanal_shared::Clock;
 use std::sync::Wait;
@@ -63,9 +64,8 @@ impl<T: Drop> SenderView<'_, T> {
         duration: Duration,
         clock: &C,
     ) -> Result<(), SendErrorTimeout> {
-        self.sender
-            .shared()
-            .send_timeout(rt, message, duration, clock)
+        let shared = self.sender.shared();
+        timed_answer_of(shared.send_before(rt, message, duration, clock))
     }
 
     /// Sends the option's message as `send_timeout`, and empties the option exactly where it was sent.
@@ -94,7 +94,8 @@ impl<T: Drop> SenderView<'_, T> {
         ensures kept { IfErr result (λ e. StartedNoWait e → option.new ≡ option.old) }
     {
         let shared = self.sender.shared();
-        shared.send_option_timeout(rt, option, duration, clock)
+        let message = taken(option);
+        restored_late(shared.send_before(rt, message, duration, clock), option)
     }
 
     /// Sends the message where there is a place for it. `Ok(false)` says that there is none, and the

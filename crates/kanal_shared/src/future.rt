@@ -19,6 +19,7 @@ use futures::task::{Context, Poll, Source, Waker};
 use kanal_cell::signal;
 use kanal_cell::signal::WaitEnd;
 use kanal_core::internal::{Outcome, Ticket};
+use kanal_steps::owed::Owed;
 use kanal_steps::seat::Seat;
 use kanal_steps::steps;
 pub use receive::ReceiveFuture;
@@ -115,11 +116,11 @@ impl Wakers {
             return Poll::Ready(outcome);
         }
         let pending = cx.register(&self.source, &mut self.spare);
-        let Some(mut acquired) = shared.try_lock() else {
+        let Some((mut locked, left)) = shared.try_hold() else {
             return cx.yield_now();
         };
-        let waits = steps::renew(&mut acquired.core, started.ticket, &mut self.spare);
-        shared.release_acquired(acquired, None);
+        let waits = steps::renew(&mut locked.core, started.ticket, &mut self.spare);
+        locked.give_back_left(left, Owed::nothing());
         if waits { pending } else { cx.yield_now() }
     }
 }

@@ -16,4 +16,4 @@ mod shared;
 
 pub use clock::{Clock, SystemClock};
 pub use future::{ReceiveFuture, ReceiveStream, SendFuture};
-pub use shared::Shared;
+pub use shared::{Locked, Shared};

@@ -10,10 +10,10 @@ mod timed;
 use crate::sending::wait;
 use crate::shared::Shared;
 use kanal_core::error::ReceiveError;
-use kanal_core::internal::{Outcome, Reason, Ticket};
+use kanal_core::internal::{Outcome, Reason};
 use kanal_steps::seat::Seat;
 use kanal_steps::steps;
-use kanal_steps::steps::{Received, Tried};
+use kanal_steps::steps::Received;
 use std::sync::Wait;
 
 /// What the end of a receiver's wait answers.
@@ -24,15 +24,6 @@ pub(crate) fn answer_of<T: Drop>(outcome: Outcome<T>) -> Result<T, ReceiveError>
         Outcome::Ended(_reason, _message) => Err(ReceiveError::Closed),
         Outcome::Taken => Err(ReceiveError::Closed),
     }
-}
-
-/// What a receive with the seat of a wait came to, where it was not refused.
-#[derive(Drop)]
-pub(crate) enum Seated<T> {
-    /// The front message.
-    Got(T),
-    /// The receiver waits.
-    Waits(Ticket),
 }
 
 impl<T: Drop> Shared<T> {
@@ -47,9 +38,9 @@ impl<T: Drop> Shared<T> {
     /// shared.try_recv(&rt)   answers  Ok(None)   in a new channel
     /// ```
     pub fn try_recv<R: Wait>(&self, rt: &R) -> Result<Option<T>, ReceiveError> {
-        let mut guard = self.lock(rt);
-        let Tried { answer, settled } = steps::try_recv(&mut guard);
-        self.release(guard, settled);
+        let mut locked = self.hold(rt);
+        let (answer, owed) = steps::try_recv(&mut locked.core);
+        locked.give_back(owed);
         answer
     }
 
@@ -64,11 +55,11 @@ impl<T: Drop> Shared<T> {
     /// shared.try_recv_realtime()   answers  Ok(Some(1))   where 1 was sent
     /// ```
     pub fn try_recv_realtime(&self) -> Result<Option<T>, ReceiveError> {
-        let Some(mut acquired) = self.try_lock() else {
+        let Some((mut locked, left)) = self.try_hold() else {
             return Ok(None);
         };
-        let Tried { answer, settled } = steps::try_recv(&mut acquired.core);
-        self.release_acquired(acquired, settled);
+        let (answer, owed) = steps::try_recv(&mut locked.core);
+        locked.give_back_left(left, owed);
         answer
     }
 
@@ -88,17 +79,10 @@ impl<T: Drop> Shared<T> {
         ensures refused { IfErr result (λ _. into.new.items ≡ into.old.items) }
         ensures no_growth { OnErr result (vec_capacity into.new ≡ vec_capacity into.old) }
     {
-        let mut guard = self.lock(rt);
-        match steps::drain(&mut guard, into) {
-            Ok((count, ended)) => {
-                self.release_all(guard, ended);
-                Ok(count)
-            },
-            Err(error) => {
-                self.unlock(guard);
-                Err(error)
-            },
-        }
+        let mut locked = self.hold(rt);
+        let (drained, owed) = steps::drain(&mut locked.core, into);
+        locked.give_back(owed);
+        drained
     }
 
     /// Receives a message, and waits where there is none.
@@ -123,28 +107,18 @@ impl<T: Drop> Shared<T> {
         let Some((waiting, seat)) = wait(self.alloc) else {
             return Err(ReceiveError::NoMemory);
         };
-        match self.recv_seated(rt, seat)? {
-            Seated::Got(message) => Ok(message),
-            Seated::Waits(_ticket) => answer_of(waiting.outcome(rt)),
+        match self.recv_seated(rt, seat) {
+            Received::Got(message, _seat) => Ok(message),
+            Received::Waits(_ticket) => answer_of(waiting.outcome(rt)),
+            Received::Refused(error, _seat) => Err(error),
         }
     }
 
     /// Takes the front message, or starts a wait with the seat where there is none.
-    fn recv_seated<R: Wait>(&self, rt: &R, seat: Box<Seat<T>>) -> Result<Seated<T>, ReceiveError> {
-        let mut guard = self.lock(rt);
-        match steps::recv(&mut guard, seat) {
-            Received::Got(message, settled, _seat) => {
-                self.release(guard, settled);
-                Ok(Seated::Got(message))
-            },
-            Received::Waits(ticket) => {
-                self.unlock(guard);
-                Ok(Seated::Waits(ticket))
-            },
-            Received::Refused(error, _seat) => {
-                self.unlock(guard);
-                Err(error)
-            },
-        }
+    fn recv_seated<R: Wait>(&self, rt: &R, seat: Box<Seat<T>>) -> Received<T> {
+        let mut locked = self.hold(rt);
+        let (received, owed) = steps::recv(&mut locked.core, seat);
+        locked.give_back(owed);
+        received
     }
 }

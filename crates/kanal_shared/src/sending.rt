@@ -2,9 +2,10 @@
 //!
 //! Stands on the lock, on the steps and on how a blocked call waits. The message is offered first;
 //! only where there is no place for it is the memory of a wait asked for.
-ghost use Rattle.std.specs.Prelude.{◌≡◌, ◌≢◌, IsSome, None, Ok, true, IfErr, IfSome};
+ghost use Rattle.std.specs.Prelude.{◌≡◌, IfSome};
 ghost use Rattle.kanal_cell.specs.CellEnds.{AreOfOneCell};
 ghost use Rattle.kanal_steps.specs.Seats.{end_of};
+ghost use Rattle.kanal_steps.specs.Steps.{IfRefused, back_of};
 ghost use Rattle.kanal_shared.specs.Waits.{end_at};
 
 mod timed;
@@ -13,10 +14,10 @@ use crate::backoff::Waiting;
 use crate::shared::Shared;
 use kanal_cell::signal;
 use kanal_core::error::SendError;
-use kanal_core::internal::{Outcome, Reason, Ticket};
+use kanal_core::internal::{Outcome, Reason};
 use kanal_steps::seat::Seat;
 use kanal_steps::steps;
-use kanal_steps::steps::{Sent, Tried};
+use kanal_steps::steps::{Offered, Sent};
 use std::alloc::Global;
 use std::sync::Wait;
 
@@ -41,78 +42,56 @@ pub(crate) fn wait<T: Drop>(alloc: Global) -> Option<(Waiting<Outcome<T>>, Box<S
 }
 
 impl<T: Drop> Shared<T> {
-    /// Sends the option's message where there is a place for it, and empties the option exactly
-    /// then. It waits for the lock.
+    /// Offers the message: it enters where there is a place for it, and comes back otherwise. It waits
+    /// for the lock.
     ///
-    /// The caller knows that the option holds a message. `Ok(false)` says that there is no place.
-    ///
-    /// # Errors
-    /// `Closed` and `ReceiveClosed` where no receiver is left, and `NoMemory` where memory was
-    /// refused. The option holds the same message then.
+    /// It is refused as `Closed` or `ReceiveClosed` where no receiver is left, and as `NoMemory` where
+    /// memory was refused.
     ///
     /// # Examples
     /// ```text
-    /// let mut option = Some(1);
-    /// shared.try_send_option(&rt, &mut option)   answers  Ok(false)   at capacity 0
-    /// option   is  Some(1)
+    /// shared.offer(&rt, 1)   answers  Full(1)   at capacity 0, where nobody waits for a message
     /// ```
-    pub fn try_send_option<R: Wait>(
-        &self,
-        rt: &R,
-        option: &mut Option<T>,
-    ) -> Result<bool, SendError>
-        requires { IsSome option.old }
-        ensures sent { result ≡ Ok true → option.new ≡ None }
-        ensures kept { result ≢ Ok true → option.new ≡ option.old }
+    pub fn offer<R: Wait>(&self, rt: &R, message: T) -> Offered<T>
+        ensures back { IfSome (back_of result) (λ back. back ≡ message) }
     {
-        let mut guard = self.lock(rt);
-        let Tried { answer, settled } = steps::try_send(&mut guard, option);
-        self.release(guard, settled);
-        answer
+        let mut locked = self.hold(rt);
+        let (offered, owed) = steps::try_send(&mut locked.core, message);
+        locked.give_back(owed);
+        offered
     }
 
-    /// The same, where the lock is free: it waits for nobody. `Ok(false)` says that there is no place
-    /// or the lock was held.
-    ///
-    /// # Errors
-    /// As `try_send_option`.
+    /// The same, where the lock is free: it waits for nobody. Where the lock is held there is no place.
     ///
     /// # Examples
     /// ```text
-    /// let mut option = Some(1);
-    /// shared.try_send_option_realtime(&mut option)   answers  Ok(true)   in a new bounded channel
-    /// option   is  None
+    /// shared.offer_realtime(1)   answers  Entered   in a new bounded channel for one
     /// ```
-    pub fn try_send_option_realtime(&self, option: &mut Option<T>) -> Result<bool, SendError>
-        requires { IsSome option.old }
-        ensures sent { result ≡ Ok true → option.new ≡ None }
-        ensures kept { result ≢ Ok true → option.new ≡ option.old }
+    pub fn offer_realtime(&self, message: T) -> Offered<T>
+        ensures back { IfSome (back_of result) (λ back. back ≡ message) }
     {
-        let Some(mut acquired) = self.try_lock() else {
-            return Ok(false);
+        let Some((mut locked, left)) = self.try_hold() else {
+            return Offered::Full(message);
         };
-        let Tried { answer, settled } = steps::try_send(&mut acquired.core, option);
-        self.release_acquired(acquired, settled);
-        answer
+        let (offered, owed) = steps::try_send(&mut locked.core, message);
+        locked.give_back_left(left, owed);
+        offered
     }
 
     /// Sends the message, and waits where there is no place for it.
     ///
     /// # Errors
-    /// As `try_send_option`, and `TooMany` where the tickets are used up. The message is dropped then.
+    /// As `offer`, and `TooMany` where the tickets are used up. The message is dropped then.
     ///
     /// # Examples
     /// ```text
     /// shared.send_blocking(&rt, 7)   answers  Ok(())   in a channel with a place
     /// ```
     pub fn send_blocking<R: Wait>(&self, rt: &R, message: T) -> Result<(), SendError> {
-        let mut option = Some(message);
-        if self.try_send_option(rt, &mut option)? {
-            return Ok(());
-        }
-        match option {
-            Some(message) => self.send_waiting(rt, message),
-            None => unreachable!(),
+        match self.offer(rt, message) {
+            Offered::Entered => Ok(()),
+            Offered::Full(message) => self.send_waiting(rt, message),
+            Offered::Refused(error, _message) => Err(error),
         }
     }
 
@@ -122,36 +101,19 @@ impl<T: Drop> Shared<T> {
             return Err(SendError::NoMemory);
         };
         match self.send_seated(rt, message, seat) {
-            Ok(None) => Ok(()),
-            Ok(Some(_ticket)) => answer_of(waiting.outcome(rt)),
-            Err((error, _message)) => Err(error),
+            Sent::Entered(_seat) => Ok(()),
+            Sent::Waits(_ticket) => answer_of(waiting.outcome(rt)),
+            Sent::Refused(error, _message, _seat) => Err(error),
         }
     }
 
-    /// Offers the message with the seat of a wait: `None` where it entered, and the wait's ticket where
-    /// there was no place. A refused message comes back.
-    fn send_seated<R: Wait>(
-        &self,
-        rt: &R,
-        message: T,
-        seat: Box<Seat<T>>,
-    ) -> Result<Option<Ticket>, (SendError, T)>
-        ensures refused { IfErr result (λ e. e.1 ≡ message) }
+    /// Offers the message, and starts its wait with the seat where there is no place for it.
+    fn send_seated<R: Wait>(&self, rt: &R, message: T, seat: Box<Seat<T>>) -> Sent<T>
+        ensures refused { IfRefused result (λ back. back ≡ message) }
     {
-        let mut guard = self.lock(rt);
-        match steps::send(&mut guard, message, seat) {
-            Sent::Entered(settled, _seat) => {
-                self.release(guard, settled);
-                Ok(None)
-            },
-            Sent::Waits(ticket) => {
-                self.unlock(guard);
-                Ok(Some(ticket))
-            },
-            Sent::Refused(error, back, _seat) => {
-                self.unlock(guard);
-                Err((error, back))
-            },
-        }
+        let mut locked = self.hold(rt);
+        let (sent, owed) = steps::send(&mut locked.core, message, seat);
+        locked.give_back(owed);
+        sent
     }
 }

@@ -7,7 +7,7 @@ use Rattle.kanal_core.specs.Waiters.{waiter_of, without}
 use Rattle.kanal_core.specs.Calls.{Withdraws}
 use Rattle.kanal_steps.specs.declared.settler.Settler.{Settler}
 use Rattle.kanal_steps.specs.declared.seat.Seat.{Seat, Seat', Held-Seat-next, None', Some'}
-use Rattle.kanal_steps.specs.Steps.{Boxed}
+use Rattle.kanal_steps.specs.Seats.{Boxed}
 
 -- the end that a seat brought
 abbrev pub settler_of : {T : Type 0} → Seat T → Settler T

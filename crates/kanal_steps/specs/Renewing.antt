@@ -6,8 +6,7 @@ use Rattle.kanal_core.specs.Waiters.{waiter_of, with_w}
 use Rattle.kanal_core.specs.declared.internal.outcome.Ticket.{Ticket}
 use Rattle.kanal_core.specs.declared.internal.outcome.Waiter.{Waiter}
 use Rattle.kanal_steps.specs.declared.seat.Seat.{Seat}
-use Rattle.kanal_steps.specs.Seats.{end_of}
-use Rattle.kanal_steps.specs.Steps.{Boxed}
+use Rattle.kanal_steps.specs.Seats.{Boxed, end_of}
 
 -- the waker that a seat's settling will wake
 abbrev pub waker_of : {T : Type 0} → Seat T → Option Waker

@@ -1,7 +1,8 @@
 -- What each step of a handle does to the line, and who leaves or joins those that wait.
-use Rattle.std.specs.Prelude.{◌≡◌, ◌≢◌, ◌⊎◌, ◌<◌, ◌+◌, ◌-◌, ◌==◌, ◌&&◌, nat_lt, not, cond, length, ℕ, zero, suc, Bool, true, false, List, [], ◌∷◌, ◌++◌, Option, Some, None, Result, Ok, Err, Box}
-use Rattle.std.specs.declared.alloc.Global.{Global}
+use Rattle.std.specs.Prelude.{◌≡◌, ◌≢◌, ◌⊎◌, ◌<◌, ◌+◌, ◌-◌, ◌==◌, ◌&&◌, nat_lt, not, cond, length, ℕ, zero, suc, Bool, true, false, List, [], ◌∷◌, ◌++◌, Option, Some, None, Result, Ok, Err}
 use Rattle.kanal_core.specs.declared.internal.outcome.Outcome.{Outcome}
+use Rattle.kanal_core.specs.declared.internal.outcome.Settled.{Settled}
+use Rattle.kanal_core.specs.declared.internal.outcome.Ticket.{Ticket}
 use Rattle.kanal_core.specs.declared.internal.outcome.Waiter.{Waiter}
 use Rattle.kanal_core.specs.declared.error.SendError.{SendError}
 use Rattle.kanal_core.specs.declared.error.SendError.TheVariants.{Closed as SendToClosed, ReceiveClosed, NoMemory as SendNoMemory, TooMany as SendTooMany, Finished as SendFinished}
@@ -11,18 +12,17 @@ use Rattle.kanal_core.specs.declared.error.ReceiveErrorTimeout.{ReceiveErrorTime
 use Rattle.kanal_core.specs.declared.error.ReceiveErrorTimeout.TheVariants.{Closed as LateClosed, SendClosed as LateSendClosed, Timeout as LateTimeout, NoMemory as LateNoMemory, TooMany as LateTooMany, DeadlineOutOfRange as LateOutOfRange}
 use Rattle.kanal_core.specs.Line.{Line, has_place, last_word}
 use Rattle.kanal_core.specs.Moves.{Moved, quiet, wait_send, wait_recv}
-use Rattle.kanal_core.specs.Channel.{Channel, settlements}
+use Rattle.kanal_core.specs.Channel.{Channel}
 use Rattle.kanal_core.specs.Tickets.{number_of}
 use Rattle.kanal_core.specs.Calls.{Enters, TakesFront, Stays, IsFull, IsEmpty, OldestLeft}
+use Rattle.kanal_steps.specs.declared.steps.Offered.{Offered}
+use Rattle.kanal_steps.specs.declared.steps.Offered.TheVariants.{Entered as OfferEntered, Full as OfferFull, Refused as OfferRefused}
 use Rattle.kanal_steps.specs.declared.steps.Sent.{Sent}
-use Rattle.kanal_steps.specs.declared.steps.Sent.TheVariants.{Entered, Waits as SendWaits, Refused as SendRefused}
+use Rattle.kanal_steps.specs.declared.steps.Sent.TheVariants.{Entered as SendEntered, Waits as SendWaits, Refused as SendRefused}
 use Rattle.kanal_steps.specs.declared.steps.Received.{Received}
 use Rattle.kanal_steps.specs.declared.steps.Received.TheVariants.{Got, Waits as ReceiveWaits, Refused as ReceiveRefused}
-use Rattle.kanal_steps.specs.declared.seat.Seat.{Seat}
-
--- a seat in memory of its own
-abbrev pub Boxed : Type 0 → Type 0
-Boxed T = Box (Seat T) Global
+use Rattle.kanal_steps.specs.Owing.{first}
+use Rattle.kanal_steps.specs.Seats.{Boxed}
 
 -- a buffer without limit may have found no memory to grow
 abbrev pub MayNotGrow : {T : Type 0} → Line T → Type 0
@@ -36,13 +36,17 @@ RefusesOffer old SendNoMemory = (old.receivers ≢ 0) × MayNotGrow old
 RefusesOffer old SendTooMany = ⊥
 RefusesOffer old SendFinished = ⊥
 
--- why a send that may wait is refused
+-- why the wait of a send that found no place is refused
+abbrev pub RefusesWaitingSend : {T : Type 0} → Line T → SendError → Type 0
+RefusesWaitingSend old SendNoMemory = old.next ≢ last_word
+RefusesWaitingSend old SendTooMany = old.next ≡ last_word
+RefusesWaitingSend old SendToClosed = ⊥
+RefusesWaitingSend old ReceiveClosed = ⊥
+RefusesWaitingSend old SendFinished = ⊥
+
+-- why a send that may wait is refused: as one that doesn't, or its wait is
 abbrev pub RefusesSend : {T : Type 0} → Line T → SendError → Type 0
-RefusesSend old SendToClosed = (old.receivers ≡ 0) × (old.senders ≡ 0)
-RefusesSend old ReceiveClosed = (old.receivers ≡ 0) × (old.senders ≢ 0)
-RefusesSend old SendNoMemory = ((old.receivers ≢ 0) × MayNotGrow old) ⊎ (IsFull old × (old.next ≢ last_word))
-RefusesSend old SendTooMany = IsFull old × (old.next ≡ last_word)
-RefusesSend old SendFinished = ⊥
+RefusesSend old reason = RefusesOffer old reason ⊎ (IsFull old × RefusesWaitingSend old reason)
 
 -- why a receive that doesn't wait is refused
 abbrev pub RefusesTake : {T : Type 0} → Line T → ReceiveError → Type 0
@@ -51,6 +55,14 @@ RefusesTake old SendClosed = (old.receivers ≢ 0) × (old.line ≡ []) × (old.
 RefusesTake old ReceiveNoMemory = ⊥
 RefusesTake old ReceiveTooMany = ⊥
 RefusesTake old ReceiveFinished = ⊥
+
+-- why the wait of a receive that found no message is refused
+abbrev pub RefusesWaitingReceive : {T : Type 0} → Line T → ReceiveError → Type 0
+RefusesWaitingReceive old ReceiveNoMemory = old.next ≢ last_word
+RefusesWaitingReceive old ReceiveTooMany = old.next ≡ last_word
+RefusesWaitingReceive old ReceiveFromClosed = ⊥
+RefusesWaitingReceive old SendClosed = ⊥
+RefusesWaitingReceive old ReceiveFinished = ⊥
 
 -- why a receive whose deadline had passed is refused
 abbrev pub RefusesLate : {T : Type 0} → Line T → ReceiveErrorTimeout → Type 0
@@ -61,13 +73,9 @@ RefusesLate old LateNoMemory = ⊥
 RefusesLate old LateTooMany = ⊥
 RefusesLate old LateOutOfRange = ⊥
 
--- why a receive that may wait is refused
+-- why a receive that may wait is refused: as one that doesn't, or its wait is
 abbrev pub RefusesReceive : {T : Type 0} → Line T → ReceiveError → Type 0
-RefusesReceive old ReceiveFromClosed = old.receivers ≡ 0
-RefusesReceive old SendClosed = (old.receivers ≢ 0) × (old.line ≡ []) × (old.senders ≡ 0)
-RefusesReceive old ReceiveNoMemory = IsEmpty old × (old.next ≢ last_word)
-RefusesReceive old ReceiveTooMany = IsEmpty old × (old.next ≡ last_word)
-RefusesReceive old ReceiveFinished = ⊥
+RefusesReceive old reason = RefusesTake old reason ⊎ (IsEmpty old × RefusesWaitingReceive old reason)
 
 -- why a drain is refused, into a vector of this length and this capacity
 abbrev pub RefusesDrain : {T : Type 0} → Line T → ℕ → ℕ → ReceiveError → Type 0
@@ -99,17 +107,24 @@ module _ {T W : Type 0} where
   abbrev pub receivers_dropped : ℕ → Channel T W → Channel T W
   receivers_dropped drops c = record c { waiters = cond (drops_last drops c.receivers) [] c.waiters; receivers = c.receivers - drops }
 
--- the waits that a step ended, if there were some
-abbrev pub all_of : {A : Type 0} → Option (List A) → List A
-all_of None = []
-all_of (Some all) = all
-
 module _ {T : Type 0} where
-  -- a message was offered by a call that doesn't wait: it entered, there was no place, or it was refused
-  abbrev pub TriesToSend : Line T → T → Result Bool SendError → List (ℕ × Outcome T) → Line T → Type 0
-  TriesToSend old m (Ok true) settled new = Enters old m settled new
-  TriesToSend old m (Ok false) settled new = Stays old new × (has_place old ≡ false) × (settled ≡ [])
-  TriesToSend old m (Err reason) settled new = RefusesOffer old reason × (new ≡ old) × (settled ≡ [])
+  -- a message was offered by a call that doesn't wait: it entered, there was no place, or it was refused and came back
+  abbrev pub TriesToSend : Line T → T → Offered T → List (ℕ × Outcome T) → Line T → Type 0
+  TriesToSend old m OfferEntered settled new = Enters old m settled new
+  TriesToSend old m (OfferFull back) settled new = Stays old new × (has_place old ≡ false) × (back ≡ m) × (settled ≡ [])
+  TriesToSend old m (OfferRefused reason back) settled new = RefusesOffer old reason × (back ≡ m) × (new ≡ old) × (settled ≡ [])
+
+  -- the message that comes back from an offer, if it does
+  abbrev pub back_of : Offered T → Option T
+  back_of OfferEntered = None
+  back_of (OfferFull back) = Some back
+  back_of (OfferRefused reason back) = Some back
+
+  -- a fact of the message that comes back from a send, if it does
+  abbrev pub IfRefused : Sent T → (T → Type 0) → Type 0
+  IfRefused (SendEntered seat) Fact = Unit {0}
+  IfRefused (SendWaits ticket) Fact = Unit {0}
+  IfRefused (SendRefused reason back seat) Fact = Fact back
 
   -- a message was asked for by a call that doesn't wait: it got the front, there was none, or it was refused
   abbrev pub TriesToReceive : Line T → Result (Option T) ReceiveError → List (ℕ × Outcome T) → Line T → Type 0
@@ -122,26 +137,46 @@ module _ {T : Type 0} where
   ReceivesLate old (Ok m) settled new = TakesFront old m settled new
   ReceivesLate old (Err reason) settled new = RefusesLate old reason × (new ≡ old) × (settled ≡ [])
 
+  -- a send that found no place waits, or it was refused and came back
+  abbrev pub WaitsToSend : Line T → T → Result Ticket (SendError × T × Boxed T) → Line T → Type 0
+  WaitsToSend old m (Ok ticket) new = (number_of ticket ≡ old.next) × (new ≡ wait_send old m)
+  WaitsToSend old m (Err back) new = RefusesWaitingSend old back.0 × (back.1 ≡ m) × (new ≡ old)
+
+  -- who joined those that wait by a send that found no place, whose seat came back where it doesn't wait
+  abbrev pub WaitingSeats : List (Waiter T (Boxed T)) → T → Boxed T → Result Ticket (SendError × T × Boxed T) → List (Waiter T (Boxed T)) → Type 0
+  WaitingSeats old m seat (Ok ticket) new = new ≡ old ++ record { ticket = ticket; message = Some m; w = seat } ∷ []
+  WaitingSeats old m seat (Err back) new = (new ≡ old) × (back.2 ≡ seat)
+
   -- a message was sent: it entered, it waits, or it was refused and came back
-  abbrev pub Sends : Line T → T → Sent T → Line T → Type 0
-  Sends old m (Entered settled seat) new = Enters old m (settlements settled) new
-  Sends old m (SendWaits ticket) new = IsFull old × (number_of ticket ≡ old.next) × (new ≡ wait_send old m)
-  Sends old m (SendRefused reason back seat) new = RefusesSend old reason × (back ≡ m) × (new ≡ old)
+  abbrev pub Sends : Line T → T → Sent T → List (ℕ × Outcome T) → Line T → Type 0
+  Sends old m (SendEntered seat) settled new = Enters old m settled new
+  Sends old m (SendWaits ticket) settled new = IsFull old × (number_of ticket ≡ old.next) × (new ≡ wait_send old m) × (settled ≡ [])
+  Sends old m (SendRefused reason back seat) settled new = RefusesSend old reason × (back ≡ m) × (new ≡ old) × (settled ≡ [])
 
   -- who left or joined those that wait by a send, whose seat came back where it doesn't wait
-  abbrev pub SendSeats : List (Waiter T (Boxed T)) → T → Boxed T → Sent T → List (Waiter T (Boxed T)) → Type 0
-  SendSeats old m seat (Entered settled back) new = OldestLeft old settled new × (back ≡ seat)
-  SendSeats old m seat (SendWaits ticket) new = new ≡ old ++ record { ticket = ticket; message = Some m; w = seat } ∷ []
-  SendSeats old m seat (SendRefused reason message back) new = (new ≡ old) × (back ≡ seat)
+  abbrev pub SendSeats : List (Waiter T (Boxed T)) → T → Boxed T → Sent T → List (Settled T (Boxed T)) → List (Waiter T (Boxed T)) → Type 0
+  SendSeats old m seat (SendEntered back) settled new = OldestLeft old (first settled) new × (back ≡ seat)
+  SendSeats old m seat (SendWaits ticket) settled new = new ≡ old ++ record { ticket = ticket; message = Some m; w = seat } ∷ []
+  SendSeats old m seat (SendRefused reason message back) settled new = (new ≡ old) × (back ≡ seat)
+
+  -- a receive that found no message waits, or it was refused
+  abbrev pub WaitsToReceive : Line T → Result Ticket (ReceiveError × Boxed T) → Line T → Type 0
+  WaitsToReceive old (Ok ticket) new = (number_of ticket ≡ old.next) × (new ≡ wait_recv old)
+  WaitsToReceive old (Err back) new = RefusesWaitingReceive old back.0 × (new ≡ old)
+
+  -- who joined those that wait by a receive that found no message, whose seat came back where it doesn't wait
+  abbrev pub AwaitingSeats : List (Waiter T (Boxed T)) → Boxed T → Result Ticket (ReceiveError × Boxed T) → List (Waiter T (Boxed T)) → Type 0
+  AwaitingSeats old seat (Ok ticket) new = new ≡ old ++ record { ticket = ticket; message = None; w = seat } ∷ []
+  AwaitingSeats old seat (Err back) new = (new ≡ old) × (back.1 ≡ seat)
 
   -- a message was received: it was the front, the receiver waits, or it was refused
-  abbrev pub Receives : Line T → Received T → Line T → Type 0
-  Receives old (Got m settled seat) new = TakesFront old m (settlements settled) new
-  Receives old (ReceiveWaits ticket) new = IsEmpty old × (number_of ticket ≡ old.next) × (new ≡ wait_recv old)
-  Receives old (ReceiveRefused reason seat) new = RefusesReceive old reason × (new ≡ old)
+  abbrev pub Receives : Line T → Received T → List (ℕ × Outcome T) → Line T → Type 0
+  Receives old (Got m seat) settled new = TakesFront old m settled new
+  Receives old (ReceiveWaits ticket) settled new = IsEmpty old × (number_of ticket ≡ old.next) × (new ≡ wait_recv old) × (settled ≡ [])
+  Receives old (ReceiveRefused reason seat) settled new = RefusesReceive old reason × (new ≡ old) × (settled ≡ [])
 
   -- who left or joined those that wait by a receive, whose seat came back where it doesn't wait
-  abbrev pub ReceiveSeats : List (Waiter T (Boxed T)) → Boxed T → Received T → List (Waiter T (Boxed T)) → Type 0
-  ReceiveSeats old seat (Got m settled back) new = OldestLeft old settled new × (back ≡ seat)
-  ReceiveSeats old seat (ReceiveWaits ticket) new = new ≡ old ++ record { ticket = ticket; message = None; w = seat } ∷ []
-  ReceiveSeats old seat (ReceiveRefused reason back) new = (new ≡ old) × (back ≡ seat)
+  abbrev pub ReceiveSeats : List (Waiter T (Boxed T)) → Boxed T → Received T → List (Settled T (Boxed T)) → List (Waiter T (Boxed T)) → Type 0
+  ReceiveSeats old seat (Got m back) settled new = OldestLeft old (first settled) new × (back ≡ seat)
+  ReceiveSeats old seat (ReceiveWaits ticket) settled new = new ≡ old ++ record { ticket = ticket; message = None; w = seat } ∷ []
+  ReceiveSeats old seat (ReceiveRefused reason back) settled new = (new ≡ old) × (back ≡ seat)

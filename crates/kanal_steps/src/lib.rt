@@ -7,6 +7,7 @@
 //! lock was released.
 #![tactic(auto)]
 
+pub mod owed;
 pub mod seat;
 pub mod settler;
 pub mod steps;

@@ -72,12 +72,7 @@ impl<T: Drop> Seat<T> {
 }
 
 /// Settles a wait that left the core: its waiter has the outcome, and is woken. The lock is released.
-///
-/// # Examples
-/// ```text
-/// settle(settled)   hands `settled.outcome` to who waits
-/// ```
-pub fn settle<T: Drop>(settled: Settled<T, Box<Seat<T>>>) {
+pub(crate) fn settle<T: Drop>(settled: Settled<T, Box<Seat<T>>>) {
     let Settled {
         ticket: _,
         w,
@@ -94,12 +89,7 @@ pub fn settle<T: Drop>(settled: Settled<T, Box<Seat<T>>>) {
 }
 
 /// Settles all waits that a step ended, oldest first. The lock is released.
-///
-/// # Examples
-/// ```text
-/// settle_all(ended)   hands each its outcome
-/// ```
-pub fn settle_all<T: Drop>(ended: Ended<T, Box<Seat<T>>>) {
+pub(crate) fn settle_all<T: Drop>(ended: Ended<T, Box<Seat<T>>>) {
     let mut waits = ended;
     while let Some(settled) = waits.next() {
         settle(settled);

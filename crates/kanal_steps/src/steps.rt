@@ -1,49 +1,47 @@
 //! The steps of the handles, each a function that is lent the core.
 //!
 //! Stands on the core's contracts. A step says in the line's terms what it did, and hands out all
-//! that left the core; nothing is settled or let go here, since the lock is held. A handle changes a
-//! core by a step or by the core's own calls, and by nothing else.
-ghost use Rattle.std.specs.Prelude.{◌≡◌, ◌≢◌, ◌↔◌, ◌+◌, ◌≤◌, ◌++◌, List, [], ◌∷◌, IsSome, Some, None, Ok, true, cond, map, length, IfOk, IfErr, OnErr, IsErrOf, MatchOption};
+//! that left the core; what it owes to those whose waits it settled or ended is an `Owed`. Nothing is
+//! settled or let go here, since the lock is held. A handle changes a core by a step or by the core's
+//! own calls, and by nothing else.
+ghost use Rattle.std.specs.Prelude.{◌≡◌, ◌↔◌, ◌+◌, ◌≤◌, ◌++◌, List, [], ◌∷◌, IsSome, true, cond, map, length, IfOk, IfErr, OnErr, IsErr, IsErrOf};
 ghost use Rattle.std.specs.Vec.{vec_capacity, vec_len};
 ghost use Rattle.kanal_core.specs.Line.{messages};
-ghost use Rattle.kanal_core.specs.Moves.{drain, drop_receiver, drop_sender};
-ghost use Rattle.kanal_core.specs.Channel.{drained, ended_by, line_of, settlement, settlements, taken_by};
+ghost use Rattle.kanal_core.specs.Moves.{cleared, close, drain, drop_receiver, drop_sender};
+ghost use Rattle.kanal_core.specs.Channel.{closed, drained, ended_by, line_of, settlement, taken_by};
 ghost use Rattle.kanal_core.specs.Waiters.{sender_first, waiter_of};
 ghost use Rattle.kanal_core.specs.Calls.{IsFull, IsEmpty, MovesTo, OldestLeft};
 ghost use Rattle.kanal_core.specs.declared.internal.outcome.Waiter.{Waiter};
 ghost use Rattle.kanal_steps.specs.Leaving.{LeaveInTurn, entry_of, kept_by, kept_from};
+ghost use Rattle.kanal_steps.specs.Owing.{first, waits_in};
 ghost use Rattle.kanal_steps.specs.Renewing.{Renews};
-ghost use Rattle.kanal_steps.specs.Steps.{Boxed, TriesToSend, TriesToReceive, RefusesDrain, Sends, SendSeats, ReceivesLate, Receives, ReceiveSeats, all_of, drops_last, receivers_dropped, senders_dropped, times};
+ghost use Rattle.kanal_steps.specs.Seats.{Boxed};
+ghost use Rattle.kanal_steps.specs.Steps.{TriesToSend, TriesToReceive, RefusesDrain, Sends, SendSeats, WaitsToSend, WaitingSeats, ReceivesLate, Receives, ReceiveSeats, WaitsToReceive, AwaitingSeats, drops_last, receivers_dropped, senders_dropped, times};
 
+use crate::owed::Owed;
 use crate::seat::{Core, Seat};
 use futures::task::Waker;
-use kanal_core::error::{DrainError, ReceiveError, ReceiveErrorTimeout, SendError, WaitError};
-use kanal_core::internal::{Ended, Offer, Reason, Settled, Take, Ticket, Waiter};
+use kanal_core::error::{
+    CloseError, DrainError, ReceiveError, ReceiveErrorTimeout, SendError, WaitError,
+};
+use kanal_core::internal::{Cleared, Closing, Offer, Reason, Take, Ticket, Waiter};
 
-/// What a call that doesn't wait answers, and the wait that its step settled.
+/// What the offer of a message came to, in a call that doesn't wait for a place.
 #[derive(Drop)]
-pub struct Tried<T, A> {
-    pub answer: A,
-    pub settled: Option<Settled<T, Box<Seat<T>>>>,
-}
-
-impl<T: Drop, A> Tried<T, A> {
-    /// An answer of a step that settled no wait.
-    fn of(answer: A) -> Self
-        ensures { (result.answer ≡ answer) × (result.settled ≡ None) }
-    {
-        Tried {
-            answer,
-            settled: None,
-        }
-    }
+pub enum Offered<T> {
+    /// The message is in the line, or with a receiver that waited.
+    Entered,
+    /// There was no place for it; it comes back.
+    Full(T),
+    /// It was refused, and comes back.
+    Refused(SendError, T),
 }
 
 /// What a send came to.
 #[derive(Drop)]
 pub enum Sent<T> {
-    /// The message is in the line or with the receiver of this wait; the seat comes back.
-    Entered(Option<Settled<T, Box<Seat<T>>>>, Box<Seat<T>>),
+    /// The message is in the line, or with a receiver that waited; the seat comes back.
+    Entered(Box<Seat<T>>),
     /// The message waits.
     Waits(Ticket),
     /// It was refused; message and seat come back.
@@ -53,55 +51,37 @@ pub enum Sent<T> {
 /// What a receive came to.
 #[derive(Drop)]
 pub enum Received<T> {
-    /// The front message, and the wait of a sender that was settled; the seat comes back.
-    Got(T, Option<Settled<T, Box<Seat<T>>>>, Box<Seat<T>>),
+    /// The front message; the seat comes back.
+    Got(T, Box<Seat<T>>),
     /// The receiver waits.
     Waits(Ticket),
     /// It was refused; the seat comes back.
     Refused(ReceiveError, Box<Seat<T>>),
 }
 
-/// Offers the option's message. The option is empty after it exactly if the message entered.
+/// Offers the message: it enters where there is a place for it, and comes back otherwise.
 ///
-/// The caller knows that the option holds a message. `Ok(false)` says that there was no place.
-///
-/// # Errors
-/// `Closed` and `ReceiveClosed` where no receiver is left, and `NoMemory` where a buffer without limit
-/// can't grow. The option holds the same message then, and the core is as it was.
+/// It is refused as `Closed` or `ReceiveClosed` where no receiver is left, and as `NoMemory` where a
+/// buffer without limit can't grow. The core is as it was then.
 ///
 /// # Examples
 /// ```text
-/// try_send(&mut core, &mut Some(7)).answer   is  Ok(true)    in a new core for one message
-/// try_send(&mut core, &mut Some(8)).answer   is  Ok(false)   after that
+/// try_send(&mut core, 7)   answers  Entered   in a new core for one message
+/// try_send(&mut core, 8)   answers  Full(8)   after that
 /// ```
-pub fn try_send<T: Drop>(
-    core: &mut Core<T>,
-    option: &mut Option<T>,
-) -> Tried<T, Result<bool, SendError>>
-    requires { IsSome option.old }
-    ensures step { MatchOption option.old ⊥ (λ m. TriesToSend (line_of core.old) m result.answer (settlements result.settled) (line_of core.new)) }
-    ensures waiter { OldestLeft core.old.waiters result.settled core.new.waiters }
-    ensures sent { result.answer ≡ Ok true → option.new ≡ None }
-    ensures kept { result.answer ≢ Ok true → option.new ≡ option.old }
+pub fn try_send<T: Drop>(core: &mut Core<T>, message: T) -> (Offered<T>, Owed<T>)
+    ensures step { TriesToSend (line_of core.old) message result.0 (map settlement (waits_in result.1)) (line_of core.new) }
+    ensures waiter { OldestLeft core.old.waiters (first (waits_in result.1)) core.new.waiters }
 {
-    let Some(message) = option.take() else {
-        unreachable!()
+    let offered = match core.offer(message) {
+        Offer::Entered => Offered::Entered,
+        Offer::Handed(settled) => return (Offered::Entered, Owed::one(settled)),
+        Offer::Full(back) => Offered::Full(back),
+        Offer::Closed(back) => Offered::Refused(SendError::Closed, back),
+        Offer::ReceiveClosed(back) => Offered::Refused(SendError::ReceiveClosed, back),
+        Offer::NoMemory(back) => Offered::Refused(SendError::NoMemory, back),
     };
-    let (answer, back) = match core.offer(message) {
-        Offer::Entered => return Tried::of(Ok(true)),
-        Offer::Handed(settled) => {
-            return Tried {
-                answer: Ok(true),
-                settled: Some(settled),
-            };
-        },
-        Offer::Full(back) => (Ok(false), back),
-        Offer::Closed(back) => (Err(SendError::Closed), back),
-        Offer::ReceiveClosed(back) => (Err(SendError::ReceiveClosed), back),
-        Offer::NoMemory(back) => (Err(SendError::NoMemory), back),
-    };
-    *option = Some(back);
-    Tried::of(answer)
+    (offered, Owed::nothing())
 }
 
 /// Takes the front message, if there is one; `Ok(None)` says that there was none.
@@ -111,22 +91,20 @@ pub fn try_send<T: Drop>(
 ///
 /// # Examples
 /// ```text
-/// try_recv(&mut core).answer   is  Ok(None)      in a new core
-/// try_recv(&mut core).answer   is  Ok(Some(7))   after 7 entered
+/// try_recv(&mut core)   answers  Ok(None)      in a new core
+/// try_recv(&mut core)   answers  Ok(Some(7))   after 7 entered
 /// ```
-pub fn try_recv<T: Drop>(core: &mut Core<T>) -> Tried<T, Result<Option<T>, ReceiveError>>
-    ensures step { TriesToReceive (line_of core.old) result.answer (settlements result.settled) (line_of core.new) }
-    ensures waiter { OldestLeft core.old.waiters result.settled core.new.waiters }
+pub fn try_recv<T: Drop>(core: &mut Core<T>) -> (Result<Option<T>, ReceiveError>, Owed<T>)
+    ensures step { TriesToReceive (line_of core.old) result.0 (map settlement (waits_in result.1)) (line_of core.new) }
+    ensures waiter { OldestLeft core.old.waiters (first (waits_in result.1)) core.new.waiters }
 {
-    match core.take() {
-        Take::Got(message, settled) => Tried {
-            answer: Ok(Some(message)),
-            settled,
-        },
-        Take::Empty => Tried::of(Ok(None)),
-        Take::Closed => Tried::of(Err(ReceiveError::Closed)),
-        Take::SendClosed => Tried::of(Err(ReceiveError::SendClosed)),
-    }
+    let answer = match core.take() {
+        Take::Got(message, settled) => return (Ok(Some(message)), Owed::at_most_one(settled)),
+        Take::Empty => Ok(None),
+        Take::Closed => Err(ReceiveError::Closed),
+        Take::SendClosed => Err(ReceiveError::SendClosed),
+    };
+    (answer, Owed::nothing())
 }
 
 /// Takes the front message for a call whose deadline has passed.
@@ -136,33 +114,43 @@ pub fn try_recv<T: Drop>(core: &mut Core<T>) -> Tried<T, Result<Option<T>, Recei
 ///
 /// # Examples
 /// ```text
-/// recv_late(&mut core).answer   is  Err(Timeout)   in a new core
+/// recv_late(&mut core)   answers  Err(Timeout)   in a new core
 /// ```
-pub fn recv_late<T: Drop>(core: &mut Core<T>) -> Tried<T, Result<T, ReceiveErrorTimeout>>
-    ensures step { ReceivesLate (line_of core.old) result.answer (settlements result.settled) (line_of core.new) }
-    ensures waiter { OldestLeft core.old.waiters result.settled core.new.waiters }
+pub fn recv_late<T: Drop>(core: &mut Core<T>) -> (Result<T, ReceiveErrorTimeout>, Owed<T>)
+    ensures step { ReceivesLate (line_of core.old) result.0 (map settlement (waits_in result.1)) (line_of core.new) }
+    ensures waiter { OldestLeft core.old.waiters (first (waits_in result.1)) core.new.waiters }
 {
-    match core.take() {
-        Take::Got(message, settled) => Tried {
-            answer: Ok(message),
-            settled,
-        },
-        Take::Closed => Tried::of(Err(ReceiveErrorTimeout::Closed)),
-        Take::Empty => Tried::of(Err(ReceiveErrorTimeout::Timeout)),
-        Take::SendClosed => Tried::of(Err(ReceiveErrorTimeout::Timeout)),
-    }
+    let error = match core.take() {
+        Take::Got(message, settled) => return (Ok(message), Owed::at_most_one(settled)),
+        Take::Closed => ReceiveErrorTimeout::Closed,
+        Take::Empty | Take::SendClosed => ReceiveErrorTimeout::Timeout,
+    };
+    (Err(error), Owed::nothing())
 }
 
 /// Starts the wait of a send that found no place.
-fn wait_send<T: Drop>(core: &mut Core<T>, message: T, seat: Box<Seat<T>>) -> Sent<T>
-    requires { IsFull (line_of core.old) }
-    ensures step { Sends (line_of core.old) message result (line_of core.new) }
-    ensures seats { SendSeats core.old.waiters message seat result core.new.waiters }
+///
+/// # Errors
+/// `NoMemory` where memory was refused, and `TooMany` where the tickets are used up. Message and seat
+/// come back then, and the core is as it was.
+///
+/// # Examples
+/// ```text
+/// wait_send(&mut core, 8, seat)   answers  Ok(ticket)   where `try_send` answered Full(8)
+/// ```
+pub fn wait_send<T: Drop>(
+    core: &mut Core<T>,
+    message: T,
+    seat: Box<Seat<T>>,
+) -> Result<Ticket, (SendError, T, Box<Seat<T>>)>
+    requires full { IsFull (line_of core.old) }
+    ensures step { WaitsToSend (line_of core.old) message result (line_of core.new) }
+    ensures seats { WaitingSeats core.old.waiters message seat result core.new.waiters }
 {
     match core.wait_send(message, seat) {
-        Ok(ticket) => Sent::Waits(ticket),
-        Err((WaitError::NoMemory, back, seat)) => Sent::Refused(SendError::NoMemory, back, seat),
-        Err((WaitError::TooMany, back, seat)) => Sent::Refused(SendError::TooMany, back, seat),
+        Ok(ticket) => Ok(ticket),
+        Err((WaitError::NoMemory, back, seat)) => Err((SendError::NoMemory, back, seat)),
+        Err((WaitError::TooMany, back, seat)) => Err((SendError::TooMany, back, seat)),
     }
 }
 
@@ -173,33 +161,47 @@ fn wait_send<T: Drop>(core: &mut Core<T>, message: T, seat: Box<Seat<T>>) -> Sen
 ///
 /// # Examples
 /// ```text
-/// send(&mut core, 7, seat)   answers  Entered(None, seat)   in a new core for one message
-/// send(&mut core, 8, seat)   answers  Waits(ticket)         after that
+/// send(&mut core, 7, seat)   answers  Entered(seat)   in a new core for one message
+/// send(&mut core, 8, seat)   answers  Waits(ticket)   after that
 /// ```
-pub fn send<T: Drop>(core: &mut Core<T>, message: T, seat: Box<Seat<T>>) -> Sent<T>
-    ensures step { Sends (line_of core.old) message result (line_of core.new) }
-    ensures seats { SendSeats core.old.waiters message seat result core.new.waiters }
+pub fn send<T: Drop>(core: &mut Core<T>, message: T, seat: Box<Seat<T>>) -> (Sent<T>, Owed<T>)
+    ensures step { Sends (line_of core.old) message result.0 (map settlement (waits_in result.1)) (line_of core.new) }
+    ensures seats { SendSeats core.old.waiters message seat result.0 (waits_in result.1) core.new.waiters }
 {
-    match core.offer(message) {
-        Offer::Entered => Sent::Entered(None, seat),
-        Offer::Handed(settled) => Sent::Entered(Some(settled), seat),
-        Offer::Full(back) => wait_send(core, back, seat),
-        Offer::Closed(back) => Sent::Refused(SendError::Closed, back, seat),
-        Offer::ReceiveClosed(back) => Sent::Refused(SendError::ReceiveClosed, back, seat),
-        Offer::NoMemory(back) => Sent::Refused(SendError::NoMemory, back, seat),
-    }
+    let (offered, owed) = try_send(core, message);
+    let sent = match offered {
+        Offered::Entered => Sent::Entered(seat),
+        Offered::Full(back) => match wait_send(core, back, seat) {
+            Ok(ticket) => Sent::Waits(ticket),
+            Err((error, back, seat)) => Sent::Refused(error, back, seat),
+        },
+        Offered::Refused(error, back) => Sent::Refused(error, back, seat),
+    };
+    (sent, owed)
 }
 
 /// Starts the wait of a receive that found no message.
-fn wait_recv<T: Drop>(core: &mut Core<T>, seat: Box<Seat<T>>) -> Received<T>
-    requires { IsEmpty (line_of core.old) }
-    ensures step { Receives (line_of core.old) result (line_of core.new) }
-    ensures seats { ReceiveSeats core.old.waiters seat result core.new.waiters }
+///
+/// # Errors
+/// `NoMemory` where memory was refused, and `TooMany` where the tickets are used up. The seat comes
+/// back then, and the core is as it was.
+///
+/// # Examples
+/// ```text
+/// wait_recv(&mut core, seat)   answers  Ok(ticket)   where `try_recv` answered Ok(None)
+/// ```
+pub fn wait_recv<T: Drop>(
+    core: &mut Core<T>,
+    seat: Box<Seat<T>>,
+) -> Result<Ticket, (ReceiveError, Box<Seat<T>>)>
+    requires empty { IsEmpty (line_of core.old) }
+    ensures step { WaitsToReceive (line_of core.old) result (line_of core.new) }
+    ensures seats { AwaitingSeats core.old.waiters seat result core.new.waiters }
 {
     match core.wait_recv(seat) {
-        Ok(ticket) => Received::Waits(ticket),
-        Err((WaitError::NoMemory, seat)) => Received::Refused(ReceiveError::NoMemory, seat),
-        Err((WaitError::TooMany, seat)) => Received::Refused(ReceiveError::TooMany, seat),
+        Ok(ticket) => Ok(ticket),
+        Err((WaitError::NoMemory, seat)) => Err((ReceiveError::NoMemory, seat)),
+        Err((WaitError::TooMany, seat)) => Err((ReceiveError::TooMany, seat)),
     }
 }
 
@@ -212,16 +214,20 @@ fn wait_recv<T: Drop>(core: &mut Core<T>, seat: Box<Seat<T>>) -> Received<T>
 /// ```text
 /// recv(&mut core, seat)   answers  Waits(ticket)   in a new core
 /// ```
-pub fn recv<T: Drop>(core: &mut Core<T>, seat: Box<Seat<T>>) -> Received<T>
-    ensures step { Receives (line_of core.old) result (line_of core.new) }
-    ensures seats { ReceiveSeats core.old.waiters seat result core.new.waiters }
+pub fn recv<T: Drop>(core: &mut Core<T>, seat: Box<Seat<T>>) -> (Received<T>, Owed<T>)
+    ensures step { Receives (line_of core.old) result.0 (map settlement (waits_in result.1)) (line_of core.new) }
+    ensures seats { ReceiveSeats core.old.waiters seat result.0 (waits_in result.1) core.new.waiters }
 {
-    match core.take() {
-        Take::Got(message, settled) => Received::Got(message, settled, seat),
-        Take::Empty => wait_recv(core, seat),
-        Take::Closed => Received::Refused(ReceiveError::Closed, seat),
-        Take::SendClosed => Received::Refused(ReceiveError::SendClosed, seat),
-    }
+    let (answer, owed) = try_recv(core);
+    let received = match answer {
+        Ok(Some(message)) => Received::Got(message, seat),
+        Ok(None) => match wait_recv(core, seat) {
+            Ok(ticket) => Received::Waits(ticket),
+            Err((error, seat)) => Received::Refused(error, seat),
+        },
+        Err(error) => Received::Refused(error, seat),
+    };
+    (received, owed)
 }
 
 /// Swaps the waker of the wait with the ticket for the spare one, if there is a spare, and answers
@@ -243,8 +249,8 @@ pub fn renew<T: Drop>(core: &mut Core<T>, ticket: Ticket, spare: &mut Option<Wak
     true
 }
 
-/// Moves the whole line to the vector's end, and hands out the sends whose messages it took, with how
-/// many messages there were.
+/// Moves the whole line to the vector's end, and answers how many messages there were. What it owes
+/// are the sends whose messages it took.
 ///
 /// # Errors
 /// `Closed` where no receiver is left, and `NoMemory` where the vector has too little room and can't
@@ -252,39 +258,66 @@ pub fn renew<T: Drop>(core: &mut Core<T>, ticket: Ticket, spare: &mut Option<Wak
 ///
 /// # Examples
 /// ```text
-/// drain(&mut core, &mut messages)   answers  Ok((2, ended))   after two messages entered
+/// drain(&mut core, &mut messages)   answers  Ok(2)   after two messages entered
 /// ```
 pub fn drain<T: Drop>(
     core: &mut Core<T>,
     into: &mut Vec<T>,
-) -> Result<(usize, Ended<T, Box<Seat<T>>>), ReceiveError>
-    ensures step { IfOk result (λ d. MovesTo (drain (line_of core.old)) (map settlement d.1) (line_of core.new)) }
-    ensures moved { IfOk result (λ _. into.new.items ≡ into.old.items ++ messages (line_of core.old).line) }
-    ensures count { IfOk result (λ d. d.0 ≡ length (line_of core.old).line) }
-    ensures taken { IfOk result (λ d. d.1 ≡ cond (sender_first core.old.waiters) (map taken_by core.old.waiters) []) }
-    ensures receiver { IsErrOf result ReceiveError.Closed ↔ (core.old.receivers ≡ 0) }
-    ensures after { IfOk result (λ _. core.new ≡ drained core.old) }
-    ensures refused { IfErr result (λ _. (core.new ≡ core.old) × (into.new.items ≡ into.old.items)) }
-    ensures reason { IfErr result (λ e. RefusesDrain (line_of core.old) (vec_len into.old) (vec_capacity into.old) e) }
+) -> (Result<usize, ReceiveError>, Owed<T>)
+    ensures step { IfOk result.0 (λ _. MovesTo (drain (line_of core.old)) (map settlement (waits_in result.1)) (line_of core.new)) }
+    ensures moved { IfOk result.0 (λ _. into.new.items ≡ into.old.items ++ messages (line_of core.old).line) }
+    ensures count { IfOk result.0 (λ n. n ≡ length (line_of core.old).line) }
+    ensures taken { IfOk result.0 (λ _. waits_in result.1 ≡ cond (sender_first core.old.waiters) (map taken_by core.old.waiters) []) }
+    ensures receiver { IsErrOf result.0 ReceiveError.Closed ↔ (core.old.receivers ≡ 0) }
+    ensures after { IfOk result.0 (λ _. core.new ≡ drained core.old) }
+    ensures refused { IfErr result.0 (λ _. (core.new ≡ core.old) × (into.new.items ≡ into.old.items)) }
+    ensures nobody { IfErr result.0 (λ _. waits_in result.1 ≡ []) }
+    ensures reason { IfErr result.0 (λ e. RefusesDrain (line_of core.old) (vec_len into.old) (vec_capacity into.old) e) }
     ensures room { vec_len into.old + length (line_of core.old).line ≤ vec_capacity into.old → vec_capacity into.new ≡ vec_capacity into.old }
-    ensures no_growth { OnErr result (vec_capacity into.new ≡ vec_capacity into.old) }
+    ensures no_growth { OnErr result.0 (vec_capacity into.new ≡ vec_capacity into.old) }
 {
-    match core.drain_into(into) {
-        Ok(drained) => Ok(drained),
-        Err(DrainError::Closed) => Err(ReceiveError::Closed),
-        Err(DrainError::NoMemory) => Err(ReceiveError::NoMemory),
-    }
+    let error = match core.drain_into(into) {
+        Ok((count, ended)) => return (Ok(count), Owed::all(ended)),
+        Err(DrainError::Closed) => ReceiveError::Closed,
+        Err(DrainError::NoMemory) => ReceiveError::NoMemory,
+    };
+    (Err(error), Owed::nothing())
 }
 
-/// Makes so many drops of senders, and hands out the waits that the last one ended.
+/// Closes the channel for both sides, and hands out the messages of its buffer. What it owes are all
+/// who wait.
+///
+/// # Errors
+/// `CloseError` where both sides were gone already, and nothing changes.
 ///
 /// # Examples
 /// ```text
-/// drop_senders(&mut core, 1)   answers  Some(ended)   in a core with one sender
+/// close(&mut core)   answers  Ok(cleared)       with the messages of the buffer
+/// close(&mut core)   answers  Err(CloseError)   after that
 /// ```
-pub fn drop_senders<T: Drop>(core: &mut Core<T>, count: u64) -> Option<Ended<T, Box<Seat<T>>>>
-    ensures step { MovesTo (times drop_sender count (line_of core.old)) (map settlement (all_of result)) (line_of core.new) }
-    ensures ended { all_of result ≡ cond (drops_last count core.old.senders) (map (ended_by Reason.SendClosed) core.old.waiters) [] }
+pub fn close<T: Drop>(core: &mut Core<T>) -> (Result<Cleared<T>, CloseError>, Owed<T>)
+    ensures step { IfOk result.0 (λ _. MovesTo (close (line_of core.old)) (map settlement (waits_in result.1)) (line_of core.new)) }
+    ensures cleared { IfOk result.0 (λ c. c ≡ cleared (line_of core.old)) }
+    ensures ended { IfOk result.0 (λ _. waits_in result.1 ≡ map (ended_by Reason.Closed) core.old.waiters) }
+    ensures after { IfOk result.0 (λ _. core.new ≡ closed core.old) }
+    ensures refused { IfErr result.0 (λ _. (core.new ≡ core.old) × (waits_in result.1 ≡ [])) }
+    ensures shut { IsErr result.0 ↔ ((core.old.senders ≡ 0) × (core.old.receivers ≡ 0)) }
+{
+    match core.close() {
+        Ok(Closing { cleared, ended }) => (Ok(cleared), Owed::all(ended)),
+        Err(error) => (Err(error), Owed::nothing()),
+    }
+}
+
+/// Makes so many drops of senders. What it owes are the waits that the last one ended.
+///
+/// # Examples
+/// ```text
+/// drop_senders(&mut core, 1)   ends all receives that wait, in a core with one sender
+/// ```
+pub fn drop_senders<T: Drop>(core: &mut Core<T>, count: u64) -> Owed<T>
+    ensures step { MovesTo (times drop_sender count (line_of core.old)) (map settlement (waits_in result)) (line_of core.new) }
+    ensures ended { waits_in result ≡ cond (drops_last count core.old.senders) (map (ended_by Reason.SendClosed) core.old.waiters) [] }
     ensures after { core.new ≡ senders_dropped count core.old }
 {
     let mut left = count;
@@ -293,21 +326,21 @@ pub fn drop_senders<T: Drop>(core: &mut Core<T>, count: u64) -> Option<Ended<T, 
         let is_last = core.sender_count() == 1;
         let ended = core.drop_sender();
         if is_last {
-            return Some(ended);
+            return Owed::all(ended);
         }
     }
-    None
+    Owed::nothing()
 }
 
-/// Makes so many drops of receivers, and hands out the waits that the last one ended.
+/// Makes so many drops of receivers. What it owes are the waits that the last one ended.
 ///
 /// # Examples
 /// ```text
-/// drop_receivers(&mut core, 1)   answers  Some(ended)   in a core with one receiver
+/// drop_receivers(&mut core, 1)   ends all sends that wait, in a core with one receiver
 /// ```
-pub fn drop_receivers<T: Drop>(core: &mut Core<T>, count: u64) -> Option<Ended<T, Box<Seat<T>>>>
-    ensures step { MovesTo (times drop_receiver count (line_of core.old)) (map settlement (all_of result)) (line_of core.new) }
-    ensures ended { all_of result ≡ cond (drops_last count core.old.receivers) (map (ended_by Reason.ReceiveClosed) core.old.waiters) [] }
+pub fn drop_receivers<T: Drop>(core: &mut Core<T>, count: u64) -> Owed<T>
+    ensures step { MovesTo (times drop_receiver count (line_of core.old)) (map settlement (waits_in result)) (line_of core.new) }
+    ensures ended { waits_in result ≡ cond (drops_last count core.old.receivers) (map (ended_by Reason.ReceiveClosed) core.old.waiters) [] }
     ensures after { core.new ≡ receivers_dropped count core.old }
 {
     let mut left = count;
@@ -316,10 +349,10 @@ pub fn drop_receivers<T: Drop>(core: &mut Core<T>, count: u64) -> Option<Ended<T
         let is_last = core.receiver_count() == 1;
         let ended = core.drop_receiver();
         if is_last {
-            return Some(ended);
+            return Owed::all(ended);
         }
     }
-    None
+    Owed::nothing()
 }
 
 /// Puts the entry's message into its own seat, in front of the chain.

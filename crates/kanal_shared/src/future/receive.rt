@@ -2,17 +2,19 @@
 ghost use Rattle.std.specs.Prelude.{◌≡◌, ⊤, true, false, Some, Err, Result, codes};
 ghost use Rattle.futures.specs.Task.{Covers, Keeps};
 ghost use Rattle.futures.specs.Poll.{IfReady, OnPending};
+ghost use Rattle.kanal_core.specs.Calls.{IsEmpty};
+ghost use Rattle.kanal_core.specs.Channel.{line_of};
+ghost use Rattle.kanal_shared.specs.Locks.{core_under};
 ghost use Rattle.kanal_shared.specs.Futures.{receive_is_over, receive_source, receive_waits};
 
 use super::{Started, State, Wakers};
-use crate::receiving::{Seated, answer_of};
-use crate::shared::{Acquired, Shared};
+use crate::receiving::answer_of;
+use crate::shared::{Left, Locked, Shared};
 use futures::Future;
 use futures::task::{Context, Poll};
 use kanal_core::error::ReceiveError;
-use kanal_steps::seat::Seat;
+use kanal_steps::owed::Owed;
 use kanal_steps::steps;
-use kanal_steps::steps::{Received, Tried};
 use std::{fmt, mem};
 
 /// Receives a message, as `AsyncReceiver::recv` answers it.
@@ -27,29 +29,6 @@ pub struct ReceiveFuture<'a, T> {
     shared: &'a Shared<T>,
     state: State<(), T>,
     wakers: Wakers,
-}
-
-/// Takes the front message, or starts a wait with the seat where there is none, and releases the lock.
-fn recv_seated<T: Drop>(
-    shared: &Shared<T>,
-    acquired: Acquired<'_, T>,
-    seat: Box<Seat<T>>,
-) -> Result<Seated<T>, ReceiveError> {
-    let mut acquired = acquired;
-    match steps::recv(&mut acquired.core, seat) {
-        Received::Got(message, settled, _seat) => {
-            shared.release_acquired(acquired, settled);
-            Ok(Seated::Got(message))
-        },
-        Received::Waits(ticket) => {
-            shared.release_acquired(acquired, None);
-            Ok(Seated::Waits(ticket))
-        },
-        Received::Refused(error, _seat) => {
-            shared.release_acquired(acquired, None);
-            Err(error)
-        },
-    }
 }
 
 impl<T: Drop> Drop for ReceiveFuture<'_, T> {
@@ -107,45 +86,48 @@ impl<'a, T: Drop> ReceiveFuture<'a, T> {
         ensures registered { OnPending result (Covers cx.new (λ s. s ≡ receive_source self.new)) }
         ensures kept { Keeps cx.old cx.new }
     {
-        let shared = self.shared;
-        let Some(mut acquired) = shared.try_lock() else {
+        let Some((mut locked, left)) = self.shared.try_hold() else {
             self.state = State::Zero(());
             return cx.yield_now();
         };
-        let Tried { answer, settled } = steps::try_recv(&mut acquired.core);
+        let (answer, owed) = steps::try_recv(&mut locked.core);
         let answer = match answer {
-            Ok(None) => return self.start(acquired, cx),
+            Ok(None) => return self.start(locked, left, owed, cx),
             Ok(Some(message)) => Ok(message),
             Err(error) => Err(error),
         };
-        shared.release_acquired(acquired, settled);
+        locked.give_back_left(left, owed);
         Poll::Ready(answer)
     }
 
     /// Starts the wait of a receive that found no message, with the lock held.
     fn start(
         &mut self,
-        acquired: Acquired<'_, T>,
+        locked: Locked<'_, T>,
+        left: Left<T>,
+        owed: Owed<T>,
         cx: &mut Context<'_>,
     ) -> Poll<Result<T, ReceiveError>>
-        requires { receive_is_over self.old ≡ true }
+        requires over { receive_is_over self.old ≡ true }
+        requires empty { IsEmpty (line_of (core_under locked)) }
         ensures ends { IfReady result (λ _. receive_is_over self.new ≡ true) }
         ensures goes_on { OnPending result (receive_is_over self.new ≡ false) }
         ensures registered { OnPending result (Covers cx.new (λ s. s ≡ receive_source self.new)) }
         ensures kept { Keeps cx.old cx.new }
     {
-        let shared = self.shared;
         let Some((end, seat)) = self.wakers.cell(self.shared.alloc, cx) else {
-            shared.release_acquired(acquired, None);
+            locked.give_back_left(left, owed);
             return Poll::Ready(Err(ReceiveError::NoMemory));
         };
-        match recv_seated(shared, acquired, seat) {
-            Ok(Seated::Got(message)) => Poll::Ready(Ok(message)),
-            Ok(Seated::Waits(ticket)) => {
+        let mut locked = locked;
+        let started = steps::wait_recv(&mut locked.core, seat);
+        locked.give_back_left(left, owed);
+        match started {
+            Ok(ticket) => {
                 self.state = State::Waiting(Started { ticket, end });
                 Poll::Pending
             },
-            Err(error) => Poll::Ready(Err(error)),
+            Err((error, _seat)) => Poll::Ready(Err(error)),
         }
     }
 

@@ -2,18 +2,20 @@
 ghost use Rattle.std.specs.Prelude.{◌≡◌, ⊤, true, false, Some, Err, Result, codes};
 ghost use Rattle.futures.specs.Task.{Covers, Keeps};
 ghost use Rattle.futures.specs.Poll.{IfReady, OnPending};
+ghost use Rattle.kanal_core.specs.Calls.{IsFull};
+ghost use Rattle.kanal_core.specs.Channel.{line_of};
+ghost use Rattle.kanal_shared.specs.Locks.{core_under};
 ghost use Rattle.kanal_shared.specs.Futures.{send_is_over, send_source};
 
 use super::{Started, State, Wakers};
 use crate::sending::answer_of;
-use crate::shared::{Acquired, Shared};
+use crate::shared::{Left, Locked, Shared};
 use futures::Future;
 use futures::task::{Context, Poll};
 use kanal_core::error::SendError;
-use kanal_core::internal::Ticket;
-use kanal_steps::seat::Seat;
+use kanal_steps::owed::Owed;
 use kanal_steps::steps;
-use kanal_steps::steps::{Sent, Tried};
+use kanal_steps::steps::Offered;
 use std::{fmt, mem};
 
 /// Sends a message, as `AsyncSender::send` answers it.
@@ -28,31 +30,6 @@ pub struct SendFuture<'a, T> {
     shared: &'a Shared<T>,
     state: State<T, T>,
     wakers: Wakers,
-}
-
-/// Offers the message with the seat of a wait, and releases the lock: `None` where it entered, and the
-/// wait's ticket where there was no place.
-fn send_seated<T: Drop>(
-    shared: &Shared<T>,
-    acquired: Acquired<'_, T>,
-    message: T,
-    seat: Box<Seat<T>>,
-) -> Result<Option<Ticket>, SendError> {
-    let mut acquired = acquired;
-    match steps::send(&mut acquired.core, message, seat) {
-        Sent::Entered(settled, _seat) => {
-            shared.release_acquired(acquired, settled);
-            Ok(None)
-        },
-        Sent::Waits(ticket) => {
-            shared.release_acquired(acquired, None);
-            Ok(Some(ticket))
-        },
-        Sent::Refused(error, _message, _seat) => {
-            shared.release_acquired(acquired, None);
-            Err(error)
-        },
-    }
 }
 
 impl<T: Drop> Drop for SendFuture<'_, T> {
@@ -91,47 +68,49 @@ impl<'a, T: Drop> SendFuture<'a, T> {
         ensures registered { OnPending result (Covers cx.new (λ s. s ≡ send_source self.new)) }
         ensures kept { Keeps cx.old cx.new }
     {
-        let shared = self.shared;
-        let Some(mut acquired) = shared.try_lock() else {
+        let Some((mut locked, left)) = self.shared.try_hold() else {
             self.state = State::Zero(message);
             return cx.yield_now();
         };
-        let mut option = Some(message);
-        let Tried { answer, settled } = steps::try_send(&mut acquired.core, &mut option);
-        match (answer, option) {
-            (Ok(false), Some(message)) => self.start(acquired, message, cx),
-            (answer, _back) => {
-                shared.release_acquired(acquired, settled);
-                Poll::Ready(answer.map(|_| ()))
-            },
-        }
+        let (offered, owed) = steps::try_send(&mut locked.core, message);
+        let (answer, _message) = match offered {
+            Offered::Full(message) => return self.start(locked, left, owed, message, cx),
+            Offered::Entered => (Ok(()), None),
+            Offered::Refused(error, message) => (Err(error), Some(message)),
+        };
+        locked.give_back_left(left, owed);
+        Poll::Ready(answer)
     }
 
     /// Starts the wait of a message for which there was no place, with the lock held.
     fn start(
         &mut self,
-        acquired: Acquired<'_, T>,
+        locked: Locked<'_, T>,
+        left: Left<T>,
+        owed: Owed<T>,
         message: T,
         cx: &mut Context<'_>,
     ) -> Poll<Result<(), SendError>>
-        requires { send_is_over self.old ≡ true }
+        requires over { send_is_over self.old ≡ true }
+        requires full { IsFull (line_of (core_under locked)) }
         ensures ends { IfReady result (λ _. send_is_over self.new ≡ true) }
         ensures goes_on { OnPending result (send_is_over self.new ≡ false) }
         ensures registered { OnPending result (Covers cx.new (λ s. s ≡ send_source self.new)) }
         ensures kept { Keeps cx.old cx.new }
     {
-        let shared = self.shared;
         let Some((end, seat)) = self.wakers.cell(self.shared.alloc, cx) else {
-            shared.release_acquired(acquired, None);
+            locked.give_back_left(left, owed);
             return Poll::Ready(Err(SendError::NoMemory));
         };
-        match send_seated(shared, acquired, message, seat) {
-            Ok(None) => Poll::Ready(Ok(())),
-            Ok(Some(ticket)) => {
+        let mut locked = locked;
+        let started = steps::wait_send(&mut locked.core, message, seat);
+        locked.give_back_left(left, owed);
+        match started {
+            Ok(ticket) => {
                 self.state = State::Waiting(Started { ticket, end });
                 Poll::Pending
             },
-            Err(error) => Poll::Ready(Err(error)),
+            Err((error, _message, _seat)) => Poll::Ready(Err(error)),
         }
     }
 

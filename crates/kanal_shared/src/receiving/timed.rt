@@ -1,7 +1,7 @@
 //! The receive until a deadline.
 //!
 //! Stands on the steps, on how a blocked call waits, and on the clock that the caller hands in.
-use super::{Seated, answer_of};
+use super::answer_of;
 use crate::backoff::Waiting;
 use crate::clock::{Clock, deadline};
 use crate::sending::wait;
@@ -9,7 +9,7 @@ use crate::shared::Shared;
 use kanal_core::error::{ReceiveError, ReceiveErrorTimeout};
 use kanal_core::internal::{Outcome, Ticket};
 use kanal_steps::steps;
-use kanal_steps::steps::Tried;
+use kanal_steps::steps::Received;
 use std::sync::Wait;
 use std::time;
 use std::time::Duration;
@@ -34,10 +34,10 @@ impl<T: Drop> Shared<T> {
     ///
     /// # Examples
     /// ```text
-    /// shared.recv_timeout(&rt, Duration::from_nanos(1), &clock)
+    /// shared.recv_before(&rt, Duration::from_nanos(1), &clock)
     ///     answers  Err(ReceiveErrorTimeout::Timeout)   where no message came
     /// ```
-    pub fn recv_timeout<R: Wait + time::Clock, C: Clock>(
+    pub fn recv_before<R: Wait + time::Clock, C: Clock>(
         &self,
         rt: &R,
         duration: Duration,
@@ -58,9 +58,9 @@ impl<T: Drop> Shared<T> {
 
     /// Takes the front message after the deadline.
     fn recv_late<R: Wait>(&self, rt: &R) -> Result<T, ReceiveErrorTimeout> {
-        let mut guard = self.lock(rt);
-        let Tried { answer, settled } = steps::recv_late(&mut guard);
-        self.release(guard, settled);
+        let mut locked = self.hold(rt);
+        let (answer, owed) = steps::recv_late(&mut locked.core);
+        locked.give_back(owed);
         answer
     }
 
@@ -75,12 +75,12 @@ impl<T: Drop> Shared<T> {
             return Err(ReceiveErrorTimeout::NoMemory);
         };
         match self.recv_seated(rt, seat) {
-            Ok(Seated::Got(message)) => Ok(message),
-            Ok(Seated::Waits(ticket)) => {
+            Received::Got(message, _seat) => Ok(message),
+            Received::Waits(ticket) => {
                 let looked = waiting.outcome_until(rt, clock, deadline);
                 self.end_recv(rt, ticket, looked)
             },
-            Err(error) => Err(timed(error)),
+            Received::Refused(error, _seat) => Err(timed(error)),
         }
     }
 

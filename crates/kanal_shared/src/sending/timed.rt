@@ -1,7 +1,7 @@
 //! The send until a deadline.
 //!
 //! Stands on the steps, on how a blocked call waits, and on the clock that the caller hands in.
-ghost use Rattle.std.specs.Prelude.{◌≡◌, IsSome, None, Ok, IfErr};
+ghost use Rattle.std.specs.Prelude.{◌≡◌, Some, IfErr};
 ghost use Rattle.kanal_shared.specs.Timed.{StartedNoWait};
 
 use super::wait;
@@ -10,6 +10,7 @@ use crate::clock::{Clock, deadline};
 use crate::shared::Shared;
 use kanal_core::error::{SendError, SendErrorTimeout};
 use kanal_core::internal::{Outcome, Reason, Ticket};
+use kanal_steps::steps::{Offered, Sent};
 use std::sync::Wait;
 use std::time;
 use std::time::Duration;
@@ -24,25 +25,20 @@ fn timed(error: SendError) -> SendErrorTimeout {
     }
 }
 
-/// What the end of a timed sender's wait answers; a message that comes back goes into the option.
-fn timed_answer_of<T: Drop>(
-    outcome: Outcome<T>,
-    option: &mut Option<T>,
-) -> Result<(), SendErrorTimeout>
-    ensures sent { result ≡ Ok tt → option.new ≡ option.old }
-    ensures ended { IfErr result (λ e. StartedNoWait e → ⊥) }
+/// Why a timed send was refused, and its message.
+type Kept<T> = (SendErrorTimeout, Option<T>);
+
+/// What the end of a timed sender's wait answers, with the message if that comes back.
+fn timed_answer_of<T: Drop>(outcome: Outcome<T>) -> Result<(), Kept<T>>
+    ensures ended { IfErr result (λ e. StartedNoWait e.0 → ⊥) }
 {
     match outcome {
         Outcome::Taken => Ok(()),
         Outcome::Ended(Reason::ReceiveClosed, message) => {
-            *option = message;
-            Err(SendErrorTimeout::ReceiveClosed)
+            Err((SendErrorTimeout::ReceiveClosed, message))
         },
-        Outcome::Ended(_reason, message) => {
-            *option = message;
-            Err(SendErrorTimeout::Closed)
-        },
-        Outcome::Given(_message) => Err(SendErrorTimeout::Closed),
+        Outcome::Ended(_reason, message) => Err((SendErrorTimeout::Closed, message)),
+        Outcome::Given(_message) => Err((SendErrorTimeout::Closed, None)),
     }
 }
 
@@ -52,87 +48,52 @@ impl<T: Drop> Shared<T> {
     ///
     /// # Errors
     /// As `send_blocking`, and `Timeout` where the deadline came first, and `DeadlineOutOfRange` where
-    /// no moment is so late. The message is dropped then.
+    /// no moment is so late. The message comes back, but from a wait whose end kept it.
     ///
     /// # Examples
     /// ```text
-    /// shared.send_timeout(&rt, 7, Duration::from_nanos(1), &clock)
-    ///     answers  Err(SendErrorTimeout::Timeout)   in a full channel
+    /// shared.send_before(&rt, 7, Duration::from_nanos(1), &clock)
+    ///     answers  Err((SendErrorTimeout::Timeout, Some(7)))   in a full channel
     /// ```
-    pub fn send_timeout<R: Wait + time::Clock, C: Clock>(
+    pub fn send_before<R: Wait + time::Clock, C: Clock>(
         &self,
         rt: &R,
         message: T,
         duration: Duration,
         clock: &C,
-    ) -> Result<(), SendErrorTimeout> {
-        let mut option = Some(message);
-        self.send_option_timeout(rt, &mut option, duration, clock)
-    }
-
-    /// Sends the option's message as `send_timeout`, and empties the option exactly where it was sent.
-    ///
-    /// The caller knows that the option holds a message.
-    ///
-    /// # Errors
-    /// As `send_timeout`. The option holds the message then.
-    ///
-    /// # Examples
-    /// ```text
-    /// let mut option = Some(7);
-    /// shared.send_option_timeout(&rt, &mut option, Duration::from_nanos(1), &clock)
-    ///     answers  Err(SendErrorTimeout::Timeout)   in a full channel
-    /// option   is  Some(7)
-    /// ```
-    pub fn send_option_timeout<R: Wait + time::Clock, C: Clock>(
-        &self,
-        rt: &R,
-        option: &mut Option<T>,
-        duration: Duration,
-        clock: &C,
-    ) -> Result<(), SendErrorTimeout>
-        requires { IsSome option.old }
-        ensures sent { result ≡ Ok tt → option.new ≡ None }
-        ensures kept { IfErr result (λ e. StartedNoWait e → option.new ≡ option.old) }
+    ) -> Result<(), Kept<T>>
+        ensures kept { IfErr result (λ e. StartedNoWait e.0 → e.1 ≡ Some message) }
     {
         let Some(deadline) = deadline(clock, duration) else {
-            return Err(SendErrorTimeout::DeadlineOutOfRange);
+            return Err((SendErrorTimeout::DeadlineOutOfRange, Some(message)));
         };
-        match self.try_send_option(rt, option) {
-            Ok(true) => Ok(()),
-            Ok(false) => self.send_until(rt, option, deadline, clock),
-            Err(error) => Err(timed(error)),
+        match self.offer(rt, message) {
+            Offered::Entered => Ok(()),
+            Offered::Full(message) => self.send_until(rt, message, deadline, clock),
+            Offered::Refused(error, message) => Err((timed(error), Some(message))),
         }
     }
 
-    /// Sends the option's message with what a wait needs in hand.
+    /// Sends the message with what a wait needs in hand.
     fn send_until<R: Wait + time::Clock, C: Clock>(
         &self,
         rt: &R,
-        option: &mut Option<T>,
+        message: T,
         deadline: u64,
         clock: &C,
-    ) -> Result<(), SendErrorTimeout>
-        requires { IsSome option.old }
-        ensures sent { result ≡ Ok tt → option.new ≡ None }
-        ensures kept { IfErr result (λ e. StartedNoWait e → option.new ≡ option.old) }
+    ) -> Result<(), Kept<T>>
+        ensures kept { IfErr result (λ e. StartedNoWait e.0 → e.1 ≡ Some message) }
     {
         let Some((waiting, seat)) = wait(self.alloc) else {
-            return Err(SendErrorTimeout::NoMemory);
-        };
-        let Some(message) = option.take() else {
-            unreachable!()
+            return Err((SendErrorTimeout::NoMemory, Some(message)));
         };
         match self.send_seated(rt, message, seat) {
-            Ok(None) => Ok(()),
-            Ok(Some(ticket)) => {
+            Sent::Entered(_seat) => Ok(()),
+            Sent::Waits(ticket) => {
                 let looked = waiting.outcome_until(rt, clock, deadline);
-                self.end_send(rt, ticket, looked, option)
+                self.end_send(rt, ticket, looked)
             },
-            Err((error, back)) => {
-                *option = Some(back);
-                Err(timed(error))
-            },
+            Sent::Refused(error, back, _seat) => Err((timed(error), Some(back))),
         }
     }
 
@@ -143,21 +104,16 @@ impl<T: Drop> Shared<T> {
         rt: &R,
         ticket: Ticket,
         looked: Result<Outcome<T>, Waiting<Outcome<T>>>,
-        option: &mut Option<T>,
-    ) -> Result<(), SendErrorTimeout>
-        ensures sent { result ≡ Ok tt → option.new ≡ option.old }
-        ensures ended { IfErr result (λ e. StartedNoWait e → ⊥) }
+    ) -> Result<(), Kept<T>>
+        ensures ended { IfErr result (λ e. StartedNoWait e.0 → ⊥) }
     {
         let waiting = match looked {
-            Ok(outcome) => return timed_answer_of(outcome, option),
+            Ok(outcome) => return timed_answer_of(outcome),
             Err(waiting) => waiting,
         };
         match self.withdraw(rt, ticket) {
-            Some(message) => {
-                *option = message;
-                Err(SendErrorTimeout::Timeout)
-            },
-            None => timed_answer_of(waiting.outcome(rt), option),
+            Some(message) => Err((SendErrorTimeout::Timeout, message)),
+            None => timed_answer_of(waiting.outcome(rt)),
         }
     }
 }

@@ -1,4 +1,5 @@
 use Rattle.std.proofs.Common.{◌≡◌, ◌<◌, ◌-◌, ◌==◌, suc, [], cond, map, ap, refl, subst, sym, ◌∙◌, arith}
+use Rattle.kanal_core.specs.Calls.{MovesTo}
 use Rattle.kanal_core.specs.Channel.{line_of, settlement, ended_by, receiver_dropped}
 use Rattle.kanal_core.specs.Moves.{drop_receiver}
 use Rattle.kanal_core.specs.declared.internal.outcome.Reason.TheVariants.{ReceiveClosed}
@@ -15,9 +16,12 @@ returns-then-is_last g c =
     let more : 0 < c.loop-left.left = omega (arith, c.loop-left-test.true) in
     let last = last-dropped _ _ _ _ i.2 more one in
     record {
-      step = sym i.0 ∙ times-last drop_receiver c.loop-left.left (c.loop-left.left - 1) (line_of c.loop-left.core) _ left c.drop_receiver-ended.ensures.step (no-receiver (line_of c.drop_receiver-ended.new.self) none);
+      step =
+          subst (λ w. MovesTo (times drop_receiver c.args.count (line_of c.args.core.now)) (map settlement w) (line_of c.drop_receiver-ended.new.self)) (sym c.all.ensures.waits)
+          (sym i.0 ∙ times-last drop_receiver c.loop-left.left (c.loop-left.left - 1) (line_of c.loop-left.core) _ left c.drop_receiver-ended.ensures.step (no-receiver (line_of c.drop_receiver-ended.new.self) none));
       ended =
-          c.drop_receiver-ended.ensures.ended
+          c.all.ensures.waits
+          ∙ c.drop_receiver-ended.ensures.ended
           ∙ ap (λ k. cond (k == 1) (map (ended_by ReceiveClosed) c.loop-left.core.waiters) []) one
           ∙ ap (λ (ch : _). map (ended_by ReceiveClosed) ch.waiters) i.1
           ∙ sym (ap (λ b. cond b (map (ended_by ReceiveClosed) c.args.core.now.waiters) []) last);
@@ -51,7 +55,9 @@ returns g c =
     let end : c.loop-left.left ≡ 0 = omega (arith, c.loop-left-test.false) in
     let kept = last-kept c.args.core.now.receivers c.args.count c.loop-left.core.receivers (subst (λ k. Dropping c.args.core.now.receivers c.args.count k c.loop-left.core.receivers) end i.2) in
     record {
-      step = sym i.0 ∙ ap (λ k. times drop_receiver k (line_of c.loop-left.core)) end;
-      ended = sym (ap (λ b. cond b (map (ended_by ReceiveClosed) c.args.core.now.waiters) []) kept);
+      step =
+          subst (λ w. MovesTo (times drop_receiver c.args.count (line_of c.args.core.now)) (map settlement w) (line_of c.loop-left.core)) (sym c.nothing.ensures.waits)
+          (sym i.0 ∙ ap (λ k. times drop_receiver k (line_of c.loop-left.core)) end);
+      ended = c.nothing.ensures.waits ∙ sym (ap (λ b. cond b (map (ended_by ReceiveClosed) c.args.core.now.waiters) []) kept);
       after = i.1 ∙ receivers-stay c.args.core.now c.args.count c.loop-left.core.receivers kept (omega (arith, i.2.fewer, end));
     }

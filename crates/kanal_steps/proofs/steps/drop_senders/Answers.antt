@@ -1,4 +1,5 @@
 use Rattle.std.proofs.Common.{◌≡◌, ◌<◌, ◌-◌, ◌==◌, suc, [], cond, map, ap, refl, subst, sym, ◌∙◌, arith}
+use Rattle.kanal_core.specs.Calls.{MovesTo}
 use Rattle.kanal_core.specs.Channel.{line_of, settlement, ended_by, sender_dropped}
 use Rattle.kanal_core.specs.Moves.{drop_sender}
 use Rattle.kanal_core.specs.declared.internal.outcome.Reason.TheVariants.{SendClosed}
@@ -15,9 +16,12 @@ returns-then-is_last g c =
     let more : 0 < c.loop-left.left = omega (arith, c.loop-left-test.true) in
     let last = last-dropped _ _ _ _ i.2 more one in
     record {
-      step = sym i.0 ∙ times-last drop_sender c.loop-left.left (c.loop-left.left - 1) (line_of c.loop-left.core) _ left c.drop_sender-ended.ensures.step (no-sender (line_of c.drop_sender-ended.new.self) none);
+      step =
+          subst (λ w. MovesTo (times drop_sender c.args.count (line_of c.args.core.now)) (map settlement w) (line_of c.drop_sender-ended.new.self)) (sym c.all.ensures.waits)
+          (sym i.0 ∙ times-last drop_sender c.loop-left.left (c.loop-left.left - 1) (line_of c.loop-left.core) _ left c.drop_sender-ended.ensures.step (no-sender (line_of c.drop_sender-ended.new.self) none));
       ended =
-          c.drop_sender-ended.ensures.ended
+          c.all.ensures.waits
+          ∙ c.drop_sender-ended.ensures.ended
           ∙ ap (λ k. cond (k == 1) (map (ended_by SendClosed) c.loop-left.core.waiters) []) one
           ∙ ap (λ (ch : _). map (ended_by SendClosed) ch.waiters) i.1
           ∙ sym (ap (λ b. cond b (map (ended_by SendClosed) c.args.core.now.waiters) []) last);
@@ -51,7 +55,9 @@ returns g c =
     let end : c.loop-left.left ≡ 0 = omega (arith, c.loop-left-test.false) in
     let kept = last-kept c.args.core.now.senders c.args.count c.loop-left.core.senders (subst (λ k. Dropping c.args.core.now.senders c.args.count k c.loop-left.core.senders) end i.2) in
     record {
-      step = sym i.0 ∙ ap (λ k. times drop_sender k (line_of c.loop-left.core)) end;
-      ended = sym (ap (λ b. cond b (map (ended_by SendClosed) c.args.core.now.waiters) []) kept);
+      step =
+          subst (λ w. MovesTo (times drop_sender c.args.count (line_of c.args.core.now)) (map settlement w) (line_of c.loop-left.core)) (sym c.nothing.ensures.waits)
+          (sym i.0 ∙ ap (λ k. times drop_sender k (line_of c.loop-left.core)) end);
+      ended = c.nothing.ensures.waits ∙ sym (ap (λ b. cond b (map (ended_by SendClosed) c.args.core.now.waiters) []) kept);
       after = i.1 ∙ senders-stay c.args.core.now c.args.count c.loop-left.core.senders kept (omega (arith, i.2.fewer, end));
     }

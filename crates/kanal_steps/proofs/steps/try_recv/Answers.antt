@@ -3,6 +3,3 @@ use Rattle.kanal_steps.proofs.steps.try_recv.Goals as goal
 
 pub returns-in-Got-clause-step : goal.returns-in-Got-clause-step
 returns-in-Got-clause-step g c = search rules
-
-pub returns-in-SendClosed-clause-step : goal.returns-in-SendClosed-clause-step
-returns-in-SendClosed-clause-step g c = search rules

@@ -1,9 +1,6 @@
 use Rattle.std.proofs.Common.{rules}
 use Rattle.kanal_steps.proofs.steps.try_send.Goals as goal
 
-pub returns-clause-kept : goal.returns-clause-kept
-returns-clause-kept g c = search rules
-
 pub returns-in-Handed-clause-step : goal.returns-in-Handed-clause-step
 returns-in-Handed-clause-step g c = search rules
 

@@ -1,7 +1,7 @@
 use Rattle.std.proofs.Common.{◌≡◌, List, map}
 use Rattle.kanal_core.specs.declared.internal.outcome.Waiter.{Waiter}
 use Rattle.kanal_steps.specs.Leaving.{LeaveInTurn, entry_of, kept_by}
-use Rattle.kanal_steps.specs.Steps.{Boxed}
+use Rattle.kanal_steps.specs.Seats.{Boxed}
 use Rattle.kanal_steps.proofs.steps.withdraw_left.Given as goal
 
 -- the chain keeps what has left so far

@@ -1,8 +1,0 @@
-use Rattle.std.proofs.Common.{rules}
-use Rattle.kanal_steps.proofs.steps.recv.Goals as goal
-
-pub returns-in-Got-clause-step : goal.returns-in-Got-clause-step
-returns-in-Got-clause-step g c = search rules
-
-pub returns-in-Got-clause-seats : goal.returns-in-Got-clause-seats
-returns-in-Got-clause-seats g c = search rules

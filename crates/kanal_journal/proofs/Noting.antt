@@ -1,8 +1,10 @@
--- What the lists hold after a step was noted.
-use Rattle.std.proofs.Common.{◌≡◌, ℕ, ◌+◌, ◌≤◌, zero, suc, List, [], ◌∷◌, ◌++◌, length, map, take, Option, Some, None, refl, ap, inl, inr, ◌⊎◌, arith, length-append}
+-- What a running channel holds and tells after a step was noted.
+use Rattle.std.proofs.Common.{◌≡◌, ℕ, ◌+◌, ◌≤◌, zero, suc, List, [], ◌∷◌, ◌++◌, length, map, take, Option, Some, None, refl, sym, ap, subst, inl, inr, ◌⊎◌, arith, length-append}
 use Rattle.std.proofs.lemmas.List.{length-map}
 use Rattle.kanal_core.specs.declared.internal.outcome.Outcome.{Outcome}
 use Rattle.kanal_core.specs.Line.{Entry, Line, bare, tickets, under}
+use Rattle.kanal_core.specs.declared.internal.outcome.Ticket.{Ticket}
+use Rattle.kanal_core.specs.Channel.{Channel, line_of}
 use Rattle.kanal_journal.specs.declared.journal.handles.Handles.{Handles}
 use Rattle.kanal_journal.specs.declared.journal.event.Event.{Event}
 use Rattle.kanal_journal.specs.declared.journal.event.Event.TheVariants.{CloneTx, CloneRx, DropTx, DropRx}
@@ -10,21 +12,43 @@ use Rattle.kanal_journal.specs.declared.journal.event.Reply.{Reply}
 use Rattle.kanal_journal.specs.declared.journal.event.Reply.TheVariants.{Done}
 use Rattle.kanal_journal.specs.declared.journal.event.Settlement.{Settlement}
 use Rattle.kanal_journal.specs.declared.journal.calls.Made.{Made}
-use Rattle.kanal_journal.specs.Runs.{Account, numbered, handles_after}
-use Rattle.kanal_journal.specs.Given.{waiting_count}
-use Rattle.kanal_journal.specs.Made.{told_of, settled_by, cleared_of, IsAnswered}
+use Rattle.kanal_journal.specs.declared.journal.running.Running.{Running}
+use Rattle.kanal_journal.specs.Runs.{Account, IsTold, added, numbered as with_number, handles_after, opening, opening_line}
+use Rattle.kanal_journal.specs.Given.{AreNumbered, waiting_count}
+use Rattle.kanal_journal.specs.Made.{told_of, reply_of, settled_by, cleared_of, IsAnswered}
+use Rattle.kanal_journal.specs.Running.{IsNoted, IsOpened, IsWithinEvents, IsSame, account_of}
 use Rattle.kanal_journal.proofs.Counting.{told-counts, told-count}
+use Rattle.kanal_journal.proofs.Numbering.{numbered-more}
 
 module _ {T : Type 0} where
   -- accounts with the same parts
-  pub same-account : (line : Line T) (hs hs' : Handles) (rs rs' : List (Reply T)) (ss ss' : List (Settlement T)) (ds ds' cs cs' : List T) → hs ≡ hs' → rs ≡ rs' → ss ≡ ss' → ds ≡ ds' → cs ≡ cs'
-      → ◌≡◌ {A = Account T} (record { line = line; handles = hs; replies = rs; settled = ss; drained = ds; cleared = cs }) (record { line = line; handles = hs'; replies = rs'; settled = ss'; drained = ds'; cleared = cs' })
-  same-account line hs hs' rs rs' ss ss' ds ds' cs cs' h r s d c = rw (h, r, s, d, c) refl
+  same-account : (l l' : Line T) (hs hs' : Handles) (rs rs' : List (Reply T)) (ss ss' : List (Settlement T)) (ds ds' cs cs' : List T) → l ≡ l' → hs ≡ hs' → rs ≡ rs' → ss ≡ ss' → ds ≡ ds' → cs ≡ cs'
+      → ◌≡◌ {A = Account T} (record { line = l; handles = hs; replies = rs; settled = ss; drained = ds; cleared = cs }) (record { line = l'; handles = hs'; replies = rs'; settled = ss'; drained = ds'; cleared = cs' })
+  same-account l l' hs hs' rs rs' ss ss' ds ds' cs cs' line handles replies settled drained cleared = cc
+
+  module _ (replies : List (Reply T)) (old new : Running T) (e : Event T) (reply : Reply T) (noted : IsNoted (length replies) old e reply new) where
+    -- what the event told was added, and its reply to the replies
+    pub noted-all : account_of (replies ++ reply ∷ []) new ≡ added (account_of replies old) e noted.told
+    noted-all =
+        let told = added (account_of replies old) e noted.told in
+        same-account (line_of new.core) told.line new.handles told.handles (replies ++ reply ∷ []) told.replies new.settled.items told.settled new.drained.items told.drained new.cleared.items told.cleared
+        noted.line noted.handles (ap (λ r. replies ++ r ∷ []) noted.replied) noted.settled noted.drained noted.cleared
+
+    -- what the event told was added, but for its reply
+    pub noted-rest : account_of replies new ≡ record (added (account_of replies old) e noted.told) { replies = replies }
+    noted-rest =
+        let told = added (account_of replies old) e noted.told in
+        same-account (line_of new.core) told.line new.handles told.handles replies replies new.settled.items told.settled new.drained.items told.drained new.cleared.items told.cleared
+        noted.line noted.handles refl noted.settled noted.drained noted.cleared
+
+    -- so the account goes on by what the event tells
+    pub noted-told : IsTold (account_of replies old) e (account_of (replies ++ reply ∷ []) new)
+    noted-told = (noted.told, noted.answers, noted-all)
 
   -- as many settlements are noted as there were
-  pub noted-count : (n : ℕ) (old new : List (Settlement T)) (settled : List (ℕ × Outcome T)) → new ≡ old ++ numbered n settled → length new ≡ length old + length settled
+  pub noted-count : (n : ℕ) (old new : List (Settlement T)) (settled : List (ℕ × Outcome T)) → new ≡ old ++ with_number n settled → length new ≡ length old + length settled
   noted-count n old new settled is =
-      omega (arith, ap length is, length-append old (numbered n settled), length-map {B = Settlement T} settled (λ s. record { step = n; ticket = s.0; outcome = s.1 }))
+      omega (arith, ap length is, length-append old (with_number n settled), length-map {B = Settlement T} settled (λ s. record { step = n; ticket = s.0; outcome = s.1 }))
 
   bare-under : (c : Option ℕ) (ms : List T) → tickets (under c (map bare ms)) ≡ []
   bare-under None [] = refl
@@ -56,3 +80,54 @@ module _ {T : Type 0} where
   answered-counts handles old new e before after made below is =
       let k = told-counts (λ x. 1) old below handles e (told_of new is.messages made) is.told in
       (told-count old below handles e (told_of new is.messages made) is.told, omega (arith, k.left, ap length is.drained, length-append before is.messages), omega (arith, k.left))
+
+  -- where the account is the same, no more is there
+  pub within-same : (n : ℕ) (replies : List (Reply T)) (old new : Running T) → account_of replies new ≡ account_of replies old → AreNumbered 0 new.tickets.items new.core.next → IsWithinEvents n old → IsWithinEvents n new
+  within-same n replies old new is numbered within =
+      record {
+        numbered = numbered;
+        given = omega (arith, ap (λ (a : Account T). a.line.next) is, within.given);
+        waiting = omega (arith, ap (λ (a : Account T). length a.settled + waiting_count a.line) is, within.waiting);
+        drains = omega (arith, ap (λ (a : Account T). length a.drained + length a.line.line) is, within.drains);
+        clears = omega (arith, ap (λ (a : Account T). length a.cleared + length a.line.line) is, within.clears);
+        senders = omega (arith, ap (λ (a : Account T). a.handles.tx) is, within.senders);
+        receivers = omega (arith, ap (λ (a : Account T). a.handles.rx) is, within.receivers);
+      }
+
+  -- where only the room is another, what was told is the same
+  pub same-told : (replies : List (Reply T)) (old new : Running T) → IsSame old new → account_of replies new ≡ account_of replies old
+  same-told replies old new same =
+      same-account (line_of new.core) (line_of old.core) new.handles old.handles replies replies new.settled.items old.settled.items new.drained.items old.drained.items new.cleared.items old.cleared.items
+      (ap line_of same.core) same.handles refl same.settled same.drained same.cleared
+
+  -- and no more is there
+  pub same-within : (n : ℕ) (old new : Running T) → IsSame old new → IsWithinEvents n old → IsWithinEvents n new
+  same-within n old new same within =
+      let N : List Ticket → Type 0 = λ ts. AreNumbered 0 ts old.core.next in
+      let C : Channel T (Unit {0}) → Type 0 = λ k. AreNumbered 0 new.tickets.items k.next in
+      within-same n [] old new (same-told [] old new same) (subst C (sym same.core) (subst N (sym same.tickets) within.numbered)) within
+
+  -- nothing was told yet on a new channel
+  pub opened-told : (capacity : Option ℕ) (r : Running T) → IsOpened capacity r → account_of [] r ≡ opening capacity
+  opened-told capacity r opened =
+      same-account (line_of r.core) (opening_line capacity) r.handles (record { tx = 1; rx = 1 }) [] [] r.settled.items [] r.drained.items [] r.cleared.items []
+      (ap line_of opened.core) opened.handles refl opened.settled opened.drained opened.cleared
+
+  -- one event more brings no more than one event can
+  pub within-next : (n : ℕ) (old new : Running T) (e : Event T) (made : Made T) → tickets (under old.core.capacity (line_of old.core).line) ≡ [] → IsWithinEvents n old
+      → IsAnswered old.handles (line_of old.core) e (line_of new.core) old.drained.items new.drained.items made → new.handles ≡ handles_after old.handles e (reply_of made)
+      → AreNumbered 0 new.tickets.items new.core.next → length new.tickets.items ≤ length old.tickets.items + 1
+      → new.settled.items ≡ old.settled.items ++ with_number n (settled_by made) → new.cleared.items ≡ old.cleared.items ++ cleared_of made → IsWithinEvents (n + 1) new
+  within-next n old new e made below within answered handles numbered one settled cleared =
+      let counts = answered-counts old.handles (line_of old.core) (line_of new.core) e old.drained.items new.drained.items made below answered in
+      let more = numbered-more old.tickets.items new.tickets.items old.core.next new.core.next within.numbered numbered one in
+      let few = few-more old.handles e (reply_of made) in
+      record {
+        numbered = numbered;
+        given = omega (arith, more, within.given);
+        waiting = omega (arith, counts.0, more, within.waiting, noted-count n old.settled.items new.settled.items (settled_by made) settled);
+        drains = omega (arith, counts.1, within.drains);
+        clears = omega (arith, counts.2, within.clears, ap length cleared, length-append old.cleared.items (cleared_of made));
+        senders = omega (arith, few.0, within.senders, ap (λ (h : Handles). h.tx) handles);
+        receivers = omega (arith, few.1, within.receivers, ap (λ (h : Handles). h.rx) handles);
+      }

@@ -12,4 +12,4 @@ module _ {T : Type 0} where
   -- the journal replays to what is there, and the capacity is the channel's
   pub record IsExplained (s : Inside T) : Type 0 where
     pub sound : IsSound s.recorder
-    pub capacity : s.recorder.core.capacity ≡ s.capacity
+    pub capacity : s.recorder.running.core.capacity ≡ s.capacity

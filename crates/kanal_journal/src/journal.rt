@@ -7,19 +7,16 @@
 //! `RecordedState` is a channel that keeps a journal of the calls made on it, and its type keeps that
 //! the journal explains it.
 //!
-//! Stands on the core's contracts. Nothing here looks into the core.
-ghost use Rattle.std.specs.Prelude.{◌≡◌, ◌↔◌, ℕ, ◌+◌, ◌<◌, ◌≤◌, [], length, IfOk, IsErrOf, Some, vec_len, vec_capacity};
-ghost use Rattle.kanal_core.specs.Channel.{line_of, opening};
-ghost use Rattle.kanal_journal.specs.Runs.{IsTold, Runs, account};
-ghost use Rattle.kanal_journal.specs.Given.{AreNumbered, AreFew, waiting_count, SameRoom};
+//! Stands on the running channel, on which each event is made. Nothing here looks into the core.
+ghost use Rattle.std.specs.Prelude.{◌≡◌, ◌↔◌, ℕ, ◌+◌, ◌<◌, IfOk, IsErrOf, Some, vec_len, vec_capacity};
+ghost use Rattle.kanal_journal.specs.Runs.{IsTold, Runs};
+ghost use Rattle.kanal_journal.specs.Running.{IsWithinEvents, HasRoom, HasSameRoom, account_of};
 ghost use Rattle.kanal_journal.specs.Paired.{Paired, history, until, rest};
 ghost use Rattle.kanal_journal.specs.Weights.{weigh, event_weight, report_weight};
 
-use calls::Core;
-use handles::Handles;
 use kanal_core::error::NewError;
-use kanal_core::internal::{ChannelInternal, Ticket};
-use std::alloc::{AllocError, Global};
+use running::Running;
+use std::alloc::Global;
 
 mod calls;
 mod event;
@@ -27,67 +24,25 @@ mod handles;
 mod notes;
 mod recorded_state;
 mod recorder;
+mod running;
 
 pub use event::{Ask, Event, Refusal, Reply, Report, Settlement, Side};
 pub use recorded_state::RecordedState;
 pub use recorder::{Entry, Journal};
 
-/// Makes one event, and adds what it tells to the report.
-fn step<T: Drop>(
-    core: &mut Core<T>,
-    tickets: &mut Vec<Ticket>,
-    handles: &mut Handles,
-    report: &mut Report<T>,
-    event: Event<T>,
-)
-    requires few { AreFew handles.old }
-    requires tickets { vec_len tickets.old < vec_capacity tickets.old }
-    requires numbered { AreNumbered 0 tickets.old.items core.old.next }
-    requires replies { vec_len report.old.replies < vec_capacity report.old.replies }
-    requires settled { vec_len report.old.settled + waiting_count (line_of core.old) < vec_capacity report.old.settled }
-    requires drained { vec_len report.old.drained + length (line_of core.old).line ≤ vec_capacity report.old.drained }
-    requires cleared { vec_len report.old.cleared + length (line_of core.old).line < vec_capacity report.old.cleared }
-    ensures told { IsTold (account (line_of core.old) handles.old report.old) event (account (line_of core.new) handles.new report.new) }
-    ensures numbered { AreNumbered 0 tickets.new.items core.new.next }
-    ensures left { report.new.left ≡ report.old.left }
-    ensures one { vec_len tickets.new ≤ vec_len tickets.old + 1 }
-    ensures count { vec_len report.new.replies ≡ vec_len report.old.replies + 1 }
-    ensures more { (handles.new.tx ≤ handles.old.tx + 1) × (handles.new.rx ≤ handles.old.rx + 1) }
-    ensures waiting { vec_len report.new.settled + waiting_count (line_of core.new) ≤ vec_len report.old.settled + waiting_count (line_of core.old) + 1 }
-    ensures drains { vec_len report.new.drained + length (line_of core.new).line ≤ vec_len report.old.drained + length (line_of core.old).line + 1 }
-    ensures clears { vec_len report.new.cleared + length (line_of core.new).line ≤ vec_len report.old.cleared + length (line_of core.old).line + 1 }
-    ensures room { SameRoom report.old report.new × (vec_capacity tickets.new ≡ vec_capacity tickets.old) }
+/// Makes one event, and adds its reply.
+fn step<T: Drop>(running: &mut Running<T>, replies: &mut Vec<Reply<T>>, event: Event<T>)
+    requires within { IsWithinEvents (vec_len replies.old) running.old }
+    requires room { HasRoom (vec_len replies.old + 1) running.old }
+    requires replies { vec_len replies.old < vec_capacity replies.old }
+    ensures told { IsTold (account_of replies.old.items running.old) event (account_of replies.new.items running.new) }
+    ensures within { IsWithinEvents (vec_len replies.new) running.new }
+    ensures count { vec_len replies.new ≡ vec_len replies.old + 1 }
+    ensures room { HasSameRoom running.old running.new }
+    ensures same { vec_capacity replies.new ≡ vec_capacity replies.old }
 {
-    core.holds();
-    let made = calls::answer(core, tickets, handles, &mut report.drained, event);
-    let number = report.replies.len();
-    let reply = notes::note(number, made, &mut report.settled, &mut report.cleared);
-    report.replies.push_reserved(reply);
-}
-
-/// A report with nothing in it, and room for so many steps.
-fn blank<T: Drop>(alloc: Global, steps: usize) -> Result<Report<T>, AllocError>
-    ensures empty { IfOk result (λ r. (r.replies.items ≡ []) × (r.settled.items ≡ []) × (r.drained.items ≡ []) × (r.cleared.items ≡ []) × (r.left.items ≡ [])) }
-    ensures room { IfOk result (λ r. (vec_capacity r.replies ≡ steps) × (vec_capacity r.settled ≡ steps) × (vec_capacity r.drained ≡ steps) × (vec_capacity r.cleared ≡ steps) × (vec_capacity r.left ≡ steps)) }
-{
-    Ok(Report {
-        replies: Vec::with_capacity(alloc, steps)?,
-        settled: Vec::with_capacity(alloc, steps)?,
-        drained: Vec::with_capacity(alloc, steps)?,
-        cleared: Vec::with_capacity(alloc, steps)?,
-        left: Vec::with_capacity(alloc, steps)?,
-    })
-}
-
-/// A new channel of this capacity, or without limit.
-fn channel<T: Drop>(alloc: Global, capacity: Option<usize>) -> Result<Core<T>, NewError>
-    ensures new { IfOk result (λ c. c ≡ opening capacity) }
-    ensures large { IsErrOf result NewError.TooLarge ↔ (capacity ≡ Some 18446744073709551615) }
-{
-    match capacity {
-        None => Ok(ChannelInternal::unbounded(alloc)),
-        Some(limit) => ChannelInternal::new(alloc, limit),
-    }
+    let reply = running.answer(replies.len(), event);
+    replies.push_reserved(reply);
 }
 
 /// Makes the events in order on a new channel of this capacity, `None` being no limit, and reports
@@ -120,18 +75,26 @@ pub fn run<T: Drop>(
     ensures left { IfOk result (λ r. r.left.items ≡ rest (history events.items r)) }
     ensures whole { IfOk result (λ r. (h : T → ℕ) → weigh (event_weight h) events.items ≡ report_weight h r) }
 {
-    let mut core = channel(alloc, capacity)?;
+    let mut running = Running::new(alloc, capacity)?;
     let steps = events.len();
-    let Ok(mut report) = blank(alloc, steps) else {
+    let Ok(()) = running.reserve(steps) else {
         return Err(NewError::NoMemory);
     };
-    let Ok(mut tickets) = Vec::with_capacity(alloc, steps) else {
+    let Ok(mut replies) = Vec::with_capacity(alloc, steps) else {
         return Err(NewError::NoMemory);
     };
-    let mut handles = Handles::new();
+    let Ok(mut left) = Vec::with_capacity(alloc, steps) else {
+        return Err(NewError::NoMemory);
+    };
     for event in events {
-        step(&mut core, &mut tickets, &mut handles, &mut report, event);
+        step(&mut running, &mut replies, event);
     }
-    notes::move_left(core.into_messages(), &mut report.left);
-    Ok(report)
+    notes::move_left(running.core.into_messages(), &mut left);
+    Ok(Report {
+        replies,
+        settled: running.settled,
+        drained: running.drained,
+        cleared: running.cleared,
+        left,
+    })
 }

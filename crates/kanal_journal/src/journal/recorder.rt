@@ -1,19 +1,17 @@
 //! A channel with the journal of its calls, and all that it told along them.
 //!
-//! Stands on the making of one event and on the noting of what it told. Room for all that a step may
-//! add is made before the step. That the journal replays to what is there is a fact which each step
+//! Stands on the running channel, which makes each event and notes what that told. Room for all that
+//! a step may add is made before the step. That the journal replays to what is there is a fact which each step
 //! is given and gives back; `RecordedState` keeps it, and nothing else has a recorder.
-ghost use Rattle.std.specs.Prelude.{◌≡◌, ◌↔◌, ◌<◌, ◌≤◌, [], ◌∷◌, ◌++◌, IfOk, IsErrOf, Some, vec_len, vec_capacity};
-ghost use Rattle.kanal_journal.specs.Given.{AreNumbered};
+ghost use Rattle.std.specs.Prelude.{◌≡◌, ◌↔◌, ◌+◌, ◌<◌, [], ◌∷◌, ◌++◌, IfOk, IsErrOf, Some, vec_len, vec_capacity};
 ghost use Rattle.kanal_journal.specs.Replays.{Records, opened, outcome_of, is_no_memory as tells_no_memory};
-ghost use Rattle.kanal_journal.specs.Recorders.{IsSound, IsSame, HasRoom, IsNoted, account_of, recording_of};
+ghost use Rattle.kanal_journal.specs.Running.{IsSame, HasRoom};
+ghost use Rattle.kanal_journal.specs.Recorders.{IsSound, recording_of};
 
-use super::calls::Core;
 use super::event::{Event, Refusal, Reply, Settlement};
-use super::handles::Handles;
-use super::{calls, notes};
+use super::running::{Running, make_room};
 use kanal_core::error::NewError;
-use kanal_core::internal::{Outcome, Ticket};
+use kanal_core::internal::Outcome;
 use std::alloc::{AllocError, Global};
 
 /// One call of a journal: the party that made it, its event, and what it was replied.
@@ -56,14 +54,6 @@ impl<T: Copy> Reply<T> {
     }
 }
 
-/// Makes room in the list for so many items in all.
-fn make_room<X>(list: &mut Vec<X>, total: usize) -> Result<(), AllocError>
-    ensures items { list.new.items ≡ list.old.items }
-    ensures room { IfOk result (λ _. total ≤ vec_capacity list.new) }
-{
-    list.try_reserve(total.saturating_sub(list.len()))
-}
-
 /// Puts the call at the journal's end, which has room for it.
 fn enter<T: Copy>(entries: &mut Vec<Entry<T>>, party: u32, event: Event<T>, reply: Reply<T>)
     requires { vec_len entries.old < vec_capacity entries.old }
@@ -77,17 +67,11 @@ fn enter<T: Copy>(entries: &mut Vec<Entry<T>>, party: u32, event: Event<T>, repl
     entries.push_reserved(entry);
 }
 
-/// A core with the tickets that it gave and the live handles; its journal; and what it settled,
-/// drained and cleared.
+/// A running channel, and the journal of its calls.
 #[derive(Drop)]
 pub(crate) struct Recorder<T: Copy> {
-    core: Core<T>,
-    tickets: Vec<Ticket>,
-    handles: Handles,
+    running: Running<T>,
     entries: Vec<Entry<T>>,
-    settled: Vec<Settlement<T>>,
-    drained: Vec<T>,
-    cleared: Vec<T>,
 }
 
 impl<T: Copy> Recorder<T> {
@@ -97,14 +81,10 @@ impl<T: Copy> Recorder<T> {
         ensures sound { IfOk result (λ r. IsSound r) }
         ensures large { IsErrOf result NewError.TooLarge ↔ (capacity ≡ Some 18446744073709551615) }
     {
+        let running = Running::new(alloc, capacity)?;
         Ok(Recorder {
-            core: super::channel(alloc, capacity)?,
-            tickets: Vec::new(alloc),
-            handles: Handles::new(),
+            running,
             entries: Vec::new(alloc),
-            settled: Vec::new(alloc),
-            drained: Vec::new(alloc),
-            cleared: Vec::new(alloc),
         })
     }
 
@@ -117,9 +97,9 @@ impl<T: Copy> Recorder<T> {
 
     /// What became of the wait with this ticket, if it was settled.
     pub(crate) fn outcome(&self, ticket: u64) -> Option<Outcome<T>>
-        ensures { result ≡ outcome_of ticket self.now.settled.items }
+        ensures { result ≡ outcome_of ticket self.now.running.settled.items }
     {
-        for settlement in self.settled.as_slice() {
+        for settlement in self.running.settled.as_slice() {
             if settlement.ticket == ticket {
                 return Some(settlement.outcome);
             }
@@ -129,48 +109,30 @@ impl<T: Copy> Recorder<T> {
 
     /// The journal, with all that was told along it, moved out.
     pub(crate) fn into_journal(self, capacity: Option<usize>) -> Journal<T>
-        ensures { (result.capacity ≡ capacity) × (result.entries ≡ self.entries) × (result.settled ≡ self.settled) × (result.drained ≡ self.drained) × (result.cleared ≡ self.cleared) }
+        ensures entries { (result.capacity ≡ capacity) × (result.entries ≡ self.entries) }
+        ensures told { (result.settled ≡ self.running.settled) × (result.drained ≡ self.running.drained) × (result.cleared ≡ self.running.cleared) }
     {
+        let Recorder { running, entries } = self;
         Journal {
             capacity,
-            entries: self.entries,
-            settled: self.settled,
-            drained: self.drained,
-            cleared: self.cleared,
+            entries,
+            settled: running.settled,
+            drained: running.drained,
+            cleared: running.cleared,
         }
     }
 
     /// Makes room in each list for one item more than there are entries, which is all that a step
     /// may need.
     fn reserve(&mut self) -> Result<(), AllocError>
-        ensures same { IsSame self.old self.new }
-        ensures room { IfOk result (λ _. HasRoom self.new) }
+        ensures same { IsSame self.old.running self.new.running }
+        ensures entries { self.new.entries.items ≡ self.old.entries.items }
+        ensures room { IfOk result (λ _. HasRoom (vec_len self.new.entries + 1) self.new.running) }
+        ensures entry { IfOk result (λ _. vec_len self.new.entries < vec_capacity self.new.entries) }
     {
         let total = self.entries.len() + 1;
         make_room(&mut self.entries, total)?;
-        make_room(&mut self.tickets, total)?;
-        make_room(&mut self.settled, total)?;
-        make_room(&mut self.drained, total)?;
-        make_room(&mut self.cleared, total)
-    }
-
-    /// Makes the event, and keeps what it told but for the reply.
-    fn make(&mut self, event: Event<T>) -> Reply<T>
-        requires sound { IsSound self.old }
-        requires room { HasRoom self.old }
-        ensures noted { IsNoted (account_of self.old) event result (account_of self.new) }
-        ensures numbered { AreNumbered 0 self.new.tickets.items self.new.core.next }
-        ensures entries { self.new.entries ≡ self.old.entries }
-    {
-        let made = calls::answer(
-            &mut self.core,
-            &mut self.tickets,
-            &mut self.handles,
-            &mut self.drained,
-            event,
-        );
-        let number = self.entries.len();
-        notes::note(number, made, &mut self.settled, &mut self.cleared)
+        self.running.reserve(total)
     }
 
     /// Makes the event for the party, and puts its entry at the journal's end; or finds no memory
@@ -183,7 +145,7 @@ impl<T: Copy> Recorder<T> {
         if self.reserve().is_err() {
             return event.refused(Refusal::NoMemory);
         }
-        let reply = self.make(event);
+        let reply = self.running.answer(self.entries.len(), event);
         if !reply.is_no_memory() {
             enter(&mut self.entries, party, event, reply);
         }

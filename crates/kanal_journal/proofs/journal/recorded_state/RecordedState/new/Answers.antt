@@ -11,4 +11,4 @@ pub returns-clause-opened : goal.returns-clause-opened
 returns-clause-opened g c = search rules
 
 pub returns-clause-large : goal.returns-clause-large
-returns-clause-large g c = search rules
+returns-clause-large g c = (λ e. absurd (cc), λ h. let wrong = c.in_ok-recorder.ensures.large.1 h in absurd (cc))

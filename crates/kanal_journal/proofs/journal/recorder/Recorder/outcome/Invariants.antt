@@ -4,4 +4,4 @@ use Rattle.kanal_journal.proofs.journal.recorder.Recorder.outcome.Given as goal
 
 -- the outcome is that of the settlements that are left
 abbrev pub invariant-loop-settlement : goal.invariant-loop-settlement
-invariant-loop-settlement g l = outcome_of l.ticket (drop l.settlement-index l.self.settled.items) ≡ outcome_of l.ticket l.self.settled.items
+invariant-loop-settlement g l = outcome_of l.ticket (drop l.settlement-index l.self.running.settled.items) ≡ outcome_of l.ticket l.self.running.settled.items

@@ -1,5 +1,5 @@
 use Rattle.std.proofs.Common.{rules}
-use Rattle.kanal_journal.proofs.journal.channel.Goals as goal
+use Rattle.kanal_journal.proofs.journal.running.channel.Goals as goal
 
 pub returns-in-Some-clause-new : goal.returns-in-Some-clause-new
 returns-in-Some-clause-new g c = search rules

@@ -155,9 +155,7 @@ where
 {
     match work {
         Work::InTurn => threads::in_turn(&rt, capacity.open(alloc)?, count),
-        Work::InThreads(crowd) => {
-            threads::in_threads(rt, alloc, capacity.open(alloc)?, crowd, count)
-        },
+        Work::InThreads(crowd) => { threads::in_threads(rt, capacity.open(alloc)?, crowd, count) },
         Work::TaskInTurn => tasks::in_turn(&rt, capacity.open_async(alloc)?, count),
         Work::InTasks(crowd) => {
             tasks::in_threads(rt, alloc, capacity.open_async(alloc)?, crowd, count)

@@ -2,7 +2,7 @@
 use crate::crowd::Crowd;
 use anyhow::Result;
 use kanal::{Receiver, Sender};
-use std::alloc::Global;
+use std::alloc::AllocGlobal;
 use std::sync::Wait;
 use std::thread;
 use std::thread::{JoinHandle, Threads};
@@ -43,14 +43,13 @@ pub fn in_turn<R: Wait>(rt: &R, ends: Ends, count: u64) -> Result<u64> {
 }
 
 /// Starts so many threads that send, each through a clone.
-fn start_senders<R: Threads + Wait + Copy + Send + 'static>(
+fn start_senders<R: Threads + Wait + AllocGlobal + Copy + Send + 'static>(
     rt: R,
-    alloc: Global,
     sender: &Sender<u64>,
     threads: u64,
     each: u64,
 ) -> Result<Vec<JoinHandle<()>>> {
-    let mut started = Vec::new(alloc);
+    let mut started = Vec::new(rt.alloc());
     for _ in 0..threads {
         let theirs = sender.clone(&rt)?;
         started.push(thread::spawn(&rt, move || send_all(&rt, &theirs, each))?)?;
@@ -59,13 +58,12 @@ fn start_senders<R: Threads + Wait + Copy + Send + 'static>(
 }
 
 /// Starts so many threads that receive, each through a clone.
-fn start_receivers<R: Threads + Wait + Copy + Send + 'static>(
+fn start_receivers<R: Threads + Wait + AllocGlobal + Copy + Send + 'static>(
     rt: R,
-    alloc: Global,
     receiver: &Receiver<u64>,
     threads: u64,
 ) -> Result<Vec<JoinHandle<u64>>> {
-    let mut started = Vec::new(alloc);
+    let mut started = Vec::new(rt.alloc());
     for _ in 0..threads {
         let theirs = receiver.clone(&rt)?;
         started.push(thread::spawn(&rt, move || receive_all(&rt, &theirs))?)?;
@@ -83,17 +81,16 @@ fn sum_of<R: Threads>(rt: &R, receiving: Vec<JoinHandle<u64>>) -> u64 {
 }
 
 /// Sends and receives in threads of their own, and joins them all.
-pub fn in_threads<R: Threads + Wait + Copy + Send + 'static>(
+pub fn in_threads<R: Threads + Wait + AllocGlobal + Copy + Send + 'static>(
     rt: R,
-    alloc: Global,
     ends: Ends,
     crowd: Crowd,
     count: u64,
 ) -> Result<u64> {
     let (sender, receiver) = ends;
-    let sending = start_senders(rt, alloc, &sender, crowd.senders, crowd.each(count))?;
+    let sending = start_senders(rt, &sender, crowd.senders, crowd.each(count))?;
     drop(sender);
-    let receiving = start_receivers(rt, alloc, &receiver, crowd.receivers)?;
+    let receiving = start_receivers(rt, &receiver, crowd.receivers)?;
     drop(receiver);
     for thread in sending {
         thread.join(&rt);

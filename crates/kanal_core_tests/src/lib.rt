@@ -3,22 +3,4 @@
 #![tactic(auto)]
 
 #[cfg(test)]
-mod cell_hand_over;
-#[cfg(test)]
-mod cell_steps;
-#[cfg(test)]
-mod cell_wakes;
-#[cfg(test)]
-mod core_buffer;
-#[cfg(test)]
-mod core_calls;
-#[cfg(test)]
-mod core_drains;
-#[cfg(test)]
-mod core_handles;
-#[cfg(test)]
-mod core_waits;
-#[cfg(test)]
-mod given;
-#[cfg(test)]
-mod waits;
+mod tests;

@@ -5,14 +5,4 @@
 #![tactic(auto)]
 
 #[cfg(test)]
-mod counted;
-#[cfg(test)]
-mod given;
-#[cfg(test)]
-mod sync;
-#[cfg(test)]
-mod tasks;
-#[cfg(test)]
-mod threads;
-#[cfg(test)]
-mod timed;
+mod tests;

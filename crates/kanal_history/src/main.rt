@@ -11,28 +11,24 @@ use std::sync::{Mutex, Wait};
 use std::thread;
 use std::thread::Threads;
 
+/// The channel of both threads.
+type Channel = Recorded<u64>;
+
+/// What the sender hands on, once it has sent.
+type Handed = Mutex<Option<Seen>>;
+
 /// How often the receiver looks for what the sender hands on.
 const TURNS: u32 = 1_000_000;
 
 /// Sends 7, and hands on what the pass has seen.
-fn send<R: Wait>(
-    rt: &R,
-    channel: &Recorded<u64>,
-    handed: &Mutex<Option<Seen>>,
-    mut pass: Pass<u64>,
-) -> Pass<u64> {
+fn send<R: Wait>(rt: &R, channel: &Channel, handed: &Handed, mut pass: Pass<u64>) -> Pass<u64> {
     pass.try_send(rt, channel, 7);
     *handed.lock(rt) = Some(pass.tell());
     pass
 }
 
 /// Waits for what the sender hands on, hears it, and receives.
-fn receive<R: Wait>(
-    rt: &R,
-    channel: &Recorded<u64>,
-    handed: &Mutex<Option<Seen>>,
-    mut pass: Pass<u64>,
-) -> Pass<u64> {
+fn receive<R: Wait>(rt: &R, channel: &Channel, handed: &Handed, mut pass: Pass<u64>) -> Pass<u64> {
     for _ in 0..TURNS {
         let told = *handed.lock(rt);
         if let Some(seen) = told {
@@ -48,7 +44,7 @@ fn receive<R: Wait>(
 /// Lets both threads make their calls.
 fn talk<R: Threads + Wait + Sync>(
     rt: &R,
-    channel: &Recorded<u64>,
+    channel: &Channel,
     sender: Pass<u64>,
     receiver: Pass<u64>,
 ) -> (Pass<u64>, Pass<u64>) {
@@ -61,7 +57,7 @@ fn talk<R: Threads + Wait + Sync>(
 }
 
 fn main(rt: HostRuntime) -> Result<()> {
-    let channel: Recorded<u64> = Recorded::new(rt.alloc(), Some(1))?;
+    let channel: Channel = Recorded::new(rt.alloc(), Some(1))?;
     let sender = channel.pass(&rt)?;
     let receiver = channel.pass(&rt)?;
     let (sender, receiver) = talk(&rt, &channel, sender, receiver);

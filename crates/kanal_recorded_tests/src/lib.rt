@@ -3,20 +3,4 @@
 #![tactic(auto)]
 
 #[cfg(test)]
-mod calls;
-#[cfg(test)]
-mod ends;
-#[cfg(test)]
-mod four;
-#[cfg(test)]
-mod given;
-#[cfg(test)]
-mod lock;
-#[cfg(test)]
-mod mismatches;
-#[cfg(test)]
-mod parties;
-#[cfg(test)]
-mod states;
-#[cfg(test)]
-mod threads;
+mod tests;

@@ -3,12 +3,4 @@
 #![tactic(auto)]
 
 #[cfg(test)]
-mod counted;
-#[cfg(test)]
-mod ended;
-#[cfg(test)]
-mod given;
-#[cfg(test)]
-mod held;
-#[cfg(test)]
-mod polled;
+mod tests;

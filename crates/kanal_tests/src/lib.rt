@@ -2,12 +2,4 @@
 #![tactic(auto)]
 
 #[cfg(test)]
-mod devices;
-#[cfg(test)]
-mod faults;
-#[cfg(test)]
-mod journals;
-#[cfg(test)]
-mod rows;
-#[cfg(test)]
-mod unreadable;
+mod tests;

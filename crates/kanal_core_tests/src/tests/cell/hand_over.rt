@@ -1,0 +1,233 @@
+//! Outcomes that count their drops, handed over between two threads.
+ghost use Rattle.std.specs.Prelude.{◌≡◌};
+ghost use Rattle.kanal_cell.specs.CellRule.{HasNotLeft, HasNotSettled, MaySleep};
+ghost use Rattle.kanal_cell.specs.CellEnds.{wait_view, settle_view};
+
+use crate::tests::given::{cell, counter, equal, holds, new_parker, shared, unparker_of};
+use crossbeam_utils::sync::{Parker, Unparker};
+use kanal_cell::signal::{SettleEnd, WaitEnd};
+use std::alloc::{AllocGlobal, Global};
+use std::process::Abort;
+use std::sync::atomic::{AtomicU64, Ordering};
+use std::sync::{Arc, Wait};
+use std::thread;
+use std::thread::Threads;
+
+const MESSAGES: u64 = 10_000;
+
+struct Counted {
+    drops: Arc<AtomicU64, Global>,
+}
+
+impl Drop for Counted {
+    fn drop(self) {
+        let Counted { drops } = self;
+        drops.fetch_add(1, Ordering::SeqCst);
+    }
+}
+
+/// How a waiter waits.
+#[derive(Drop, Clone, Copy)]
+enum Way {
+    Polls,
+    Sleeps,
+    Leaves,
+    SleepsAndLeaves,
+    NeverLooks,
+}
+
+#[derive(Drop)]
+struct Fresh {
+    end: WaitEnd<Counted>,
+    way: Way,
+    ghost unspent: { MaySleep (wait_view end) },
+}
+
+#[derive(Drop)]
+struct Waiting {
+    end: WaitEnd<Counted>,
+    ghost unspent: { HasNotLeft (wait_view end) },
+}
+
+#[derive(Drop)]
+struct Settling {
+    end: SettleEnd<Counted>,
+    item: Counted,
+    ghost unspent: { HasNotSettled (settle_view end) },
+}
+
+impl Fresh {
+    fn waiting(self) -> Waiting {
+        let Fresh { end, way: _ } = self;
+        Waiting { end }
+    }
+
+    /// Whether the outcome was there at once.
+    fn sleep(self, sleeper: Unparker) -> (Waiting, bool) {
+        let Fresh { mut end, way: _ } = self;
+        let had = end.sleep(sleeper).is_some();
+        (Waiting { end }, had)
+    }
+}
+
+impl Waiting {
+    fn poll(&mut self) -> bool {
+        self.end.poll().is_some()
+    }
+
+    /// Looks twice, and leaves.
+    fn poll_and_leave(mut self) -> bool {
+        let first = self.poll();
+        let second = self.poll();
+        self.leave() || first || second
+    }
+
+    fn leave(self) -> bool {
+        let Waiting { mut end } = self;
+        end.leave().is_some()
+    }
+
+    /// Parks until the outcome is there. A token may be left from a waiter that slept and left.
+    fn park<R: Wait>(mut self, rt: &R, parker: &Parker) -> bool {
+        for _ in 0..MESSAGES {
+            parker.park(rt);
+            if self.poll() {
+                return true;
+            }
+        }
+        false
+    }
+}
+
+/// Whether the waiter got its outcome.
+fn wait_one<R: Wait + Abort>(rt: &R, parker: &Parker, fresh: Fresh) -> bool {
+    match fresh.way {
+        Way::Polls => fresh.waiting().poll_and_leave(),
+        Way::Sleeps => {
+            let (waiting, had) = fresh.sleep(unparker_of(rt, parker));
+            had || waiting.park(rt, parker)
+        }
+        Way::Leaves => fresh.waiting().leave(),
+        Way::SleepsAndLeaves => {
+            let (waiting, had) = fresh.sleep(unparker_of(rt, parker));
+            waiting.leave() || had
+        }
+        Way::NeverLooks => false,
+    }
+}
+
+/// How many waiters got their outcome.
+fn wait_all<R: Wait + Abort>(rt: &R, parker: Parker, ends: Vec<Fresh>) -> u64 {
+    let mut got = 0u64;
+    for fresh in ends {
+        if wait_one(rt, &parker, fresh) {
+            got = got.wrapping_add(1);
+        }
+    }
+    got
+}
+
+/// How many outcomes came back.
+fn settle_all(ends: Vec<Settling>) -> u64 {
+    let mut back = 0u64;
+    for settling in ends {
+        let Settling { mut end, item } = settling;
+        if end.settle(item).is_some() {
+            back = back.wrapping_add(1);
+        }
+    }
+    back
+}
+
+/// How many outcomes came back, and how many waiters got theirs.
+fn race<R: Threads + Wait + Abort + Sync>(
+    rt: &R,
+    parker: Parker,
+    waits: Vec<Fresh>,
+    settles: Vec<Settling>,
+) -> (u64, u64) {
+    thread::join(
+        rt,
+        move || settle_all(settles),
+        move || wait_all(rt, parker, waits),
+    )
+}
+
+fn way_of(number: u64) -> Way {
+    match number % 5 {
+        0 => Way::Polls,
+        1 => Way::Sleeps,
+        2 => Way::Leaves,
+        3 => Way::SleepsAndLeaves,
+        _ => Way::NeverLooks,
+    }
+}
+
+/// An item that counts its drop.
+fn item(rt: &impl Abort, drops: &Arc<AtomicU64, Global>) -> Counted {
+    let drops = shared(rt, drops);
+    Counted { drops }
+}
+
+/// A fresh cell, with an item that counts its drop.
+fn ends_of(
+    rt: &(impl Abort + AllocGlobal),
+    drops: &Arc<AtomicU64, Global>,
+    way: Way,
+) -> (Fresh, Settling) {
+    let (wait, settle) = cell(rt);
+    let item = item(rt, drops);
+    (Fresh { end: wait, way }, Settling { end: settle, item })
+}
+
+/// Puts one more in the vector.
+fn push<T: Drop>(rt: &impl Abort, items: &mut Vec<T>, item: T) {
+    items.push(item).expect(rt, "memory for one more");
+}
+
+/// Fresh cells, each with an item that counts its drop.
+fn cells(
+    rt: &(impl Abort + AllocGlobal),
+    drops: &Arc<AtomicU64, Global>,
+) -> (Vec<Fresh>, Vec<Settling>) {
+    let mut waits = Vec::new(rt.alloc());
+    let mut settles = Vec::new(rt.alloc());
+    for number in 0..MESSAGES {
+        let (wait, settle) = ends_of(rt, drops, way_of(number));
+        push(rt, &mut waits, wait);
+        push(rt, &mut settles, settle);
+    }
+    (waits, settles)
+}
+
+/// How many outcomes went to one of the sides.
+fn round<R: Threads + Wait + Abort + AllocGlobal + Sync>(
+    rt: &R,
+    drops: &Arc<AtomicU64, Global>,
+) -> u64 {
+    let (waits, settles) = cells(rt, drops);
+    let (back, got) = race(rt, new_parker(rt), waits, settles);
+    back.wrapping_add(got)
+}
+
+#[test]
+fn each_outcome_is_dropped_once(rt: HostRuntime) {
+    let drops = counter(&rt);
+    for _ in 0..4u32 {
+        drops.store(0, Ordering::SeqCst);
+        // One of five is never looked for. Of the others each went to one side.
+        equal(&rt, round(&rt, &drops), MESSAGES / 5 * 4);
+        equal(&rt, drops.load(Ordering::SeqCst), MESSAGES);
+    }
+}
+
+#[test]
+fn an_outcome_that_nobody_reads_is_dropped_once(rt: HostRuntime) {
+    let drops = counter(&rt);
+    let (wait, mut settle) = cell(&rt);
+    holds(&rt, settle.settle(item(&rt, &drops)).is_none());
+    drop(settle);
+    equal(&rt, drops.load(Ordering::SeqCst), 0);
+    drop(wait);
+    equal(&rt, drops.load(Ordering::SeqCst), 1);
+}

@@ -1,0 +1,6 @@
+//! Tests of the core: that calls succeed with ample memory, and the texts of its errors.
+mod buffer;
+mod calls;
+mod drains;
+mod handles;
+mod waits;

@@ -1,0 +1,8 @@
+//! The tests of the handles by kind, and what they share.
+mod asked;
+mod counted;
+mod given;
+mod sync;
+mod tasks;
+mod threads;
+mod timed;

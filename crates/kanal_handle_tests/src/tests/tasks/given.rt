@@ -1,0 +1,117 @@
+//! What the tests of tasks share: the ends of a channel for tasks, tasks, and their polls.
+//!
+//! Each ends the test by itself, so that a test has nothing to hand out where something is missing.
+use crate::tests::given::equal;
+use futures::StreamExt;
+use futures::executor::block_on;
+use futures::task::Poll;
+use futures::test::MockTask;
+use kanal::error::{ReceiveError, SendError};
+use kanal::{
+    AsyncReceiver, AsyncSender, ReceiveFuture, ReceiveStream, SendFuture, bounded_async,
+    unbounded_async,
+};
+use std::alloc::AllocGlobal;
+use std::process::Abort;
+use std::random::RandomSource;
+use std::sync::Wait;
+
+/// The ends, for tasks, of a channel with so many places.
+pub fn ends<T: Drop>(
+    rt: &(impl Abort + AllocGlobal),
+    capacity: usize,
+) -> (AsyncSender<T>, AsyncReceiver<T>) {
+    bounded_async(rt.alloc(), capacity).expect(rt, "a channel")
+}
+
+/// The ends, for tasks, of a channel without limit.
+pub fn endless<T: Drop>(rt: &(impl Abort + AllocGlobal)) -> (AsyncSender<T>, AsyncReceiver<T>) {
+    unbounded_async(rt.alloc()).expect(rt, "a channel")
+}
+
+/// A task that is polled by hand.
+pub fn new_task(rt: &(impl Abort + RandomSource + AllocGlobal)) -> MockTask {
+    MockTask::new(rt).expect(rt, "a task")
+}
+
+/// The ends, for tasks, of a channel with so many places, and a task that is polled by hand.
+pub fn ends_and_task<T: Drop>(
+    rt: &(impl Abort + RandomSource + AllocGlobal),
+    capacity: usize,
+) -> (AsyncSender<T>, AsyncReceiver<T>, MockTask) {
+    let (sender, receiver) = ends(rt, capacity);
+    (sender, receiver, new_task(rt))
+}
+
+/// A send that waits: its first poll, in this task, was pending.
+pub fn waiting_send<'a>(
+    rt: &impl Abort,
+    task: &MockTask,
+    sender: &'a AsyncSender<u64>,
+    message: u64,
+) -> SendFuture<'a, u64> {
+    let mut sending = sender.send(message);
+    equal(rt, task.poll(&mut sending), Poll::Pending);
+    sending
+}
+
+/// A receive that waits: its first poll, in this task, was pending.
+pub fn waiting_receive<'a>(
+    rt: &impl Abort,
+    task: &MockTask,
+    receiver: &'a AsyncReceiver<u64>,
+) -> ReceiveFuture<'a, u64> {
+    let mut receiving = receiver.recv();
+    equal(rt, task.poll(&mut receiving), Poll::Pending);
+    receiving
+}
+
+/// Ends the test unless a poll of the send answers so.
+pub fn end_send(
+    rt: &impl Abort,
+    task: &MockTask,
+    sending: &mut SendFuture<'_, u64>,
+    answer: Result<(), SendError>,
+) {
+    equal(rt, task.poll(sending), Poll::Ready(answer));
+}
+
+/// Ends the test unless a poll of the receive answers so.
+pub fn end_receive(
+    rt: &impl Abort,
+    task: &MockTask,
+    receiving: &mut ReceiveFuture<'_, u64>,
+    answer: Result<u64, ReceiveError>,
+) {
+    equal(rt, task.poll(receiving), Poll::Ready(answer));
+}
+
+/// Polls once for the stream's next message.
+pub fn poll_next(task: &MockTask, stream: &mut ReceiveStream<'_, u64>) -> Poll<Option<u64>> {
+    task.poll(&mut stream.next())
+}
+
+/// Sends in a task that runs to its end.
+pub fn send_in_task<R: Abort + Wait + RandomSource + AllocGlobal>(
+    rt: &R,
+    sender: &AsyncSender<u64>,
+    message: u64,
+) -> Result<(), SendError> {
+    block_on(rt, sender.send(message)).expect(rt, "a task")
+}
+
+/// Receives in a task that runs to its end.
+pub fn receive_in_task<R: Abort + Wait + RandomSource + AllocGlobal>(
+    rt: &R,
+    receiver: &AsyncReceiver<u64>,
+) -> Result<u64, ReceiveError> {
+    block_on(rt, receiver.recv()).expect(rt, "a task")
+}
+
+/// Receives the stream's next message in a task that runs to its end.
+pub fn next_in_task<R: Abort + Wait + RandomSource + AllocGlobal>(
+    rt: &R,
+    stream: &mut ReceiveStream<'_, u64>,
+) -> Option<u64> {
+    block_on(rt, stream.next()).expect(rt, "a task")
+}

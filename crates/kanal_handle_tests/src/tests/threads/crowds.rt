@@ -1,0 +1,175 @@
+//! Several threads on each side: all that was sent arrives, once.
+use super::starts::{Sent, Tally, receive_all, start_numbers, start_receive_all};
+use crate::tests::given::{endless, ends, equal, holds};
+use kanal::{Receiver, Sender};
+use std::alloc::AllocGlobal;
+use std::process::Abort;
+use std::sync::Wait;
+use std::thread::{JoinHandle, Threads};
+
+/// How many threads send, and how many receive.
+#[derive(Drop, Clone, Copy)]
+struct Crowd {
+    senders: u64,
+    receivers: u64,
+}
+
+/// How many numbers each sender sends: 0, 1, and so on.
+const EACH: u64 = 100;
+
+/// The sum of the numbers of one sender.
+const SUM: u64 = 4950;
+
+/// A clone of the sender.
+fn one_more_sender<R: Wait + Abort>(rt: &R, sender: &Sender<u64>) -> Sender<u64> {
+    sender.clone(rt).expect(rt, "a clone")
+}
+
+/// A clone of the receiver.
+fn one_more_receiver<R: Wait + Abort>(rt: &R, receiver: &Receiver<u64>) -> Receiver<u64> {
+    receiver.clone(rt).expect(rt, "a clone")
+}
+
+/// Starts threads that send numbers, each through a clone.
+fn start_senders<R: Threads + Wait + Abort + AllocGlobal + Copy + Send + 'static>(
+    rt: R,
+    sender: &Sender<u64>,
+    threads: u64,
+    first: u64,
+) -> Vec<JoinHandle<Sent>> {
+    let mut started = Vec::new(rt.alloc());
+    for _ in 0..threads {
+        let thread = start_numbers(rt, one_more_sender(&rt, sender), first, EACH);
+        started.push(thread).expect(&rt, "memory for a thread");
+    }
+    started
+}
+
+/// Starts threads that receive until the channel ends, each through a clone.
+fn start_receivers<R: Threads + Wait + Abort + AllocGlobal + Copy + Send + 'static>(
+    rt: R,
+    receiver: &Receiver<u64>,
+    threads: u64,
+) -> Vec<JoinHandle<Tally>> {
+    let mut started = Vec::new(rt.alloc());
+    for _ in 0..threads {
+        let thread = start_receive_all(rt, one_more_receiver(&rt, receiver));
+        started.push(thread).expect(&rt, "memory for a thread");
+    }
+    started
+}
+
+/// Joins the threads that send, and tells whether all their sends went through.
+fn join_senders<R: Threads>(rt: &R, started: Vec<JoinHandle<Sent>>) -> bool {
+    let mut all = true;
+    for thread in started {
+        all = thread.join(rt).is_ok() && all;
+    }
+    all
+}
+
+/// Joins the threads that receive, and adds up what they got.
+fn join_receivers<R: Threads>(rt: &R, started: Vec<JoinHandle<Tally>>) -> Tally {
+    let mut tally = Tally { count: 0, sum: 0 };
+    for thread in started {
+        let theirs = thread.join(rt);
+        tally.count = tally.count.wrapping_add(theirs.count);
+        tally.sum = tally.sum.wrapping_add(theirs.sum);
+    }
+    tally
+}
+
+/// What the crowd's receivers got, where all its sends went through.
+fn exchange<R: Threads + Wait + Abort + AllocGlobal + Copy + Send + 'static>(
+    rt: R,
+    ends: (Sender<u64>, Receiver<u64>),
+    crowd: Crowd,
+) -> Option<Tally> {
+    let (sender, receiver) = ends;
+    let sending = start_senders(rt, &sender, crowd.senders, 0);
+    drop(sender);
+    let receiving = start_receivers(rt, &receiver, crowd.receivers);
+    drop(receiver);
+    let all = join_senders(&rt, sending);
+    let tally = join_receivers(&rt, receiving);
+    all.then_some(tally)
+}
+
+const ONE_TO_ONE: Crowd = Crowd {
+    senders: 1,
+    receivers: 1,
+};
+
+const FOUR_TO_ONE: Crowd = Crowd {
+    senders: 4,
+    receivers: 1,
+};
+
+const FOUR_TO_FOUR: Crowd = Crowd {
+    senders: 4,
+    receivers: 4,
+};
+
+/// What arrives where one thread sends.
+const FROM_ONE: Option<Tally> = Some(Tally {
+    count: EACH,
+    sum: SUM,
+});
+
+/// What arrives where four threads send.
+const FROM_FOUR: Option<Tally> = Some(Tally {
+    count: 4 * EACH,
+    sum: 4 * SUM,
+});
+
+/// The crowds, each with what arrives.
+const CROWDS: [(Crowd, Option<Tally>); 3] = [
+    (ONE_TO_ONE, FROM_ONE),
+    (FOUR_TO_ONE, FROM_FOUR),
+    (FOUR_TO_FOUR, FROM_FOUR),
+];
+
+/// Each crowd exchanges its numbers through a buffer with so many places.
+fn exchange_through<R: Threads + Wait + Abort + AllocGlobal + Copy + Send + 'static>(
+    rt: R,
+    capacity: usize,
+) {
+    for (crowd, expected) in CROWDS {
+        equal(&rt, exchange(rt, ends(&rt, capacity), crowd), expected);
+    }
+}
+
+#[test]
+fn crowds_without_a_buffer(rt: HostRuntime) {
+    exchange_through(rt, 0);
+}
+
+#[test]
+fn crowds_with_a_buffer_of_one(rt: HostRuntime) {
+    exchange_through(rt, 1);
+}
+
+#[test]
+fn crowds_with_a_buffer_of_four(rt: HostRuntime) {
+    exchange_through(rt, 4);
+}
+
+#[test]
+fn crowds_without_a_limit(rt: HostRuntime) {
+    for (crowd, expected) in CROWDS {
+        equal(&rt, exchange(rt, endless(&rt), crowd), expected);
+    }
+}
+
+/// Eight threads send 1 to 99 to this one.
+#[test]
+fn eight_senders_without_a_buffer(rt: HostRuntime) {
+    let (sender, receiver) = ends::<u64>(&rt, 0);
+    let started = start_senders(rt, &sender, 8, 1);
+    drop(sender);
+    let first = receiver.recv(&rt).expect(&rt, "a number");
+    let rest = receive_all(&rt, &receiver);
+    holds(&rt, join_senders(&rt, started));
+    equal(&rt, rest.sum.wrapping_add(first), 39600);
+    equal(&rt, rest.count, 8 * 99 - 1);
+}

@@ -1,0 +1,110 @@
+//! A deadline that meets a receiver: each message is received once or given up once.
+use crate::tests::counted::{Counted, counter, shared};
+use crate::tests::given::{ends, equal, holds};
+use kanal::error::SendErrorTimeout;
+use kanal::{Clock, Receiver, Sender};
+use std::alloc::Global;
+use std::cell::Cell;
+use std::process::Abort;
+use std::sync::atomic::AtomicU64;
+use std::sync::atomic::Ordering::SeqCst;
+use std::sync::{Arc, Wait};
+use std::thread::{JoinHandle, Threads};
+use std::time::Duration;
+use std::{thread, time};
+
+/// How many messages are sent.
+const ROUNDS: u64 = 10_000;
+
+/// How often the receiver looks for a message at most.
+const TURNS: u64 = 1_000_000_000;
+
+/// A clock that stands at 0 for so many reads, and then at 1.
+#[derive(Drop)]
+struct Crossing {
+    reads: Cell<u64>,
+}
+
+impl Clock for Crossing {
+    fn now(&self) -> u64 {
+        let left = self.reads.get();
+        self.reads.set(left.saturating_sub(1));
+        if left == 0 { 1 } else { 0 }
+    }
+}
+
+/// How often the clock of a round is read before it crosses the deadline. In the first round nobody
+/// receives yet, so it times out; the clock of the second never crosses, so it is received.
+fn reads_of(round: u64) -> u64 {
+    match round {
+        0 => 1,
+        1 => u64::MAX,
+        _ => 1 + round % 97,
+    }
+}
+
+/// Sends the messages, each by a deadline; answers how many were given up.
+fn send_all<R: Wait + time::Clock>(
+    rt: &R,
+    sender: &Sender<Counted>,
+    drops: &Arc<AtomicU64, Global>,
+) -> u64 {
+    let mut given_up = 0u64;
+    for round in 0..ROUNDS {
+        let Ok(drops) = Arc::try_clone(drops) else {
+            return given_up;
+        };
+        let clock = Crossing {
+            reads: Cell::new(reads_of(round)),
+        };
+        let sent = sender.send_timeout(rt, Counted::new(drops), Duration::from_nanos(1), &clock);
+        if sent == Err(SendErrorTimeout::Timeout) {
+            given_up = given_up.wrapping_add(1);
+        }
+    }
+    given_up
+}
+
+fn start<R: Threads + Wait + Abort + time::Clock + Copy + Send + 'static>(
+    rt: R,
+    sender: Sender<Counted>,
+    drops: Arc<AtomicU64, Global>,
+) -> JoinHandle<u64> {
+    thread::spawn(&rt, move || send_all(&rt, &sender, &drops)).expect(&rt, "a thread")
+}
+
+/// Looks until the first message is given up.
+fn await_one_drop(drops: &AtomicU64) {
+    for _ in 0..TURNS {
+        if drops.load(SeqCst) == 1 {
+            break;
+        }
+    }
+}
+
+/// Receives until the channel ends; answers how many messages came.
+fn receive_all<R: Wait>(rt: &R, receiver: &Receiver<Counted>) -> u64 {
+    let mut received = 0u64;
+    for _ in 0..TURNS {
+        match receiver.try_recv(rt) {
+            Ok(Some(_message)) => received = received.wrapping_add(1),
+            Ok(None) => {},
+            Err(_) => break,
+        }
+    }
+    received
+}
+
+#[test]
+fn a_deadline_meets_a_receiver(rt: HostRuntime) {
+    let drops = counter(&rt);
+    let (sender, receiver) = ends::<Counted>(&rt, 0);
+    let thread = start(rt, sender, shared(&rt, &drops));
+    await_one_drop(&drops);
+    let received = receive_all(&rt, &receiver);
+    let given_up = thread.join(&rt);
+    holds(&rt, received > 0);
+    holds(&rt, given_up > 0);
+    equal(&rt, received.wrapping_add(given_up), ROUNDS);
+    equal(&rt, drops.load(SeqCst), ROUNDS);
+}

@@ -1,8 +1,0 @@
-//! The handles in several threads: who waits, who ends it, and what arrives.
-mod counted;
-mod crowds;
-mod ends;
-mod order;
-mod shared;
-mod starts;
-mod waits;

@@ -1,0 +1,10 @@
+//! The tests of the recorded channel, and what they share.
+mod calls;
+mod ends;
+mod four;
+mod given;
+mod lock;
+mod mismatches;
+mod parties;
+mod states;
+mod threads;

@@ -1,0 +1,124 @@
+//! Lists that don't agree with the journal.
+use crate::tests::given::{equal, holds};
+use crate::tests::parties::{Parties, add, both, channel, finish, pass, recorded};
+use kanal_journal::journal::{Ask, Journal, Reply, Side};
+use kanal_recorded::{Mismatch, Pass, Recorded};
+use std::alloc::AllocGlobal;
+use std::process::Abort;
+use std::sync::Wait;
+
+/// The pass alone in a list.
+fn alone(rt: &(impl Abort + AllocGlobal), pass: Pass<u64>) -> Vec<Pass<u64>> {
+    let mut passes = Vec::new(rt.alloc());
+    add(rt, &mut passes, pass);
+    passes
+}
+
+/// What is told of a channel that doesn't end with these passes, and the channel and the passes.
+fn refuse(
+    rt: &impl Abort,
+    channel: Recorded<u64>,
+    passes: Vec<Pass<u64>>,
+) -> (Mismatch, Recorded<u64>, Vec<Pass<u64>>) {
+    channel.finish(passes).err().expect(rt, "one is missing")
+}
+
+/// What is told of a channel that doesn't end with these passes.
+fn told_of(rt: &impl Abort, channel: Recorded<u64>, passes: Vec<Pass<u64>>) -> Mismatch {
+    let (told, _, _) = refuse(rt, channel, passes);
+    told
+}
+
+/// Sends as a, and receives as b.
+fn hand_over<R: Abort + Wait + AllocGlobal>(rt: &R) -> Parties {
+    let mut parties = recorded(rt, Some(1));
+    let channel = &parties.channel;
+    equal(rt, parties.a.try_send(rt, channel, 7), Reply::Yes);
+    equal(rt, parties.b.try_recv(rt, channel), Reply::Got(7));
+    parties
+}
+
+/// Whether the two entries have these parties, in order.
+fn have_parties(journal: &Journal<u64>, parties: (u32, u32)) -> bool {
+    match journal.entries.as_slice() {
+        [first, second] => first.party == parties.0 && second.party == parties.1,
+        _ => false,
+    }
+}
+
+/// The channel and its pass, back from an end at which the other pass is missing.
+fn come_back(
+    rt: &(impl Abort + AllocGlobal),
+    channel: Recorded<u64>,
+    pass: Pass<u64>,
+) -> (Recorded<u64>, Vec<Pass<u64>>) {
+    let (told, channel, back) = refuse(rt, channel, alone(rt, pass));
+    equal(rt, told, Mismatch);
+    equal(rt, back.len(), 1);
+    (channel, back)
+}
+
+/// The journal, once the other pass has come before the one that was alone.
+fn end_late(rt: &(impl Abort + AllocGlobal), parties: Parties) -> Journal<u64> {
+    let Parties { channel, a, b } = parties;
+    let (channel, mut passes) = come_back(rt, channel, a);
+    passes.insert(0, b).expect(rt, "memory for a pass");
+    finish(rt, channel, passes)
+}
+
+#[test]
+fn a_missing_pass(rt: HostRuntime) {
+    let journal = end_late(&rt, hand_over(&rt));
+    holds(&rt, have_parties(&journal, (0, 1)));
+    drop(journal);
+}
+
+#[test]
+fn no_passes_after_calls(rt: HostRuntime) {
+    let Parties { channel, a, b } = hand_over(&rt);
+    equal(&rt, told_of(&rt, channel, Vec::new(rt.alloc())), Mismatch);
+    drop((a, b));
+}
+
+#[test]
+fn a_pass_drawn_after_a_mismatch(rt: HostRuntime) {
+    let Parties { channel, a, b } = hand_over(&rt);
+    let (channel, back) = come_back(&rt, channel, a);
+    equal(&rt, pass(&rt, &channel).party(), 2);
+    drop((channel, back, b));
+}
+
+/// Asks how many messages are there, which is none.
+fn ask_of_none<R: Abort + Wait>(rt: &R, channel: &Recorded<u64>, pass: &mut Pass<u64>) {
+    let messages = pass.ask(rt, channel, Side::Tx, Ask::Len);
+    equal(rt, messages, Reply::Number(0));
+}
+
+/// A pass of the second channel that was told of a call of the first.
+fn told<R: Abort + Wait>(rt: &R, first: &Recorded<u64>, second: &Recorded<u64>) -> Pass<u64> {
+    let mut a = pass(rt, first);
+    let mut b = pass(rt, second);
+    ask_of_none(rt, first, &mut a);
+    b.hear(a.tell());
+    ask_of_none(rt, second, &mut b);
+    b
+}
+
+#[test]
+fn told_of_another_channel(rt: HostRuntime) {
+    let first = channel(&rt, Some(1));
+    let second = channel(&rt, Some(1));
+    let b = told(&rt, &first, &second);
+    equal(&rt, told_of(&rt, second, alone(&rt, b)), Mismatch);
+    drop(first);
+}
+
+#[test]
+fn two_passes_of_one_party(rt: HostRuntime) {
+    let first = channel(&rt, Some(1));
+    let second = channel(&rt, Some(1));
+    let pass_of_first = pass(&rt, &first);
+    let passes = both(&rt, pass(&rt, &second), pass_of_first);
+    equal(&rt, told_of(&rt, first, passes), Mismatch);
+    drop(second);
+}

@@ -1,0 +1,86 @@
+//! Calls whose wait has begun, which the lock shows, and what ends such a wait in an error.
+use crate::tests::counted::{Counted, counter, counts_in};
+use crate::tests::given::{channel, equal, holds};
+use kanal_core::error::{ReceiveError, SendError};
+use kanal_shared::Shared;
+use kanal_steps::owed::Owed;
+use std::alloc::AllocGlobal;
+use std::process::Abort;
+use std::sync::atomic::Ordering::SeqCst;
+use std::sync::{Arc, Wait};
+use std::thread;
+use std::thread::{JoinHandle, Threads};
+
+/// How often a test looks for a wait before it gives up.
+const LOOKS: u32 = 10_000_000;
+
+/// What the call of a thread answered.
+type Answer<T, E> = JoinHandle<Result<T, E>>;
+
+/// A channel with so many places, for two threads.
+fn common<T: Drop>(
+    rt: &(impl Abort + AllocGlobal),
+    capacity: usize,
+) -> (Arc<Shared<T>>, Arc<Shared<T>>) {
+    let first = Arc::new(rt.alloc(), channel(rt, capacity)).expect(rt, "a channel");
+    let second = Arc::try_clone(&first).expect(rt, "one more");
+    (first, second)
+}
+
+/// Whether a wait begins.
+fn begins<T: Drop, R: Wait>(rt: &R, shared: &Shared<T>) -> bool {
+    for _ in 0..LOOKS {
+        let mut locked = shared.hold(rt);
+        let waits = locked.core().first_waiter(|_| true).is_some();
+        locked.give_back(Owed::nothing());
+        if waits {
+            return true;
+        }
+        thread::yield_now();
+    }
+    false
+}
+
+fn start_recv<R: Threads + Wait + Abort + Copy + Send + 'static>(
+    rt: R,
+    shared: Arc<Shared<u64>>,
+) -> Answer<u64, ReceiveError> {
+    thread::spawn(&rt, move || shared.recv_blocking(&rt)).expect(&rt, "a thread")
+}
+
+fn start_send<R: Threads + Wait + Abort + Copy + Send + 'static>(
+    rt: R,
+    shared: Arc<Shared<Counted>>,
+    message: Counted,
+) -> Answer<(), SendError> {
+    thread::spawn(&rt, move || shared.send_blocking(&rt, message)).expect(&rt, "a thread")
+}
+
+#[test]
+fn a_close_ends_a_receive_that_waits(rt: HostRuntime) {
+    let (shared, other) = common::<u64>(&rt, 1);
+    let thread = start_recv(rt, other);
+    holds(&rt, begins(&rt, &shared));
+    equal(&rt, shared.close(&rt), Ok(()));
+    equal(&rt, thread.join(&rt), Err(ReceiveError::Closed));
+}
+
+#[test]
+fn the_last_sender_ends_a_receive_that_waits(rt: HostRuntime) {
+    let (shared, other) = common::<u64>(&rt, 1);
+    let thread = start_recv(rt, other);
+    holds(&rt, begins(&rt, &shared));
+    shared.drop_sender();
+    equal(&rt, thread.join(&rt), Err(ReceiveError::SendClosed));
+}
+
+#[test]
+fn a_close_ends_a_send_that_waits(rt: HostRuntime) {
+    let drops = counter(&rt);
+    let (shared, other) = common::<Counted>(&rt, 0);
+    let thread = start_send(rt, other, counts_in(&rt, &drops));
+    holds(&rt, begins(&rt, &shared));
+    equal(&rt, shared.close(&rt), Ok(()));
+    equal(&rt, thread.join(&rt), Err(SendError::Closed));
+    equal(&rt, drops.load(SeqCst), 1);
+}

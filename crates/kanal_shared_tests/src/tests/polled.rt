@@ -1,0 +1,78 @@
+//! Polls while the lock is held by the test: each makes no step and asks for another poll.
+use crate::tests::given::{channel, equal, holds, new_task};
+use futures::task::Poll;
+use futures::test::MockTask;
+use kanal_core::error::{ReceiveError, SendError};
+use kanal_shared::{ReceiveFuture, SendFuture, Shared};
+use kanal_steps::owed::Owed;
+use std::sync::Wait;
+
+/// Polls a send once while the lock is held; the answer, and how many messages the buffer had at the
+/// release.
+fn poll_send_held<R: Wait>(
+    rt: &R,
+    shared: &Shared<u64>,
+    task: &MockTask,
+    sending: &mut SendFuture<'_, u64>,
+) -> (Poll<Result<(), SendError>>, usize) {
+    let mut locked = shared.hold(rt);
+    let polled = task.poll(sending);
+    let held = locked.core().len();
+    locked.give_back(Owed::nothing());
+    (polled, held)
+}
+
+/// The same for a receive.
+fn poll_recv_held<R: Wait>(
+    rt: &R,
+    shared: &Shared<u64>,
+    task: &MockTask,
+    receiving: &mut ReceiveFuture<'_, u64>,
+) -> (Poll<Result<u64, ReceiveError>>, usize) {
+    let mut locked = shared.hold(rt);
+    let polled = task.poll(receiving);
+    let held = locked.core().len();
+    locked.give_back(Owed::nothing());
+    (polled, held)
+}
+
+#[test]
+fn a_send_is_polled_while_the_lock_is_held(rt: HostRuntime) {
+    let shared = channel::<u64>(&rt, 1);
+    let task = new_task(&rt);
+    let mut sending = shared.send(7);
+    let (polled, held) = poll_send_held(&rt, &shared, &task, &mut sending);
+    equal(&rt, polled, Poll::Pending);
+    equal(&rt, held, 0);
+    holds(&rt, task.is_woken());
+    equal(&rt, task.poll(&mut sending), Poll::Ready(Ok(())));
+    holds(&rt, !task.is_woken());
+}
+
+#[test]
+fn a_receive_is_polled_while_the_lock_is_held(rt: HostRuntime) {
+    let shared = channel::<u64>(&rt, 1);
+    let task = new_task(&rt);
+    equal(&rt, shared.send_blocking(&rt, 7), Ok(()));
+    let mut receiving = shared.recv();
+    let (polled, held) = poll_recv_held(&rt, &shared, &task, &mut receiving);
+    equal(&rt, polled, Poll::Pending);
+    equal(&rt, held, 1);
+    holds(&rt, task.is_woken());
+    equal(&rt, task.poll(&mut receiving), Poll::Ready(Ok(7)));
+    holds(&rt, !task.is_woken());
+}
+
+/// A wait that was started goes on, and its waker is the same.
+#[test]
+fn a_wait_is_polled_while_the_lock_is_held(rt: HostRuntime) {
+    let shared = channel::<u64>(&rt, 0);
+    let task = new_task(&rt);
+    let mut receiving = shared.recv();
+    equal(&rt, task.poll(&mut receiving), Poll::Pending);
+    let (polled, _held) = poll_recv_held(&rt, &shared, &task, &mut receiving);
+    equal(&rt, polled, Poll::Pending);
+    holds(&rt, task.is_woken());
+    equal(&rt, shared.send_blocking(&rt, 7), Ok(()));
+    equal(&rt, task.poll(&mut receiving), Poll::Ready(Ok(7)));
+}

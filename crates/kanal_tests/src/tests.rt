@@ -1,0 +1,6 @@
+//! The tests that cross crates.
+mod devices;
+mod faults;
+mod journals;
+mod rows;
+mod unreadable;

@@ -81,7 +81,8 @@ fn are_own<T: Copy + Eq>(entries: &[Entry<T>], passes: &[Pass<T>]) -> bool
 /// what was seen.
 fn is_own<T: Copy + Eq>(entries: &[Entry<T>], party: u32, notes: &[Note<T>]) -> bool
     requires { IsIdentity T.eq }
-    ensures { result ≡ true → IsOwn entries.now (record { party = party; notes = notes.now; seen = 0 }) }
+    ensures { result ≡ true → IsOwn entries.now
+        (record { party = party; notes = notes.now; seen = 0 }) }
 {
     let mut k: usize = 0;
     for (i, e) in entries.iter().enumerate() {

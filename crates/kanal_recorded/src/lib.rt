@@ -6,9 +6,9 @@
 #![tactic(auto)]
 
 mod finish;
+mod inner;
 mod pass;
 mod recorded;
-mod shared;
 
 pub use pass::{Note, Pass, Seen};
 pub use recorded::{Mismatch, Recorded};

@@ -331,7 +331,7 @@ impl<T: Copy> Pass<T> {
     ) -> Option<Outcome<T>>
         ensures { self.new ≡ self.old }
     {
-        channel.shared.lock(rt).outcome(ticket)
+        channel.inner.lock(rt).outcome(ticket)
     }
 
     /// How much of the journal this pass has seen, for another pass to hear. It waits for nobody.
@@ -366,8 +366,8 @@ impl<T: Copy> Pass<T> {
     fn call<R: Wait>(&mut self, rt: &R, channel: &Recorded<T>, event: Event<T>) -> Reply<T>
         ensures { Notes self.old event result self.new }
     {
-        let mut shared = channel.shared.lock(rt);
-        self.call_on(&mut shared.state, event)
+        let mut inner = channel.inner.lock(rt);
+        self.call_on(&mut inner.state, event)
     }
 
     /// Makes the event on the state that is lent, and notes it; or finds no memory, and changes

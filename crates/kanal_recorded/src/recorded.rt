@@ -3,12 +3,13 @@
 //! Stands on the lock, and on what lies under it. The lock is got where a pass is drawn, and by a pass.
 ghost use Rattle.std.specs.Prelude.{◌≡◌, ◌↔◌, ℕ, length, IfErr, IfOk, IsErrOf, Some};
 ghost use Rattle.std.specs.List.{sum_by};
+ghost use Rattle.kanal_core.specs.Line.{last_word};
 ghost use Rattle.kanal_journal.specs.Paired.{Paired, until};
 ghost use Rattle.kanal_recorded.specs.Merges.{Finishes, IsIdentity, IsLedTo, journal_history};
 ghost use Rattle.kanal_recorded.specs.Passes.{newcomer};
 
+use crate::inner::Inner;
 use crate::pass::Pass;
-use crate::shared::Shared;
 use kanal_core::error::{NewError, TooMany};
 use kanal_core::mutex::Mutex;
 use kanal_journal::journal::Journal;
@@ -26,7 +27,7 @@ pub struct Mismatch;
 /// the channel, and explains it whenever the lock is got. Contracts see the capacity.
 #[derive(Drop)]
 pub struct Recorded<T: Copy> {
-    pub(crate) shared: Mutex<Shared<T>>,
+    pub(crate) inner: Mutex<Inner<T>>,
     capacity: Option<usize>,
     alloc: Global,
 }
@@ -55,11 +56,11 @@ impl<T: Copy> Recorded<T> {
     /// ```
     pub fn new(alloc: Global, capacity: Option<usize>) -> Result<Self, NewError>
         ensures capacity { IfOk result (λ r. r ≡ capacity) }
-        ensures large { IsErrOf result NewError.TooLarge ↔ (capacity ≡ Some 18446744073709551615) }
+        ensures large { IsErrOf result NewError.TooLarge ↔ (capacity ≡ Some last_word) }
     {
-        let shared = Shared::new(alloc, capacity)?;
+        let inner = Inner::new(alloc, capacity)?;
         Ok(Recorded {
-            shared: Mutex::new(shared),
+            inner: Mutex::new(inner),
             capacity,
             alloc,
         })
@@ -77,7 +78,7 @@ impl<T: Copy> Recorded<T> {
     pub fn pass<R: Wait>(&self, rt: &R) -> Result<Pass<T>, TooMany>
         ensures { IfOk result (λ p. p ≡ newcomer p.party) }
     {
-        let party = self.shared.lock(rt).next_party()?;
+        let party = self.inner.lock(rt).next_party()?;
         Ok(Pass::new(self.alloc, party))
     }
 
@@ -112,19 +113,20 @@ impl<T: Copy> Recorded<T> {
         ensures finished { IfOk result (λ j. Finishes self passes.items j) }
         ensures leads { IfOk result (λ j. IsLedTo self j) }
         ensures paired { IfOk result (λ j. (n : ℕ) → Paired (until n (journal_history j))) }
-        ensures count { IfOk result (λ j. sum_by (λ p. length p.notes) passes.items ≡ length j.entries.items) }
+        ensures count { IfOk result (λ j. sum_by (λ p. length p.notes) passes.items
+            ≡ length j.entries.items) }
         ensures mismatch { IfErr result (λ e. (e.1 ≡ self) × (e.2 ≡ passes)) }
     {
         let Recorded {
-            shared,
+            inner,
             capacity,
             alloc,
         } = self;
-        match shared.into_inner().finish(capacity, passes.as_slice()) {
+        match inner.into_inner().finish(capacity, passes.as_slice()) {
             Ok(journal) => Ok(journal),
-            Err(shared) => {
+            Err(inner) => {
                 let recorded = Recorded {
-                    shared: Mutex::new(shared),
+                    inner: Mutex::new(inner),
                     capacity,
                     alloc,
                 };

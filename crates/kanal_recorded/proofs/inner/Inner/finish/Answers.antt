@@ -1,5 +1,5 @@
 use Rattle.std.proofs.Common.{rules, ◌≡◌, refl, sym, ◌∙◌}
-use Rattle.kanal_recorded.proofs.shared.Shared.finish.Goals as goal
+use Rattle.kanal_recorded.proofs.inner.Inner.finish.Goals as goal
 
 pub returns-then-is_merged-clause-finished : goal.returns-then-is_merged-clause-finished
 returns-then-is_merged-clause-finished g c =

@@ -1,5 +1,5 @@
 use Rattle.std.proofs.Common.{rules}
-use Rattle.kanal_recorded.proofs.shared.Shared.outcome.Goals as goal
+use Rattle.kanal_recorded.proofs.inner.Inner.outcome.Goals as goal
 
 pub returns : goal.returns
 returns g c = search rules

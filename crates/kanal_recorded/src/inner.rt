@@ -4,6 +4,8 @@
 //! the state and says what becomes of it: the functions of this room, and a pass's own step. Stands on
 //! the recorded state, and on the comparison of the passes' lists with a journal.
 ghost use Rattle.std.specs.Prelude.{◌≡◌, ◌↔◌, ◌+◌, ℕ, IfErr, IfOk, IsErr, IsErrOf, Some};
+ghost use Rattle.kanal_core.specs.Line.{last_word};
+ghost use Rattle.kanal_core.specs.Moves.{last_count};
 ghost use Rattle.kanal_journal.specs.Paired.{Paired, until};
 ghost use Rattle.kanal_journal.specs.Replays.{opened, outcome_of};
 ghost use Rattle.kanal_recorded.specs.Merges.{Finishes, IsIdentity, IsLedTo, journal_history};
@@ -17,28 +19,29 @@ use std::alloc::Global;
 
 /// The channel with its journal, and how many passes were drawn.
 #[derive(Drop)]
-pub(crate) struct Shared<T: Copy> {
+pub(crate) struct Inner<T: Copy> {
     pub(crate) state: RecordedState<T>,
     parties: u32,
 }
 
-impl<T: Copy> Shared<T> {
+impl<T: Copy> Inner<T> {
     /// A new channel of this capacity, `None` being no limit, on which no call was made and of which
     /// no pass was drawn.
     pub(crate) fn new(alloc: Global, capacity: Option<usize>) -> Result<Self, NewError>
         ensures opened { IfOk result (λ s. s.state ≡ opened capacity) }
         ensures none { IfOk result (λ s. s.parties ≡ 0) }
-        ensures large { IsErrOf result NewError.TooLarge ↔ (capacity ≡ Some 18446744073709551615) }
+        ensures large { IsErrOf result NewError.TooLarge ↔ (capacity ≡ Some last_word) }
     {
         let state = RecordedState::new(alloc, capacity)?;
-        Ok(Shared { state, parties: 0 })
+        Ok(Inner { state, parties: 0 })
     }
 
     /// The next party's number: how many passes were drawn before, which rises by one.
     pub(crate) fn next_party(&mut self) -> Result<u32, TooMany>
         ensures number { IfOk result (λ n. n ≡ self.old.parties) }
-        ensures rises { IfOk result (λ _. self.new ≡ record self.old { parties = self.old.parties + 1 }) }
-        ensures full { IsErr result ↔ (self.old.parties ≡ 4294967295) }
+        ensures rises { IfOk result (λ _. self.new
+            ≡ record self.old { parties = self.old.parties + 1 }) }
+        ensures full { IsErr result ↔ (self.old.parties ≡ last_count) }
         ensures same { IfErr result (λ _. self.new ≡ self.old) }
     {
         let party = self.parties;

@@ -18,7 +18,7 @@ use Rattle.kanal_journal.specs.declared.journal.event.Refusal.{Refusal}
 use Rattle.kanal_journal.specs.declared.journal.event.Refusal.TheVariants.{Closed as ByClosed, ReceiveClosed as NoReceiver, SendClosed as NoSender, Timeout, NoMemory, TooMany, CloseError, NoHandle, NotWaiting}
 use Rattle.kanal_journal.specs.declared.journal.event.Reply.{Reply}
 use Rattle.kanal_journal.specs.declared.journal.event.Reply.TheVariants.{Sent, Waits, Yes, No, Got, Nothing, Drained, Withdrawn, Done, Cleared, Flag, Refused}
-use Rattle.kanal_journal.specs.Steps.{Told, only, moving, offer, take as take_told, take_front, nothing_there, wait, withdraw, shut, drained, cloned, answer, message_of, step, refused}
+use Rattle.kanal_journal.specs.Steps.{Told, only, moving, offer, take as take_told, take_front, nothing_there, wait, withdraw, shut, take_line, cloned, answer, message_of, step, refused}
 use Rattle.kanal_journal.specs.Runs.{Answers, has_handle}
 use Rattle.kanal_journal.specs.Paired.{withdrawn}
 use Rattle.kanal_journal.specs.Weights.{weigh}
@@ -255,12 +255,12 @@ module _ {T : Type 0} where
                 (record { settled = omega (arith, ap (weigh g) (ended-tickets ByClose l)); left = omega (arith, length-map (under l.capacity l.line) (λ e. e.message), under-long l.capacity l.line) })
           ]
 
-      drains : Counts l Drain (drained l)
+      drains : Counts l Drain (take_line l)
       drains =
           elim (cases_Bool (eqb l.receivers 0)) [
-            | inl x ↦ to Drain (drained l) (only l (Refused ByClosed None)) (rw x refl) (still Drain (Refused ByClosed None) refl)
+            | inl x ↦ to Drain (take_line l) (only l (Refused ByClosed None)) (rw x refl) (still Drain (Refused ByClosed None) refl)
             | inr x ↦
-                to Drain (drained l) (record (moving (drain l) (Drained (length l.line))) { drained = messages l.line }) (rw x refl)
+                to Drain (take_line l) (record (moving (drain l) (Drained (length l.line))) { drained = messages l.line }) (rw x refl)
                 (record { settled = omega (arith, waits-weigh l, ap (weigh g) (taken-tickets T (tickets l.line))); left = omega (arith, length-map l.line (λ e. e.message)) })
           ]
 

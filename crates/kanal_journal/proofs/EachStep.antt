@@ -19,7 +19,7 @@ use Rattle.kanal_journal.specs.declared.journal.event.Refusal.{Refusal}
 use Rattle.kanal_journal.specs.declared.journal.event.Refusal.TheVariants.{Closed as ByClosed, ReceiveClosed as NoReceiver, SendClosed as NoSender, Timeout, NoMemory, TooMany, CloseError, NoHandle, NotWaiting}
 use Rattle.kanal_journal.specs.declared.journal.event.Reply.{Reply}
 use Rattle.kanal_journal.specs.declared.journal.event.Reply.TheVariants.{Sent, Waits, Yes, No, Got, Nothing, Drained, Withdrawn, Done, Cleared, Flag, Refused}
-use Rattle.kanal_journal.specs.Steps.{Told, only, moving, take, take_front, nothing_there, wait, withdraw, drained, cloned, answer, message_of, step, refused}
+use Rattle.kanal_journal.specs.Steps.{Told, only, moving, take, take_front, nothing_there, wait, withdraw, take_line, cloned, answer, message_of, step, refused}
 use Rattle.kanal_journal.specs.Runs.{numbered, has_handle, Answers}
 use Rattle.kanal_journal.specs.Paired.{History, AtOnce, sent, asked, withdrawn, cleared_by, is_gone, given}
 use Rattle.kanal_journal.proofs.Sends.{longer, was_taken}
@@ -202,11 +202,11 @@ module _ {T : Type 0} (h : History T) (l : Line T) (now : Holds h l) (n : ℕ) w
             (holds_close h l now n (elim now.shut [ inl z ↦ z | inr z ↦ absurd (grind (arith, nat_tests, z.0, z.1)) ]))
       ]
 
-  drains : (xs : List (Entry T)) → l.line ≡ xs → After Drain (drained l)
+  drains : (xs : List (Entry T)) → l.line ≡ xs → After Drain (take_line l)
   drains xs is =
       elim (cases_Bool (eqb l.receivers 0)) [
-        | inl x ↦ to Drain (drained l) (only l (Refused ByClosed None)) (rw x refl) (holds_quiet h l now n Drain (Refused ByClosed None) refl refl refl refl)
-        | inr x ↦ to Drain (drained l) (record (moving (drain l) (Drained (length l.line))) { drained = messages l.line }) (rw x refl) (all xs is (eqb-false l.receivers 0 x))
+        | inl x ↦ to Drain (take_line l) (only l (Refused ByClosed None)) (rw x refl) (holds_quiet h l now n Drain (Refused ByClosed None) refl refl refl refl)
+        | inr x ↦ to Drain (take_line l) (record (moving (drain l) (Drained (length l.line))) { drained = messages l.line }) (rw x refl) (all xs is (eqb-false l.receivers 0 x))
       ]
     where
       all : (xs : List (Entry T)) → l.line ≡ xs → (l.receivers ≡ 0 → ⊥) → After Drain (record (moving (drain l) (Drained (length l.line))) { drained = messages l.line })

@@ -15,7 +15,7 @@ use Rattle.kanal_journal.specs.declared.journal.calls.Made.{Made}
 use Rattle.kanal_journal.specs.declared.journal.running.Running.{Running}
 use Rattle.kanal_journal.specs.Runs.{Account, IsTold, added, numbered as with_number, handles_after, opening, opening_line}
 use Rattle.kanal_journal.specs.Given.{AreNumbered, waiting_count}
-use Rattle.kanal_journal.specs.Made.{told_of, reply_of, settled_by, cleared_of, IsAnswered}
+use Rattle.kanal_journal.specs.Made.{told_of, reply_of, settled_of, cleared_of, IsAnswered}
 use Rattle.kanal_journal.specs.Running.{IsNoted, IsOpened, IsWithinEvents, IsSame, account_of}
 use Rattle.kanal_journal.proofs.Counting.{told-counts, told-count}
 use Rattle.kanal_journal.proofs.Numbering.{numbered-more}
@@ -76,7 +76,7 @@ module _ {T : Type 0} where
 
   -- what an answered event settles, drains and clears is within what waited and what the line held
   pub answered-counts : (handles : Handles) (old new : Line T) (e : Event T) (before after : List T) (made : Made T) → tickets (under old.capacity old.line) ≡ [] → IsAnswered handles old e new before after made
-      → (length (settled_by made) + waiting_count new + old.next ≤ waiting_count old + new.next) × (length after + length new.line ≤ length before + length old.line + 1) × (length (cleared_of made) + length new.line ≤ length old.line + 1)
+      → (length (settled_of made) + waiting_count new + old.next ≤ waiting_count old + new.next) × (length after + length new.line ≤ length before + length old.line + 1) × (length (cleared_of made) + length new.line ≤ length old.line + 1)
   answered-counts handles old new e before after made below is =
       let k = told-counts (λ x. 1) old below handles e (told_of new is.messages made) is.told in
       (told-count old below handles e (told_of new is.messages made) is.told, omega (arith, k.left, ap length is.drained, length-append before is.messages), omega (arith, k.left))
@@ -117,7 +117,7 @@ module _ {T : Type 0} where
   pub within-next : (n : ℕ) (old new : Running T) (e : Event T) (made : Made T) → tickets (under old.core.capacity (line_of old.core).line) ≡ [] → IsWithinEvents n old
       → IsAnswered old.handles (line_of old.core) e (line_of new.core) old.drained.items new.drained.items made → new.handles ≡ handles_after old.handles e (reply_of made)
       → AreNumbered 0 new.tickets.items new.core.next → length new.tickets.items ≤ length old.tickets.items + 1
-      → new.settled.items ≡ old.settled.items ++ with_number n (settled_by made) → new.cleared.items ≡ old.cleared.items ++ cleared_of made → IsWithinEvents (n + 1) new
+      → new.settled.items ≡ old.settled.items ++ with_number n (settled_of made) → new.cleared.items ≡ old.cleared.items ++ cleared_of made → IsWithinEvents (n + 1) new
   within-next n old new e made below within answered handles numbered one settled cleared =
       let counts = answered-counts old.handles (line_of old.core) (line_of new.core) e old.drained.items new.drained.items made below answered in
       let more = numbered-more old.tickets.items new.tickets.items old.core.next new.core.next within.numbered numbered one in
@@ -125,7 +125,7 @@ module _ {T : Type 0} where
       record {
         numbered = numbered;
         given = omega (arith, more, within.given);
-        waiting = omega (arith, counts.0, more, within.waiting, noted-count n old.settled.items new.settled.items (settled_by made) settled);
+        waiting = omega (arith, counts.0, more, within.waiting, noted-count n old.settled.items new.settled.items (settled_of made) settled);
         drains = omega (arith, counts.1, within.drains);
         clears = omega (arith, counts.2, within.clears, ap length cleared, length-append old.cleared.items (cleared_of made));
         senders = omega (arith, few.0, within.senders, ap (λ (h : Handles). h.tx) handles);

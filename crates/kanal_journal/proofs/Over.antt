@@ -11,9 +11,9 @@ use Rattle.kanal_journal.specs.declared.journal.event.Event.TheVariants.{Send, T
 use Rattle.kanal_journal.specs.declared.journal.event.Refusal.TheVariants.{Closed as ByClosed, SendClosed as NoSender, TooMany, CloseError, NotWaiting, Timeout, NoMemory, NoHandle}
 use Rattle.kanal_journal.specs.declared.journal.event.Reply.{Reply}
 use Rattle.kanal_journal.specs.declared.journal.event.Reply.TheVariants.{Sent, Waits, Yes, No, Got, Nothing, Drained, Withdrawn, Done, Cleared, Number, Flag, Refused}
-use Rattle.kanal_journal.specs.Steps.{Told, IsWait, only, moving, take as take_told, take_front, nothing_there, wait, withdraw, drained, shut, message_of, step, refused}
+use Rattle.kanal_journal.specs.Steps.{Told, IsWait, only, moving, take as take_told, take_front, nothing_there, wait, withdraw, take_line, shut, message_of, step, refused}
 use Rattle.kanal_journal.specs.Runs.{Account, Answers, Leads, IsTold, opening, has_handle, has_side, handles_after}
-use Rattle.kanal_journal.specs.Laws.{is_receive, is_end, is_end_or_gone, AreOver, StaysOver}
+use Rattle.kanal_journal.specs.Laws.{is_receive, tells_end, tells_end_or_no_handle, AreOver, StaysOver}
 use Rattle.kanal_journal.proofs.Standing.{Match, after-refused, told-keeps}
 
 module _ {T : Type 0} where
@@ -23,7 +23,7 @@ module _ {T : Type 0} where
 
   module _ (l : Line T) (hs : Handles) where
     -- a receive on a line with nothing in it and no sender
-    take-over : (otherwise : Told T) → IsOver l hs → (told : Told T) → told ≡ take_told l (nothing_there l otherwise) → is_end_or_gone told.reply ≡ true
+    take-over : (otherwise : Told T) → IsOver l hs → (told : Told T) → told ≡ take_told l (nothing_there l otherwise) → tells_end_or_no_handle told.reply ≡ true
     take-over otherwise (inl none) told is = rw (is, none) refl
     take-over otherwise (inr over) told is =
         elim (cases_Bool (eqb l.receivers 0)) [
@@ -31,11 +31,11 @@ module _ {T : Type 0} where
           | inr x ↦ rw (is, x, over.2, over.0) refl
         ]
 
-    refused-over : (e : Event T) (told : Told T) → told ≡ refused l NoHandle e → is_end_or_gone told.reply ≡ true
+    refused-over : (e : Event T) (told : Told T) → told ≡ refused l NoHandle e → tells_end_or_no_handle told.reply ≡ true
     refused-over e told is = rw is refl
 
     -- a reply that waits is no end
-    waits-on : (r : Reply T) → IsWait r → is_end_or_gone r ≡ false
+    waits-on : (r : Reply T) → IsWait r → tells_end_or_no_handle r ≡ false
     waits-on (Waits t) w = refl
     waits-on Sent w = elim w [ ]
     waits-on Yes w = elim w [ ]
@@ -51,7 +51,7 @@ module _ {T : Type 0} where
     waits-on (Refused reason back) w = elim w [ ]
 
     -- each receive is told that nothing will come
-    pub over-told : (e : Event T) (told : Told T) → IsOver l hs → Answers hs l e told → is_receive e ≡ true → is_end_or_gone told.reply ≡ true
+    pub over-told : (e : Event T) (told : Told T) → IsOver l hs → Answers hs l e told → is_receive e ≡ true → tells_end_or_no_handle told.reply ≡ true
     over-told Recv told over (inl is) p =
         elim (cases_Bool (has_side hs Rx)) [
           | inl x ↦ take-over (wait l (wait_recv l) None) over told (is ∙ rw x refl)
@@ -80,14 +80,14 @@ module _ {T : Type 0} where
     over-told Terminated told over is p = absurd (false≢true p)
 
     -- a receive that is told so finds it so
-    ends-over : (otherwise : Told T) → Match l hs → is_end otherwise.reply ≡ false → is_end (take_told l (nothing_there l otherwise)).reply ≡ true → IsOver l hs
+    ends-over : (otherwise : Told T) → Match l hs → tells_end otherwise.reply ≡ false → tells_end (take_told l (nothing_there l otherwise)).reply ≡ true → IsOver l hs
     ends-over otherwise match not_end end =
         elim (cases_Bool (eqb l.receivers 0)) [
           | inl x ↦ inl (eqb-true l.receivers 0 x)
           | inr x ↦ go l.line refl (eqb-false l.receivers 0 x) (rw x at end)
         ]
       where
-        go : (xs : List (Entry T)) → l.line ≡ xs → (l.receivers ≡ 0 → ⊥) → is_end (take_front l xs (nothing_there l otherwise)).reply ≡ true → IsOver l hs
+        go : (xs : List (Entry T)) → l.line ≡ xs → (l.receivers ≡ 0 → ⊥) → tells_end (take_front l xs (nothing_there l otherwise)).reply ≡ true → IsOver l hs
         go (x ∷ xs) is some_receiver k = absurd (false≢true k)
         go [] is some_receiver k =
             elim (cases_Bool (eqb l.senders 0)) [
@@ -143,8 +143,8 @@ module _ {T : Type 0} where
     still-empty TryRecv p = takes-nothing (nothing_there l (only l Nothing)) (nothing-sent (only l Nothing))
     still-empty Drain p =
         elim (cases_Bool (eqb l.receivers 0)) [
-          | inl x ↦ told_to (drained l) (only l (Refused ByClosed None)) (rw x refl) empty
-          | inr x ↦ told_to (drained l) (record (moving (drain l) (Drained (length l.line))) { drained = messages l.line }) (rw x refl) refl
+          | inl x ↦ told_to (take_line l) (only l (Refused ByClosed None)) (rw x refl) empty
+          | inr x ↦ told_to (take_line l) (record (moving (drain l) (Drained (length l.line))) { drained = messages l.line }) (rw x refl) refl
         ]
     still-empty (Withdraw t) p = told_to (step l (Withdraw t)) (withdraw l t []) (rw empty refl) (withdraws-nothing t)
     still-empty CloneRx p =
@@ -225,7 +225,7 @@ module _ {T : Type 0} where
       record { replies = told.reply ∷ rest.replies; is = more-replies a l.0 e l.1 rest.replies b.replies rest.is; over = (over-told a.line a.handles e told over l.1.1, rest.over) }
 
   -- a receive that is told of an end finds that nothing will come
-  end-over : (l : Line T) (hs : Handles) (e : Event T) (told : Told T) → Match l hs → Answers hs l e told → is_receive e ≡ true → is_end told.reply ≡ true → IsOver l hs
+  end-over : (l : Line T) (hs : Handles) (e : Event T) (told : Told T) → Match l hs → Answers hs l e told → is_receive e ≡ true → tells_end told.reply ≡ true → IsOver l hs
   end-over l hs e told match (inr is) p end = absurd (false≢true (rw is.2 at end))
   end-over l hs e told match (inl is) p end =
       elim (cases_Bool (has_handle hs e)) [
@@ -233,10 +233,10 @@ module _ {T : Type 0} where
         | inl x ↦ let same : told ≡ step l e = is ∙ rw x refl in of-step e p (rw same at end)
       ]
     where
-      wait-no-end : is_end (wait l (wait_recv l) None).reply ≡ false
+      wait-no-end : tells_end (wait l (wait_recv l) None).reply ≡ false
       wait-no-end = elim (cases_Bool (eqb l.next last_word)) [ inl x ↦ rw x refl | inr x ↦ rw x refl ]
 
-      of-step : (e : Event T) → is_receive e ≡ true → is_end (step l e).reply ≡ true → IsOver l hs
+      of-step : (e : Event T) → is_receive e ≡ true → tells_end (step l e).reply ≡ true → IsOver l hs
       of-step Recv p end = ends-over l hs (wait l (wait_recv l) None) match wait-no-end end
       of-step TryRecv p end = ends-over l hs (only l Nothing) match refl end
       of-step (Send m) p end = absurd (false≢true p)

@@ -13,7 +13,7 @@ use Rattle.kanal_journal.specs.declared.journal.event.Event.TheVariants.{Send, T
 use Rattle.kanal_journal.specs.declared.journal.event.Refusal.TheVariants.{Closed as ByClosed, ReceiveClosed as NoReceiver, SendClosed as NoSender, Timeout, TooMany, CloseError, NoHandle, NotWaiting}
 use Rattle.kanal_journal.specs.declared.journal.event.Reply.{Reply}
 use Rattle.kanal_journal.specs.declared.journal.event.Reply.TheVariants.{Sent, Waits, Yes, No, Got, Nothing, Drained, Withdrawn, Done, Cleared, Flag, Refused}
-use Rattle.kanal_journal.specs.Steps.{Told, only, moving, offer, take as take_told, take_front, nothing_there, wait, withdraw, shut, drained, cloned, answer, message_of, step, refused}
+use Rattle.kanal_journal.specs.Steps.{Told, only, moving, offer, take as take_told, take_front, nothing_there, wait, withdraw, shut, take_line, cloned, answer, message_of, step, refused}
 use Rattle.kanal_journal.specs.Runs.{made, has_handle}
 use Rattle.kanal_journal.specs.Replays.{is_no_memory}
 
@@ -100,13 +100,13 @@ module _ {T : Type 0} where
               to (shut l) told (rw x refl) (leaves told refl refl refl)
         ]
 
-    drains : Regular l (drained l)
+    drains : Regular l (take_line l)
     drains =
         elim (cases_Bool (eqb l.receivers 0)) [
-          | inl x ↦ to (drained l) (only l (Refused ByClosed None)) (rw x refl) (still (Refused ByClosed None) refl)
+          | inl x ↦ to (take_line l) (only l (Refused ByClosed None)) (rw x refl) (still (Refused ByClosed None) refl)
           | inr x ↦
               let told : Told T = record (moving (drain l) (Drained (length l.line))) { drained = messages l.line } in
-              to (drained l) told (rw x refl) (leaves told refl refl refl)
+              to (take_line l) told (rw x refl) (leaves told refl refl refl)
         ]
 
     clones : (count : ℕ) (new : Line T) → new.capacity ≡ l.capacity → new.next ≡ l.next → Regular l (cloned l count new)

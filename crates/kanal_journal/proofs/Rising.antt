@@ -15,7 +15,7 @@ use Rattle.kanal_journal.specs.declared.journal.event.Refusal.TheVariants.{Close
 use Rattle.kanal_journal.specs.declared.journal.event.Reply.{Reply}
 use Rattle.kanal_journal.specs.declared.journal.event.Reply.TheVariants.{Sent, Waits, Yes, No, Got, Nothing, Drained, Withdrawn, Done, Cleared, Flag, Refused}
 use Rattle.kanal_journal.specs.declared.journal.event.Settlement.{Settlement}
-use Rattle.kanal_journal.specs.Steps.{Told, only, moving, offer, take as take_told, take_front, nothing_there, wait, withdraw, shut, drained, cloned, answer, message_of, step, refused}
+use Rattle.kanal_journal.specs.Steps.{Told, only, moving, offer, take as take_told, take_front, nothing_there, wait, withdraw, shut, take_line, cloned, answer, message_of, step, refused}
 use Rattle.kanal_journal.specs.Runs.{Account, Answers, Leads, opening, has_handle, numbered}
 use Rattle.kanal_journal.specs.Laws.{AreRising, WaitByPlace, without_ticket, settled_at, told_history}
 use Rattle.kanal_journal.proofs.Settling.{AllBare, AllWait, IsSeated, under-over}
@@ -192,13 +192,13 @@ module _ {T : Type 0} where
               (record { waits = omega arith; settled = ends-settled ByClose; grows = omega arith })
         ]
 
-    drains : KeepsOrder l (drained l)
+    drains : KeepsOrder l (take_line l)
     drains =
         let P : List ℕ → Type 0 = λ ts. AreRising 0 ts l.next in
         elim (cases_Bool (eqb l.receivers 0)) [
-          | inl x ↦ to (drained l) (only l (Refused ByClosed None)) (rw x refl) (still (Refused ByClosed None))
+          | inl x ↦ to (take_line l) (only l (Refused ByClosed None)) (rw x refl) (still (Refused ByClosed None))
           | inr x ↦
-              to (drained l) (record (moving (drain l) (Drained (length l.line))) { drained = messages l.line }) (rw x refl)
+              to (take_line l) (record (moving (drain l) (Drained (length l.line))) { drained = messages l.line }) (rw x refl)
               (record { waits = rise-last 0 (tickets l.line) l.demands l.next now; settled = subst P (sym (taken-tickets T (tickets l.line))) (rise-first 0 (tickets l.line) l.demands l.next now); grows = omega arith })
         ]
 

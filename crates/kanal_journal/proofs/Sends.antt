@@ -9,7 +9,7 @@ use Rattle.kanal_core.specs.declared.internal.outcome.Outcome.{Outcome}
 use Rattle.kanal_core.specs.declared.internal.outcome.Outcome.TheVariants.{Taken}
 use Rattle.kanal_journal.specs.declared.journal.event.Settlement.{Settlement}
 use Rattle.kanal_core.specs.Line.{Entry, bare}
-use Rattle.kanal_journal.specs.Paired.{History, along, sent, withdrawn, is_end, is_gone, send_stays}
+use Rattle.kanal_journal.specs.Paired.{History, along, sent, withdrawn, is_ended, is_gone, send_stays}
 
 pub along-last : {E R X : Type 0} (f : E → R → List X) (es : List E) (rs : List R) (e : E) (r : R) → length es ≡ length rs → along f (es ++ e ∷ []) (rs ++ r ∷ []) ≡ along f es rs ++ f e r
 along-last f [] [] e r h = append-nil (f e r)
@@ -30,7 +30,7 @@ module _ {T : Type 0} where
 
   -- this step withdraws or ends the ticket
   abbrev pub goes : Event T → Reply T → List (Settlement T) → ℕ → Bool
-  goes e r ss t = list_any (λ u. u == t) (withdrawn e r) || list_any (λ s. (s.ticket == t) && is_end s.outcome) ss
+  goes e r ss t = list_any (λ u. u == t) (withdrawn e r) || list_any (λ s. (s.ticket == t) && is_ended s.outcome) ss
 
   abbrev pub is_take : Outcome T → Bool
   is_take Taken = true
@@ -65,7 +65,7 @@ module _ {T : Type 0} where
     pub gone-last : (t : ℕ) → is_gone (longer h e r ss ms) t ≡ (is_gone h t || goes e r ss t)
     gone-last t =
         rw (along-last withdrawn h.events h.replies e r same, list_any-append, list_any-append)
-        (or_swap (list_any (λ u. u == t) (along withdrawn h.events h.replies)) (list_any (λ u. u == t) (withdrawn e r)) (list_any (λ s. (s.ticket == t) && is_end s.outcome) h.settled) (list_any (λ s. (s.ticket == t) && is_end s.outcome) ss))
+        (or_swap (list_any (λ u. u == t) (along withdrawn h.events h.replies)) (list_any (λ u. u == t) (withdrawn e r)) (list_any (λ s. (s.ticket == t) && is_ended s.outcome) h.settled) (list_any (λ s. (s.ticket == t) && is_ended s.outcome) ss))
 
     pub taken-last : (t : ℕ) → was_taken (h.settled ++ ss) t ≡ (was_taken h.settled t || was_taken ss t)
     taken-last t = list_any-append _ h.settled ss

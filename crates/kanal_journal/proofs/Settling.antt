@@ -18,7 +18,7 @@ use Rattle.kanal_journal.specs.declared.journal.event.Settlement.{Settlement}
 use Rattle.kanal_core.specs.Line.{Entry, bare, messages, tickets, has, under, over, holds_ticket, is_ticket}
 use Rattle.kanal_core.specs.Moves.{seated, ended_entry}
 use Rattle.kanal_journal.specs.Runs.{numbered}
-use Rattle.kanal_journal.specs.Paired.{Later, withdrawn, is_end}
+use Rattle.kanal_journal.specs.Paired.{Later, withdrawn, is_ended}
 use Rattle.kanal_journal.proofs.Sends.{goes, was_taken, later, ticket_at, ticket_stays}
 use Rattle.kanal_journal.proofs.Slots.{slot_stays, answered}
 
@@ -111,7 +111,7 @@ module _ (T : Type 0) (n : ℕ) where
   taken_has [] t = refl
   taken_has (u ∷ ts) t = rw (and_true (u == t), taken_has ts t)
 
-  pub none_ends : (ts : List ℕ) (t : ℕ) → list_any (λ s. (s.ticket == t) && is_end s.outcome) (takes ts) ≡ false
+  pub none_ends : (ts : List ℕ) (t : ℕ) → list_any (λ s. (s.ticket == t) && is_ended s.outcome) (takes ts) ≡ false
   none_ends [] t = refl
   none_ends (u ∷ ts) t = rw (and_false (u == t), none_ends ts t)
 
@@ -157,13 +157,13 @@ module _ (T : Type 0) (n : ℕ) where
 -- settlements of a step that ends all waits
 module _ (T : Type 0) (n : ℕ) (reason : Reason) where
   -- the tickets that the line and the demands hold are all that ends
-  pub ends_has : (line : List (Entry T)) (ts : List ℕ) (t : ℕ) → list_any (λ s. (s.ticket == t) && is_end s.outcome) (numbered n (filter_map (ended_entry reason) line ++ map (λ u. (u, Ended reason None)) ts)) ≡ has t (tickets line ++ ts)
+  pub ends_has : (line : List (Entry T)) (ts : List ℕ) (t : ℕ) → list_any (λ s. (s.ticket == t) && is_ended s.outcome) (numbered n (filter_map (ended_entry reason) line ++ map (λ u. (u, Ended reason None)) ts)) ≡ has t (tickets line ++ ts)
   ends_has [] [] t = refl
   ends_has [] (u ∷ ts) t = rw (and_true (u == t), ends_has [] ts t)
   ends_has (x ∷ xs) ts t = ends_one x.ticket x.message (filter_map (ended_entry reason) xs) (map (λ u. (u, Ended reason None)) ts) (tickets xs) ts t (ends_has xs ts t)
     where
-      ends_one : (o : Option ℕ) (m : T) (rest more : List (ℕ × Outcome T)) (us vs : List ℕ) (t : ℕ) → list_any (λ s. (s.ticket == t) && is_end s.outcome) (numbered n (rest ++ more)) ≡ has t (us ++ vs)
-          → list_any (λ s. (s.ticket == t) && is_end s.outcome) (numbered n (cons_option (option_map (λ u. (u, Ended reason (Some m))) o) rest ++ more)) ≡ has t (cons_option o us ++ vs)
+      ends_one : (o : Option ℕ) (m : T) (rest more : List (ℕ × Outcome T)) (us vs : List ℕ) (t : ℕ) → list_any (λ s. (s.ticket == t) && is_ended s.outcome) (numbered n (rest ++ more)) ≡ has t (us ++ vs)
+          → list_any (λ s. (s.ticket == t) && is_ended s.outcome) (numbered n (cons_option (option_map (λ u. (u, Ended reason (Some m))) o) rest ++ more)) ≡ has t (cons_option o us ++ vs)
       ends_one None m rest more us vs t h = h
       ends_one (Some u) m rest more us vs t h = rw (and_true (u == t), h)
 

@@ -12,7 +12,7 @@ use Rattle.kanal_journal.specs.declared.journal.event.Refusal.{Refusal}
 use Rattle.kanal_journal.specs.declared.journal.event.Refusal.TheVariants.{Closed as ByClosed, ReceiveClosed as NoReceiver, SendClosed as NoSender, Timeout, NoMemory, TooMany, CloseError, NoHandle, NotWaiting}
 use Rattle.kanal_journal.specs.declared.journal.event.Reply.{Reply}
 use Rattle.kanal_journal.specs.declared.journal.event.Reply.TheVariants.{Sent, Waits, Yes, No, Nothing, Drained, Withdrawn, Done, Cleared, Flag, Refused}
-use Rattle.kanal_journal.specs.Steps.{Told, only, moving, offer, take as take_told, take_front, nothing_there, wait, withdraw, shut, drained, answer, message_of, step, refused}
+use Rattle.kanal_journal.specs.Steps.{Told, only, moving, offer, take as take_told, take_front, nothing_there, wait, withdraw, shut, take_line, answer, message_of, step, refused}
 use Rattle.kanal_journal.specs.Runs.{Account, Answers, Leads, has_handle, has_side, handles_after}
 use Rattle.kanal_journal.proofs.Regular.{made-regular}
 
@@ -114,11 +114,11 @@ module _ {T : Type 0} where
         ]
     withdraws t (m ∷ ms) = record { senders = refl; receivers = refl }
 
-    drains : IsSteady l (drained l)
+    drains : IsSteady l (take_line l)
     drains =
         elim (cases_Bool (eqb l.receivers 0)) [
-          | inl x ↦ to (drained l) (only l (Refused ByClosed None)) (rw x refl) (still (Refused ByClosed None))
-          | inr x ↦ to (drained l) (record (moving (drain l) (Drained (length l.line))) { drained = messages l.line }) (rw x refl) (record { senders = refl; receivers = refl })
+          | inl x ↦ to (take_line l) (only l (Refused ByClosed None)) (rw x refl) (still (Refused ByClosed None))
+          | inr x ↦ to (take_line l) (record (moving (drain l) (Drained (length l.line))) { drained = messages l.line }) (rw x refl) (record { senders = refl; receivers = refl })
         ]
 
     pub step-steady : (e : Event T) → is_plain e ≡ true → IsSteady l (step l e)

@@ -20,7 +20,7 @@ use Rattle.kanal_journal.specs.declared.journal.event.Refusal.{Refusal}
 use Rattle.kanal_journal.specs.declared.journal.event.Refusal.TheVariants.{Closed as ByClosed, ReceiveClosed as NoReceiver, SendClosed as NoSender, Timeout, NoMemory, TooMany, CloseError, NoHandle, NotWaiting}
 use Rattle.kanal_journal.specs.declared.journal.event.Reply.{Reply}
 use Rattle.kanal_journal.specs.declared.journal.event.Reply.TheVariants.{Sent, Waits, Yes, No, Nothing, Drained, Withdrawn, Done, Cleared, Flag, Refused}
-use Rattle.kanal_journal.specs.Steps.{Told, only, moving, offer, take as take_told, take_front, nothing_there, wait, withdraw, shut, drained, cloned, answer, step, refused}
+use Rattle.kanal_journal.specs.Steps.{Told, only, moving, offer, take as take_told, take_front, nothing_there, wait, withdraw, shut, take_line, cloned, answer, step, refused}
 use Rattle.kanal_journal.specs.Runs.{Account, Leads, Answers, added, has_handle, numbered}
 use Rattle.kanal_journal.specs.Weights.{weigh, event_weight, reply_weight, outcome_weight, settlement_weight}
 use Rattle.kanal_journal.proofs.Settling.{AreApart, AllBare, AllWait, IsSeated, under-over}
@@ -193,11 +193,11 @@ module _ {T : Type 0} (h : T → ℕ) where
           | inr x ↦ to Close (shut l) (record (moving (close l) (Cleared (length (cleared l)))) { cleared = cleared l }) (rw x refl) (omega (arith, weigh-ended ByClose l seats))
         ]
 
-    drains : Weighs Drain (drained l)
+    drains : Weighs Drain (take_line l)
     drains =
         elim (cases_Bool (eqb l.receivers 0)) [
-          | inl x ↦ to Drain (drained l) (only l (Refused ByClosed None)) (rw x refl) (still Drain (Refused ByClosed None) refl)
-          | inr x ↦ to Drain (drained l) (record (moving (drain l) (Drained (length l.line))) { drained = messages l.line }) (rw x refl) (omega (arith, taken-nothing (tickets l.line)))
+          | inl x ↦ to Drain (take_line l) (only l (Refused ByClosed None)) (rw x refl) (still Drain (Refused ByClosed None) refl)
+          | inr x ↦ to Drain (take_line l) (record (moving (drain l) (Drained (length l.line))) { drained = messages l.line }) (rw x refl) (omega (arith, taken-nothing (tickets l.line)))
         ]
 
     clones : (e : Event T) (count : ℕ) (new : Line T) → event_weight h e ≡ 0 → new.line ≡ l.line → Weighs e (cloned l count new)

@@ -1,15 +1,18 @@
 -- Words of the laws that users of a channel lean on.
-use Rattle.std.specs.Prelude.{◌≡◌, ℕ, ◌+◌, ◌≤◌, ◌==◌, Bool, true, false, not, List, [], ◌∷◌, length, map, filter, Option}
+use Rattle.std.specs.Prelude.{◌≡◌, ◌≢◌, ◌⊎◌, ◌↔◌, ℕ, ◌+◌, ◌≤◌, ◌==◌, Bool, true, false, not, List, [], ◌∷◌, length, map, filter, Option, Some, None}
 use Rattle.std.specs.Option.{is_some}
-use Rattle.kanal_core.specs.Line.{Entry, is_below}
+use Rattle.kanal_core.specs.Line.{Entry, Line, is_at, is_below, buffered, tickets, has_place}
 use Rattle.kanal_journal.specs.declared.journal.event.Event.{Event}
-use Rattle.kanal_journal.specs.declared.journal.event.Event.TheVariants.{Recv, TryRecv}
-use Rattle.kanal_journal.specs.declared.journal.event.Refusal.TheVariants.{Closed, SendClosed, NoHandle}
+use Rattle.kanal_journal.specs.declared.journal.event.Event.TheVariants.{TrySend, Recv, TryRecv, Close}
+use Rattle.kanal_journal.specs.declared.journal.event.Refusal.TheVariants.{Closed, SendClosed, NoHandle, NoMemory, CloseError}
 use Rattle.kanal_journal.specs.declared.journal.event.Reply.{Reply}
-use Rattle.kanal_journal.specs.declared.journal.event.Reply.TheVariants.{Refused}
+use Rattle.kanal_journal.specs.declared.journal.event.Reply.TheVariants.{Yes, Refused}
 use Rattle.kanal_journal.specs.declared.journal.event.Settlement.{Settlement}
-use Rattle.kanal_journal.specs.Runs.{Account}
-use Rattle.kanal_journal.specs.Paired.{History, along, withdrawn}
+use Rattle.kanal_journal.specs.declared.journal.event.Side.TheVariants.{Tx}
+use Rattle.kanal_journal.specs.declared.journal.handles.Handles.{Handles}
+use Rattle.kanal_journal.specs.Steps.{Told}
+use Rattle.kanal_journal.specs.Runs.{Account, Answers, Leads, opening, has_side}
+use Rattle.kanal_journal.specs.Paired.{History, history_from, along, withdrawn, kept, demands}
 
 -- the numbers rise, from `low` on and below `next`
 abbrev pub AreRising : ℕ → List ℕ → ℕ → Type 0
@@ -30,9 +33,13 @@ module _ {T : Type 0} where
   abbrev pub settled_at : ℕ → List (Settlement T) → List ℕ
   settled_at step settled = map (λ s. s.ticket) (filter (λ s. s.step == step) settled)
 
+  -- the tickets that each step settled rise, and were given
+  abbrev pub EachStepRises : List (Settlement T) → ℕ → Type 0
+  EachStepRises settled next = (step : ℕ) → AreRising 0 (settled_at step settled) next
+
   -- the history that an account tells of these events
   abbrev pub told_history : List (Event T) → Account T → History T
-  told_history events account = record { events = events; replies = account.replies; settled = account.settled; drained = account.drained }
+  told_history events account = history_from events account.replies account.settled account.drained
 
   -- how often the ticket was settled
   abbrev pub settled_times : ℕ → List (Settlement T) → ℕ
@@ -42,6 +49,10 @@ module _ {T : Type 0} where
   abbrev pub withdrawn_times : ℕ → List (Event T) → List (Reply T) → ℕ
   withdrawn_times t events replies = length (filter (λ u. u == t) (along withdrawn events replies))
 
+  -- no ticket was settled and withdrawn, or one of both twice
+  abbrev pub EndsOnce : List (Event T) → List (Reply T) → List (Settlement T) → Type 0
+  EndsOnce events replies settled = (t : ℕ) → settled_times t settled + withdrawn_times t events replies ≤ 1
+
   -- a call that receives, and may wait or not
   abbrev pub is_receive : Event T → Bool
   is_receive Recv = true
@@ -49,26 +60,64 @@ module _ {T : Type 0} where
   is_receive event = false
 
   -- the reply says that nothing will come any more
-  abbrev pub is_end : Reply T → Bool
-  is_end (Refused Closed back) = true
-  is_end (Refused SendClosed back) = true
-  is_end reply = false
+  abbrev pub tells_end : Reply T → Bool
+  tells_end (Refused Closed back) = true
+  tells_end (Refused SendClosed back) = true
+  tells_end reply = false
 
   -- the reply says so, or that the side has no live handle
-  abbrev pub is_end_or_gone : Reply T → Bool
-  is_end_or_gone (Refused Closed back) = true
-  is_end_or_gone (Refused SendClosed back) = true
-  is_end_or_gone (Refused NoHandle back) = true
-  is_end_or_gone reply = false
+  abbrev pub tells_end_or_no_handle : Reply T → Bool
+  tells_end_or_no_handle (Refused Closed back) = true
+  tells_end_or_no_handle (Refused SendClosed back) = true
+  tells_end_or_no_handle (Refused NoHandle back) = true
+  tells_end_or_no_handle reply = false
 
   -- each receive is told so
   abbrev pub AreOver : List (Event T) → List (Reply T) → Type 0
   AreOver [] replies = Unit {0}
   AreOver (event ∷ events) [] = Unit {0}
-  AreOver (event ∷ events) (reply ∷ replies) = (is_receive event ≡ true → is_end_or_gone reply ≡ true) × AreOver events replies
+  AreOver (event ∷ events) (reply ∷ replies) = (is_receive event ≡ true → tells_end_or_no_handle reply ≡ true) × AreOver events replies
 
   -- once a receive was told that nothing will come, each later one is told so, too
   abbrev pub StaysOver : List (Event T) → List (Reply T) → Type 0
   StaysOver [] replies = Unit {0}
   StaysOver (event ∷ events) [] = Unit {0}
-  StaysOver (event ∷ events) (reply ∷ replies) = (is_receive event ≡ true → is_end reply ≡ true → AreOver events replies) × StaysOver events replies
+  StaysOver (event ∷ events) (reply ∷ replies) = (is_receive event ≡ true → tells_end reply ≡ true → AreOver events replies) × StaysOver events replies
+
+  -- whatever the events may lead to on a new channel of this capacity, the account is so
+  abbrev pub EachAccount : Option ℕ → List (Event T) → (Account T → Type 0) → Type 0
+  EachAccount capacity events IsSo = (a : Account T) → Leads (opening capacity) events a → IsSo a
+
+  -- the same of the line alone
+  abbrev pub EachLine : Option ℕ → List (Event T) → (Line T → Type 0) → Type 0
+  EachLine capacity events IsSo = EachAccount capacity events (λ a. IsSo a.line)
+
+  -- no message is there, or no receive waits
+  abbrev pub HasOneSide : Line T → Type 0
+  HasOneSide l = (l.line ≡ []) ⊎ (l.demands ≡ [])
+
+  -- the line and the kept demands are together as many as the kept messages and the demands that wait
+  abbrev pub IsBalanced : History T → Line T → Type 0
+  IsBalanced h l = length l.line + length (demands h) ≡ length (kept h) + length l.demands
+
+  -- a sender waits only while the buffer is full
+  abbrev pub WaitsWhenFull : Line T → Type 0
+  WaitsWhenFull l = tickets l.line ≢ [] → is_at (buffered l) l.capacity ≡ true
+
+  -- a `TrySend` through a live handle, with a receiver left, enters exactly where there is a place, unless it is refused for memory
+  abbrev pub EntersByPlace : Handles → Line T → Type 0
+  EntersByPlace handles l =
+      (m : T) (told : Told T) → Answers handles l (TrySend m) told → has_side handles Tx ≡ true → l.receivers ≢ 0
+      → told.reply ≢ Refused NoMemory (Some m) → told.reply ≡ Yes ↔ (has_place l ≡ true)
+
+  -- where the events led to a line on which this count is 0, it is 0 after all later events, too
+  abbrev pub StaysZero : Option ℕ → List (Event T) → (Line T → ℕ) → Type 0
+  StaysZero capacity events count =
+      (a b : Account T) → Leads (opening capacity) events a → (later : List (Event T)) → Leads a later b
+      → count a.line ≡ 0 → count b.line ≡ 0
+
+  -- a refused close leaves the line as it was, and tells nothing
+  abbrev pub KeepsWhereRefused : Handles → Line T → Type 0
+  KeepsWhereRefused handles l =
+      (told : Told T) → Answers handles l Close told → told.reply ≡ Refused CloseError None
+      → (told.line ≡ l) × (told.settled ≡ []) × (told.cleared ≡ [])

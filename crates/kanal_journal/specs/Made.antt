@@ -20,10 +20,10 @@ module _ {T : Type 0} where
   reply_of (Shut closing) = Cleared (length closing.cleared)
 
   -- the tickets that it settled
-  abbrev pub settled_by : Made T → List (ℕ × Outcome T)
-  settled_by (One reply settled) = settlements settled
-  settled_by (All reply ended) = map settlement ended
-  settled_by (Shut closing) = map settlement closing.ended
+  abbrev pub settled_of : Made T → List (ℕ × Outcome T)
+  settled_of (One reply settled) = settlements settled
+  settled_of (All reply ended) = map settlement ended
+  settled_of (Shut closing) = map settlement closing.ended
 
   -- the messages that it cleared
   abbrev pub cleared_of : Made T → List T
@@ -34,7 +34,7 @@ module _ {T : Type 0} where
   -- all that it tells, with the line after it and the messages that it drained
   abbrev pub told_of : Line T → List T → Made T → Told T
   told_of line drained made =
-      record { line = line; reply = reply_of made; settled = settled_by made; drained = drained; cleared = cleared_of made }
+      record { line = line; reply = reply_of made; settled = settled_of made; drained = drained; cleared = cleared_of made }
 
   -- the event was made: what it told, and what it put behind the messages that were drained before
   pub record IsMade (old : Line T) (event : Event T) (new : Line T) (before after : List T) (made : Made T) : Type 0 where

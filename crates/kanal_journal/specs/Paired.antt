@@ -35,9 +35,13 @@ pub record History (T : Type 0) : Type 0 where
   pub drained : List T
 
 module _ {T : Type 0} where
+  -- the history of these events, of which this was told
+  abbrev pub history_from : List (Event T) → List (Reply T) → List (Settlement T) → List T → History T
+  history_from events replies settled drained = record { events = events; replies = replies; settled = settled; drained = drained }
+
   -- the history that a report tells of these events
   abbrev pub history : List (Event T) → Report T → History T
-  history events report = record { events = events; replies = report.replies.items; settled = report.settled.items; drained = report.drained.items }
+  history events report = history_from events report.replies.items report.settled.items report.drained.items
 
   -- the first n steps; what was drained stands whole, since each drain's own count says how much of it is read
   abbrev pub until : ℕ → History T → History T
@@ -65,13 +69,13 @@ module _ {T : Type 0} where
   withdrawn event reply = []
 
   -- a wait ended
-  abbrev pub is_end : Outcome T → Bool
-  is_end (Ended reason m) = true
-  is_end outcome = false
+  abbrev pub is_ended : Outcome T → Bool
+  is_ended (Ended reason m) = true
+  is_ended outcome = false
 
   -- the ticket was withdrawn or ended
   abbrev pub is_gone : History T → ℕ → Bool
-  is_gone h t = list_any (λ u. u == t) (along withdrawn h.events h.replies) || list_any (λ s. (s.ticket == t) && is_end s.outcome) h.settled
+  is_gone h t = list_any (λ u. u == t) (along withdrawn h.events h.replies) || list_any (λ s. (s.ticket == t) && is_ended s.outcome) h.settled
 
   -- the message that an outcome gives
   abbrev pub gift_of : Outcome T → Option T

@@ -9,7 +9,7 @@ use Rattle.kanal_journal.specs.declared.journal.event.Reply.TheVariants.{Refused
 use Rattle.kanal_journal.specs.declared.journal.recorder.Entry.{Entry}
 use Rattle.kanal_journal.specs.Steps.{message_of}
 use Rattle.kanal_journal.specs.Runs.{Account, made, added, opening}
-use Rattle.kanal_journal.specs.Paired.{History}
+use Rattle.kanal_journal.specs.Paired.{History, history_from}
 
 -- a journal: the channel's capacity, the entries, and all that was told so far
 pub record Recording (T : Type 0) : Type 0 where
@@ -46,7 +46,7 @@ module _ {T : Type 0} where
 
   -- the history that a journal tells
   abbrev pub history_of : Recording T → History T
-  history_of r = record { events = events_of r.entries; replies = replies_of r.entries; settled = r.account.settled; drained = r.account.drained }
+  history_of r = history_from (events_of r.entries) (replies_of r.entries) r.account.settled r.account.drained
 
   -- what became of the wait with the ticket, if it was settled
   abbrev pub outcome_of : ℕ → List (Settlement T) → Option (Outcome T)

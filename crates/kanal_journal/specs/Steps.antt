@@ -72,8 +72,8 @@ module _ {T : Type 0} where
       (record (moving (close old) (Cleared (length (cleared old)))) { cleared = cleared old })
 
   -- the whole line is taken
-  abbrev pub drained : Line T → Told T
-  drained old =
+  abbrev pub take_line : Line T → Told T
+  take_line old =
       cond (old.receivers == 0)
       (only old (Refused Closed None))
       (record (moving (drain old) (Drained (length old.line))) { drained = messages old.line })
@@ -106,7 +106,7 @@ module _ {T : Type 0} where
   step old Recv = take old (nothing_there old (wait old (wait_recv old) None))
   step old RecvLate = take old (only old (Refused Timeout None))
   step old TryRecv = take old (nothing_there old (only old Nothing))
-  step old Drain = drained old
+  step old Drain = take_line old
   step old (Withdraw t) = withdraw old t (found t old.line)
   step old CloneTx = cloned old old.senders (add_sender old)
   step old CloneRx = cloned old old.receivers (add_receiver old)

@@ -9,6 +9,7 @@
 //!
 //! Stands on the running channel, on which each event is made. Nothing here looks into the core.
 ghost use Rattle.std.specs.Prelude.{◌≡◌, ◌↔◌, ℕ, ◌+◌, ◌<◌, IfOk, IsErrOf, Some, vec_len, vec_capacity};
+ghost use Rattle.kanal_core.specs.Line.{last_word};
 ghost use Rattle.kanal_journal.specs.Runs.{IsTold, Runs};
 ghost use Rattle.kanal_journal.specs.Running.{IsWithinEvents, HasRoom, HasSameRoom, account_of};
 ghost use Rattle.kanal_journal.specs.Paired.{Paired, history, until, rest};
@@ -35,7 +36,8 @@ fn step<T: Drop>(running: &mut Running<T>, replies: &mut Vec<Reply<T>>, event: E
     requires within { IsWithinEvents (vec_len replies.old) running.old }
     requires room { HasRoom (vec_len replies.old + 1) running.old }
     requires replies { vec_len replies.old < vec_capacity replies.old }
-    ensures told { IsTold (account_of replies.old.items running.old) event (account_of replies.new.items running.new) }
+    ensures told { IsTold (account_of replies.old.items running.old) event
+        (account_of replies.new.items running.new) }
     ensures within { IsWithinEvents (vec_len replies.new) running.new }
     ensures count { vec_len replies.new ≡ vec_len replies.old + 1 }
     ensures room { HasSameRoom running.old running.new }
@@ -69,11 +71,12 @@ pub fn run<T: Drop>(
     capacity: Option<usize>,
     events: Vec<Event<T>>,
 ) -> Result<Report<T>, NewError>
-    ensures large { IsErrOf result NewError.TooLarge ↔ (capacity ≡ Some 18446744073709551615) }
+    ensures large { IsErrOf result NewError.TooLarge ↔ (capacity ≡ Some last_word) }
     ensures runs { IfOk result (λ r. Runs capacity events.items r) }
     ensures paired { IfOk result (λ r. (n : ℕ) → Paired (until n (history events.items r))) }
     ensures left { IfOk result (λ r. r.left.items ≡ rest (history events.items r)) }
-    ensures whole { IfOk result (λ r. (h : T → ℕ) → weigh (event_weight h) events.items ≡ report_weight h r) }
+    ensures whole { IfOk result (λ r. (h : T → ℕ)
+        → weigh (event_weight h) events.items ≡ report_weight h r) }
 {
     let mut running = Running::new(alloc, capacity)?;
     let steps = events.len();

@@ -2,20 +2,16 @@
 //!
 //! The functions here do nothing: each is called for what its contract says of every list of events.
 //! They stand on the definitions of steps, runs and histories, and are no place for code.
-ghost use Rattle.std.specs.Prelude.{◌≡◌, ◌≢◌, ◌⊎◌, ◌↔◌, ℕ, ◌+◌, ◌≤◌, true, [], length, List, Option, Some, None};
-ghost use Rattle.kanal_core.specs.Line.{IsWithin, is_at, tickets, buffered, has_place};
-ghost use Rattle.kanal_journal.specs.declared.journal.event.Side.TheVariants.{Tx};
-ghost use Rattle.kanal_journal.specs.Steps.{Told};
-ghost use Rattle.kanal_journal.specs.Runs.{Account, Answers, Leads, opening, has_side};
-ghost use Rattle.kanal_journal.specs.Paired.{kept, demands};
-ghost use Rattle.kanal_journal.specs.Laws.{AreRising, WaitByPlace, without_ticket, settled_at, told_history, settled_times, withdrawn_times, StaysOver};
+ghost use Rattle.std.specs.Prelude.{◌≡◌, length};
+ghost use Rattle.kanal_core.specs.Line.{IsWithin, tickets};
+ghost use Rattle.kanal_journal.specs.Laws.{EachAccount, EachLine, AreRising, EndsOnce, EachStepRises, EntersByPlace, HasOneSide, IsBalanced, KeepsWhereRefused, StaysOver, StaysZero, WaitByPlace, WaitsWhenFull, told_history, without_ticket};
 
-use crate::journal::{Event, Refusal, Reply};
+use crate::journal::Event;
 
 /// No receive waits while a message is there: after every list of events the line is empty, or the
 /// demands are.
 pub fn one_side_is_empty<T>(capacity: Option<usize>, events: &[Event<T>])
-    ensures law { (a : Account T) → Leads (opening capacity) events.now a → (a.line.line ≡ []) ⊎ (a.line.demands ≡ []) }
+    ensures law { EachLine capacity events.now HasOneSide }
 {
     let _ = capacity;
     let _ = events;
@@ -24,7 +20,8 @@ pub fn one_side_is_empty<T>(capacity: Option<usize>, events: &[Event<T>])
 /// After every list of events the line's length and the number of the kept demands are together the
 /// number of the kept messages and of the demands that wait.
 pub fn lengths_agree<T>(capacity: Option<usize>, events: &[Event<T>])
-    ensures law { (a : Account T) → Leads (opening capacity) events.now a → length a.line.line + length (demands (told_history events.now a)) ≡ length (kept (told_history events.now a)) + length a.line.demands }
+    ensures law { EachAccount capacity events.now
+        (λ a. IsBalanced (told_history events.now a) a.line) }
 {
     let _ = capacity;
     let _ = events;
@@ -33,9 +30,10 @@ pub fn lengths_agree<T>(capacity: Option<usize>, events: &[Event<T>])
 /// The entries without a ticket, which are the buffer, are never more than the capacity, and a sender
 /// waits only while it is full.
 pub fn buffer_is_bounded<T>(capacity: Option<usize>, events: &[Event<T>])
-    ensures bound { (a : Account T) → Leads (opening capacity) events.now a → IsWithin (length (without_ticket a.line.line)) a.line.capacity }
-    ensures full { (a : Account T) → Leads (opening capacity) events.now a → tickets a.line.line ≢ [] → is_at (buffered a.line) a.line.capacity ≡ true }
-    ensures same { (a : Account T) → Leads (opening capacity) events.now a → a.line.capacity ≡ capacity }
+    ensures bound { EachLine capacity events.now
+        (λ l. IsWithin (length (without_ticket l.line)) l.capacity) }
+    ensures full { EachLine capacity events.now WaitsWhenFull }
+    ensures same { EachLine capacity events.now (λ l. l.capacity ≡ capacity) }
 {
     let _ = capacity;
     let _ = events;
@@ -45,10 +43,10 @@ pub fn buffer_is_bounded<T>(capacity: Option<usize>, events: &[Event<T>])
 /// tickets of the line and those of the demands rise, and all were given; and the settlements of each
 /// step stand in the order of their tickets.
 pub fn tickets_follow_places<T>(capacity: Option<usize>, events: &[Event<T>])
-    ensures places { (a : Account T) → Leads (opening capacity) events.now a → WaitByPlace a.line.capacity 0 a.line.line }
-    ensures line { (a : Account T) → Leads (opening capacity) events.now a → AreRising 0 (tickets a.line.line) a.line.next }
-    ensures demands { (a : Account T) → Leads (opening capacity) events.now a → AreRising 0 a.line.demands a.line.next }
-    ensures settled { (a : Account T) → Leads (opening capacity) events.now a → (step : ℕ) → AreRising 0 (settled_at step a.settled) a.line.next }
+    ensures places { EachLine capacity events.now (λ l. WaitByPlace l.capacity 0 l.line) }
+    ensures line { EachLine capacity events.now (λ l. AreRising 0 (tickets l.line) l.next) }
+    ensures demands { EachLine capacity events.now (λ l. AreRising 0 l.demands l.next) }
+    ensures settled { EachAccount capacity events.now (λ a. EachStepRises a.settled a.line.next) }
 {
     let _ = capacity;
     let _ = events;
@@ -57,7 +55,7 @@ pub fn tickets_follow_places<T>(capacity: Option<usize>, events: &[Event<T>])
 /// A `TrySend` through a live handle, with a receiver left, enters exactly if a demand waits or the
 /// line is shorter than the capacity, unless it is refused for memory.
 pub fn try_send_enters<T>(capacity: Option<usize>, events: &[Event<T>])
-    ensures law { (a : Account T) → Leads (opening capacity) events.now a → (m : T) (told : Told T) → Answers a.handles a.line (Event.TrySend m) told → has_side a.handles Tx ≡ true → a.line.receivers ≢ 0 → told.reply ≢ Reply.Refused Refusal.NoMemory (Some m) → told.reply ≡ Reply.Yes ↔ (has_place a.line ≡ true) }
+    ensures law { EachAccount capacity events.now (λ a. EntersByPlace a.handles a.line) }
 {
     let _ = capacity;
     let _ = events;
@@ -65,7 +63,7 @@ pub fn try_send_enters<T>(capacity: Option<usize>, events: &[Event<T>])
 
 /// A ticket's settlements and withdrawals, counted together, are at most one.
 pub fn ticket_ends_once<T>(capacity: Option<usize>, events: &[Event<T>])
-    ensures law { (a : Account T) → Leads (opening capacity) events.now a → (t : ℕ) → settled_times t a.settled + withdrawn_times t events.now a.replies ≤ 1 }
+    ensures law { EachAccount capacity events.now (λ a. EndsOnce events.now a.replies a.settled) }
 {
     let _ = capacity;
     let _ = events;
@@ -74,7 +72,7 @@ pub fn ticket_ends_once<T>(capacity: Option<usize>, events: &[Event<T>])
 /// Once a `Recv` or a `TryRecv` was told that the channel is closed, or that no sender is left, each
 /// later one is told one of these, or that its side has no live handle.
 pub fn end_is_final<T>(capacity: Option<usize>, events: &[Event<T>])
-    ensures law { (a : Account T) → Leads (opening capacity) events.now a → StaysOver events.now a.replies }
+    ensures law { EachAccount capacity events.now (λ a. StaysOver events.now a.replies) }
 {
     let _ = capacity;
     let _ = events;
@@ -82,9 +80,9 @@ pub fn end_is_final<T>(capacity: Option<usize>, events: &[Event<T>])
 
 /// A count that reached 0 never rises, and a refused close changes nothing.
 pub fn zero_is_final<T>(capacity: Option<usize>, events: &[Event<T>])
-    ensures senders { (a b : Account T) → Leads (opening capacity) events.now a → (later : List (Event T)) → Leads a later b → a.line.senders ≡ 0 → b.line.senders ≡ 0 }
-    ensures receivers { (a b : Account T) → Leads (opening capacity) events.now a → (later : List (Event T)) → Leads a later b → a.line.receivers ≡ 0 → b.line.receivers ≡ 0 }
-    ensures refused { (a : Account T) → Leads (opening capacity) events.now a → (told : Told T) → Answers a.handles a.line Event.Close told → told.reply ≡ Reply.Refused Refusal.CloseError None → (told.line ≡ a.line) × (told.settled ≡ []) × (told.cleared ≡ []) }
+    ensures senders { StaysZero capacity events.now (λ l. l.senders) }
+    ensures receivers { StaysZero capacity events.now (λ l. l.receivers) }
+    ensures refused { EachAccount capacity events.now (λ a. KeepsWhereRefused a.handles a.line) }
 {
     let _ = capacity;
     let _ = events;

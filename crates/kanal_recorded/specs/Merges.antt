@@ -7,7 +7,7 @@ use Rattle.kanal_journal.specs.declared.journal.recorder.Entry.{Entry}
 use Rattle.kanal_recorded.specs.declared.pass.Note.{Note}
 use Rattle.kanal_journal.specs.declared.journal.recorder.Journal.{Journal}
 use Rattle.kanal_journal.specs.Runs.{Account, Leads, opening}
-use Rattle.kanal_journal.specs.Paired.{History}
+use Rattle.kanal_journal.specs.Paired.{History, history_from}
 use Rattle.kanal_journal.specs.Laws.{told_history}
 use Rattle.kanal_journal.specs.Replays.{Replays, events_of, replies_of}
 use Rattle.kanal_recorded.specs.Passes.{Calls}
@@ -62,7 +62,7 @@ module _ {T : Type 0} where
 
   -- the history that a journal tells
   abbrev pub journal_history : Journal T → History T
-  journal_history j = record { events = events_of j.entries.items; replies = replies_of j.entries.items; settled = j.settled.items; drained = j.drained.items }
+  journal_history j = history_from (events_of j.entries.items) (replies_of j.entries.items) j.settled.items j.drained.items
 
   -- the journal's events lead from a new channel of this capacity to an account that tells the journal's history: the laws hold of it
   pub record IsLedTo (given : Option ℕ) (journal : Journal T) : Type 0 where

@@ -3,7 +3,7 @@
 //! Stands on the core's contracts. Each event is a function of its own, which makes one call on the
 //! core (a send or a receive that waits: two) and says in the line's terms what that told. What left
 //! the core comes back with the reply; nothing is settled or kept here.
-ghost use Rattle.std.specs.Prelude.{◌≡◌, ℕ, ◌+◌, ◌<◌, ◌≤◌, ◌==◌, ◌&&◌, [], length, true, false, Some, None, vec_len, vec_capacity};
+ghost use Rattle.std.specs.Prelude.{◌≡◌, ◌+◌, ◌<◌, ◌≤◌, ◌==◌, ◌&&◌, [], length, true, Some, None, vec_len, vec_capacity};
 ghost use Rattle.kanal_core.specs.Channel.{line_of};
 ghost use Rattle.kanal_core.specs.Line.{buffered};
 ghost use Rattle.kanal_core.specs.Calls.{IsFull, IsEmpty};
@@ -41,7 +41,8 @@ fn only<T: Drop>(reply: Reply<T>) -> Made<T>
 
 /// Offers the message.
 fn try_send<T: Drop>(core: &mut Core<T>, message: T) -> Made<T>
-    ensures told { Tells (line_of core.old) (Event.TrySend message) (told_of (line_of core.new) [] result) }
+    ensures told { Tells (line_of core.old) (Event.TrySend message)
+        (told_of (line_of core.new) [] result) }
     ensures tickets { core.new.next ≡ core.old.next }
 {
     match core.offer(message) {
@@ -85,7 +86,8 @@ fn start_send<T: Drop>(core: &mut Core<T>, tickets: &mut Vec<Ticket>, message: T
     requires full { IsFull (line_of core.old) }
     requires room { vec_len tickets.old < vec_capacity tickets.old }
     requires numbered { AreNumbered 0 tickets.old.items core.old.next }
-    ensures told { Tells (line_of core.old) (Event.Send message) (told_of (line_of core.new) [] result) }
+    ensures told { Tells (line_of core.old) (Event.Send message)
+        (told_of (line_of core.new) [] result) }
     ensures numbered { AreNumbered 0 tickets.new.items core.new.next }
     ensures room { vec_capacity tickets.new ≡ vec_capacity tickets.old }
     ensures one { vec_len tickets.new ≤ vec_len tickets.old + 1 }
@@ -104,7 +106,8 @@ fn start_send<T: Drop>(core: &mut Core<T>, tickets: &mut Vec<Ticket>, message: T
 fn send<T: Drop>(core: &mut Core<T>, tickets: &mut Vec<Ticket>, message: T) -> Made<T>
     requires room { vec_len tickets.old < vec_capacity tickets.old }
     requires numbered { AreNumbered 0 tickets.old.items core.old.next }
-    ensures told { Tells (line_of core.old) (Event.Send message) (told_of (line_of core.new) [] result) }
+    ensures told { Tells (line_of core.old) (Event.Send message)
+        (told_of (line_of core.new) [] result) }
     ensures numbered { AreNumbered 0 tickets.new.items core.new.next }
     ensures room { vec_capacity tickets.new ≡ vec_capacity tickets.old }
     ensures one { vec_len tickets.new ≤ vec_len tickets.old + 1 }
@@ -159,7 +162,8 @@ fn recv<T: Drop>(core: &mut Core<T>, tickets: &mut Vec<Ticket>) -> Made<T>
 /// Takes back the wait with this ticket, if it waits.
 fn withdraw<T: Drop>(core: &mut Core<T>, tickets: &[Ticket], number: u64) -> Made<T>
     requires { AreNumbered 0 tickets.now core.old.next }
-    ensures told { Tells (line_of core.old) (Event.Withdraw number) (told_of (line_of core.new) [] result) }
+    ensures told { Tells (line_of core.old) (Event.Withdraw number)
+        (told_of (line_of core.new) [] result) }
     ensures tickets { core.new.next ≡ core.old.next }
 {
     let Some(ticket) = tickets.get(number as usize) else {
@@ -186,7 +190,8 @@ fn close<T: Drop>(core: &mut Core<T>) -> Made<T>
 /// Takes all messages at once, and puts them at the vector's end, which has room for them.
 fn drain<T: Drop>(core: &mut Core<T>, drained: &mut Vec<T>) -> Made<T>
     requires { vec_len drained.old + length (line_of core.old).line ≤ vec_capacity drained.old }
-    ensures made { IsMade (line_of core.old) Event.Drain (line_of core.new) drained.old.items drained.new.items result }
+    ensures made { IsMade (line_of core.old) Event.Drain (line_of core.new) drained.old.items
+        drained.new.items result }
     ensures tickets { core.new.next ≡ core.old.next }
     ensures room { vec_capacity drained.new ≡ vec_capacity drained.old }
 {
@@ -273,7 +278,8 @@ fn ask<T: Drop>(core: &Core<T>, side: Side, question: Ask) -> Reply<T>
 
 /// Asks whether no sender is left and no message is in the buffer.
 fn terminated<T: Drop>(core: &Core<T>) -> Reply<T>
-    ensures { result ≡ Reply.Flag (((line_of core.now).senders == 0) && (buffered (line_of core.now) == 0)) }
+    ensures { result ≡ Reply.Flag
+        (((line_of core.now).senders == 0) && (buffered (line_of core.now) == 0)) }
 {
     Reply::Flag(core.is_terminated())
 }
@@ -290,11 +296,14 @@ fn make<T: Drop>(
     requires few { AreFew handles.old }
     requires room { vec_len tickets.old < vec_capacity tickets.old }
     requires numbered { AreNumbered 0 tickets.old.items core.old.next }
-    requires drains { vec_len drained.old + length (line_of core.old).line ≤ vec_capacity drained.old }
-    ensures made { IsMade (line_of core.old) event (line_of core.new) drained.old.items drained.new.items result }
+    requires drains { vec_len drained.old + length (line_of core.old).line
+        ≤ vec_capacity drained.old }
+    ensures made { IsMade (line_of core.old) event (line_of core.new) drained.old.items
+        drained.new.items result }
     ensures handles { handles.new ≡ handles_after handles.old event (reply_of result) }
     ensures numbered { AreNumbered 0 tickets.new.items core.new.next }
-    ensures room { (vec_capacity tickets.new ≡ vec_capacity tickets.old) × (vec_capacity drained.new ≡ vec_capacity drained.old) }
+    ensures room { (vec_capacity tickets.new ≡ vec_capacity tickets.old)
+        × (vec_capacity drained.new ≡ vec_capacity drained.old) }
     ensures one { vec_len tickets.new ≤ vec_len tickets.old + 1 }
 {
     match event {
@@ -343,11 +352,14 @@ pub(crate) fn answer<T: Drop>(
     requires few { AreFew handles.old }
     requires room { vec_len tickets.old < vec_capacity tickets.old }
     requires numbered { AreNumbered 0 tickets.old.items core.old.next }
-    requires drains { vec_len drained.old + length (line_of core.old).line ≤ vec_capacity drained.old }
-    ensures answered { IsAnswered handles.old (line_of core.old) event (line_of core.new) drained.old.items drained.new.items result }
+    requires drains { vec_len drained.old + length (line_of core.old).line
+        ≤ vec_capacity drained.old }
+    ensures answered { IsAnswered handles.old (line_of core.old) event (line_of core.new)
+        drained.old.items drained.new.items result }
     ensures handles { handles.new ≡ handles_after handles.old event (reply_of result) }
     ensures numbered { AreNumbered 0 tickets.new.items core.new.next }
-    ensures room { (vec_capacity tickets.new ≡ vec_capacity tickets.old) × (vec_capacity drained.new ≡ vec_capacity drained.old) }
+    ensures room { (vec_capacity tickets.new ≡ vec_capacity tickets.old)
+        × (vec_capacity drained.new ≡ vec_capacity drained.old) }
     ensures one { vec_len tickets.new ≤ vec_len tickets.old + 1 }
 {
     if handles.serve(&event) {

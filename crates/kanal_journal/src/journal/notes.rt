@@ -5,7 +5,7 @@
 ghost use Rattle.std.specs.Prelude.{◌≡◌, ◌+◌, ◌<◌, ◌≤◌, [], ◌∷◌, ◌++◌, length, map, vec_len, vec_capacity};
 ghost use Rattle.kanal_core.specs.Channel.{settlement};
 ghost use Rattle.kanal_journal.specs.Runs.{numbered};
-ghost use Rattle.kanal_journal.specs.Made.{reply_of, settled_by, cleared_of};
+ghost use Rattle.kanal_journal.specs.Made.{reply_of, settled_of, cleared_of};
 
 use super::calls::Made;
 use super::event::{Reply, Settlement};
@@ -68,12 +68,16 @@ pub(crate) fn note<T: Drop>(
     settlements: &mut Vec<Settlement<T>>,
     clearings: &mut Vec<T>,
 ) -> Reply<T>
-    requires settled { vec_len settlements.old + length (settled_by made) ≤ vec_capacity settlements.old }
-    requires cleared { vec_len clearings.old + length (cleared_of made) ≤ vec_capacity clearings.old }
+    requires settled { vec_len settlements.old + length (settled_of made)
+        ≤ vec_capacity settlements.old }
+    requires cleared { vec_len clearings.old + length (cleared_of made)
+        ≤ vec_capacity clearings.old }
     ensures reply { result ≡ reply_of made }
-    ensures settled { settlements.new.items ≡ settlements.old.items ++ numbered step (settled_by made) }
+    ensures settled { settlements.new.items
+        ≡ settlements.old.items ++ numbered step (settled_of made) }
     ensures cleared { clearings.new.items ≡ clearings.old.items ++ cleared_of made }
-    ensures room { (vec_capacity settlements.new ≡ vec_capacity settlements.old) × (vec_capacity clearings.new ≡ vec_capacity clearings.old) }
+    ensures room { (vec_capacity settlements.new ≡ vec_capacity settlements.old)
+        × (vec_capacity clearings.new ≡ vec_capacity clearings.old) }
 {
     match made {
         Made::One(reply, settled) => {

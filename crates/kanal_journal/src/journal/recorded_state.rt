@@ -3,7 +3,7 @@
 //! Stands on the recorder, which makes the calls. That the journal explains what is there is a fact
 //! of the type, so it holds each time that the state is got, from under a lock too.
 ghost use Rattle.std.specs.Prelude.{◌≡◌, ◌↔◌, ℕ, IfOk, IsErrOf, Some, length};
-ghost use Rattle.kanal_core.specs.Line.{messages};
+ghost use Rattle.kanal_core.specs.Line.{last_word, messages};
 ghost use Rattle.kanal_journal.specs.Paired.{Paired, until, rest};
 ghost use Rattle.kanal_journal.specs.Replays.{Records, Replays, opened, outcome_of, history_of, events_of};
 ghost use Rattle.kanal_journal.specs.Runs.{Leads, opening};
@@ -54,7 +54,7 @@ impl<T: Copy> RecordedState<T> {
     /// ```
     pub fn new(alloc: Global, capacity: Option<usize>) -> Result<Self, NewError>
         ensures opened { IfOk result (λ s. s ≡ opened capacity) }
-        ensures large { IsErrOf result NewError.TooLarge ↔ (capacity ≡ Some 18446744073709551615) }
+        ensures large { IsErrOf result NewError.TooLarge ↔ (capacity ≡ Some last_word) }
     {
         let recorder = Recorder::new(alloc, capacity)?;
         Ok(RecordedState { recorder, capacity })
@@ -91,7 +91,8 @@ impl<T: Copy> RecordedState<T> {
     /// the messages that went to none.
     pub fn replays(&self)
         ensures replays { Replays self.now.capacity self.now.entries self.now.account }
-        ensures leads { Leads (opening self.now.capacity) (events_of self.now.entries) self.now.account }
+        ensures leads { Leads (opening self.now.capacity) (events_of self.now.entries)
+            self.now.account }
         ensures paired { (n : ℕ) → Paired (until n (history_of self.now)) }
         ensures left { messages self.now.account.line.line ≡ rest (history_of self.now) }
     {
@@ -157,8 +158,11 @@ impl<T: Copy> RecordedState<T> {
     /// state.into_journal()   is  Journal { capacity, entries, settled, drained, cleared }
     /// ```
     pub fn into_journal(self) -> Journal<T>
-        ensures journal { (result.capacity ≡ self.capacity) × (result.entries.items ≡ self.entries) }
-        ensures told { (result.settled.items ≡ self.account.settled) × (result.drained.items ≡ self.account.drained) × (result.cleared.items ≡ self.account.cleared) }
+        ensures journal { (result.capacity ≡ self.capacity)
+            × (result.entries.items ≡ self.entries) }
+        ensures told { (result.settled.items ≡ self.account.settled)
+            × (result.drained.items ≡ self.account.drained)
+            × (result.cleared.items ≡ self.account.cleared) }
         ensures replays { Replays self.capacity self.entries self.account }
         ensures leads { Leads (opening self.capacity) (events_of self.entries) self.account }
         ensures paired { (n : ℕ) → Paired (until n (history_of self)) }

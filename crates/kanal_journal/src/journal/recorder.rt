@@ -4,6 +4,7 @@
 //! a step may add is made before the step. That the journal replays to what is there is a fact which each step
 //! is given and gives back; `RecordedState` keeps it, and nothing else has a recorder.
 ghost use Rattle.std.specs.Prelude.{◌≡◌, ◌↔◌, ◌+◌, ◌<◌, [], ◌∷◌, ◌++◌, IfOk, IsErrOf, Some, vec_len, vec_capacity};
+ghost use Rattle.kanal_core.specs.Line.{last_word};
 ghost use Rattle.kanal_journal.specs.Replays.{Records, opened, outcome_of, is_no_memory as tells_no_memory};
 ghost use Rattle.kanal_journal.specs.Running.{IsSame, HasRoom};
 ghost use Rattle.kanal_journal.specs.Recorders.{IsSound, recording_of};
@@ -57,7 +58,8 @@ impl<T: Copy> Reply<T> {
 /// Puts the call at the journal's end, which has room for it.
 fn enter<T: Copy>(entries: &mut Vec<Entry<T>>, party: u32, event: Event<T>, reply: Reply<T>)
     requires { vec_len entries.old < vec_capacity entries.old }
-    ensures { entries.new.items ≡ entries.old.items ++ record { party = party; event = event; reply = reply } ∷ [] }
+    ensures { entries.new.items ≡ entries.old.items
+        ++ record { party = party; event = event; reply = reply } ∷ [] }
 {
     let entry = Entry {
         party,
@@ -79,7 +81,7 @@ impl<T: Copy> Recorder<T> {
     pub(crate) fn new(alloc: Global, capacity: Option<usize>) -> Result<Self, NewError>
         ensures opened { IfOk result (λ r. recording_of r ≡ opened capacity) }
         ensures sound { IfOk result (λ r. IsSound r) }
-        ensures large { IsErrOf result NewError.TooLarge ↔ (capacity ≡ Some 18446744073709551615) }
+        ensures large { IsErrOf result NewError.TooLarge ↔ (capacity ≡ Some last_word) }
     {
         let running = Running::new(alloc, capacity)?;
         Ok(Recorder {
@@ -110,7 +112,8 @@ impl<T: Copy> Recorder<T> {
     /// The journal, with all that was told along it, moved out.
     pub(crate) fn into_journal(self, capacity: Option<usize>) -> Journal<T>
         ensures entries { (result.capacity ≡ capacity) × (result.entries ≡ self.entries) }
-        ensures told { (result.settled ≡ self.running.settled) × (result.drained ≡ self.running.drained) × (result.cleared ≡ self.running.cleared) }
+        ensures told { (result.settled ≡ self.running.settled)
+            × (result.drained ≡ self.running.drained) × (result.cleared ≡ self.running.cleared) }
     {
         let Recorder { running, entries } = self;
         Journal {
@@ -128,7 +131,8 @@ impl<T: Copy> Recorder<T> {
         ensures same { IsSame self.old.running self.new.running }
         ensures entries { self.new.entries.items ≡ self.old.entries.items }
         ensures room { IfOk result (λ _. HasRoom (vec_len self.new.entries + 1) self.new.running) }
-        ensures entry { IfOk result (λ _. vec_len self.new.entries < vec_capacity self.new.entries) }
+        ensures entry { IfOk result (λ _. vec_len self.new.entries
+            < vec_capacity self.new.entries) }
     {
         let total = self.entries.len() + 1;
         make_room(&mut self.entries, total)?;
@@ -140,7 +144,8 @@ impl<T: Copy> Recorder<T> {
     pub(crate) fn step(&mut self, party: u32, event: Event<T>) -> Reply<T>
         requires { IsSound self.old }
         ensures sound { IsSound self.new }
-        ensures records { Records (recording_of self.old) party event result (recording_of self.new) }
+        ensures records { Records (recording_of self.old) party event result
+            (recording_of self.new) }
     {
         if self.reserve().is_err() {
             return event.refused(Refusal::NoMemory);

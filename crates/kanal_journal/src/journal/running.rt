@@ -3,8 +3,9 @@
 //! Stands on the making of one event and on the noting of what that told. `run` and the recorder
 //! keep the replies, each in its own list, and make every event through `Running::answer`: no other
 //! module makes an event, notes what it told or writes to a field here.
-ghost use Rattle.std.specs.Prelude.{◌≡◌, ◌↔◌, ℕ, ◌+◌, ◌≤◌, [], length, IfOk, IsErrOf, Some, vec_len, vec_capacity};
+ghost use Rattle.std.specs.Prelude.{◌≡◌, ◌↔◌, ◌+◌, ◌≤◌, IfOk, IsErrOf, Some, vec_capacity};
 ghost use Rattle.kanal_core.specs.Channel.{opening};
+ghost use Rattle.kanal_core.specs.Line.{last_word};
 ghost use Rattle.kanal_journal.specs.Running.{IsNoted, IsOpened, IsWithinEvents, HasRoom, HasSameRoom, IsSame};
 
 use super::calls::Core;
@@ -30,7 +31,7 @@ pub(super) struct Running<T> {
 /// A new core of this capacity, or without limit.
 fn channel<T: Drop>(alloc: Global, capacity: Option<usize>) -> Result<Core<T>, NewError>
     ensures new { IfOk result (λ c. c ≡ opening capacity) }
-    ensures large { IsErrOf result NewError.TooLarge ↔ (capacity ≡ Some 18446744073709551615) }
+    ensures large { IsErrOf result NewError.TooLarge ↔ (capacity ≡ Some last_word) }
 {
     match capacity {
         None => Ok(ChannelInternal::unbounded(alloc)),
@@ -50,7 +51,7 @@ impl<T: Drop> Running<T> {
     /// A new channel of this capacity, or without limit, on which no event was made.
     pub(super) fn new(alloc: Global, capacity: Option<usize>) -> Result<Self, NewError>
         ensures opened { IfOk result (λ r. IsOpened capacity r) }
-        ensures large { IsErrOf result NewError.TooLarge ↔ (capacity ≡ Some 18446744073709551615) }
+        ensures large { IsErrOf result NewError.TooLarge ↔ (capacity ≡ Some last_word) }
     {
         Ok(Running {
             core: channel(alloc, capacity)?,

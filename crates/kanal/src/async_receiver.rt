@@ -2,8 +2,9 @@
 //!
 //! Stands on the shared channel; nothing is done here but handing on and counting. It alone has a
 //! receiver's drop; the receiver for threads and the view are made over it.
-ghost use Rattle.std.specs.Prelude.{◌≡◌, ◌++◌, List, length, Some, IfOk, IfErr, OnErr, false, codes};
+ghost use Rattle.std.specs.Prelude.{◌≡◌, Some, IfOk, IfErr, OnErr, false, codes};
 ghost use Rattle.std.specs.Vec.{vec_capacity};
+ghost use Rattle.kanal_shared.specs.Drains.{GoesOnBy};
 ghost use Rattle.kanal_shared.specs.Futures.{receive_is_over, stream_is_over};
 
 use crate::receiver::Receiver;
@@ -113,7 +114,7 @@ impl<T: Drop> AsyncReceiver<T> {
     /// receiver.drain_into(&rt, &mut messages)   answers  Ok(2)   where two messages were there
     /// ```
     pub fn drain_into<R: Wait>(&self, rt: &R, into: &mut Vec<T>) -> Result<usize, ReceiveError>
-        ensures drained { IfOk result (λ n. (more : List T) × (into.new.items ≡ into.old.items ++ more) × (length more ≡ n)) }
+        ensures drained { IfOk result (λ n. GoesOnBy n into.old.items into.new.items) }
         ensures refused { IfErr result (λ _. into.new.items ≡ into.old.items) }
         ensures no_growth { OnErr result (vec_capacity into.new ≡ vec_capacity into.old) }
     {

@@ -2,6 +2,7 @@
 //!
 //! Stands on the core and on the handles for tasks; those for threads are made of them.
 ghost use Rattle.std.specs.Prelude.{◌≡◌, ◌↔◌, IsErrOf};
+ghost use Rattle.kanal_core.specs.Line.{last_word};
 
 use crate::async_receiver::AsyncReceiver;
 use crate::async_sender::AsyncSender;
@@ -46,7 +47,7 @@ fn handles<T: Drop>(
 /// receiver.recv(&rt)    answers  Ok(7)
 /// ```
 pub fn bounded<T: Drop>(alloc: Global, size: usize) -> Result<(Sender<T>, Receiver<T>), NewError>
-    ensures large { IsErrOf result NewError.TooLarge ↔ (size ≡ 18446744073709551615) }
+    ensures large { IsErrOf result NewError.TooLarge ↔ (size ≡ last_word) }
 {
     let (sender, receiver) = bounded_async(alloc, size)?;
     Ok((sender.to_sync(), receiver.to_sync()))
@@ -85,7 +86,7 @@ pub fn bounded_async<T: Drop>(
     alloc: Global,
     size: usize,
 ) -> Result<(AsyncSender<T>, AsyncReceiver<T>), NewError>
-    ensures large { IsErrOf result NewError.TooLarge ↔ (size ≡ 18446744073709551615) }
+    ensures large { IsErrOf result NewError.TooLarge ↔ (size ≡ last_word) }
 {
     handles(alloc, ChannelInternal::new(alloc, size)?)
 }

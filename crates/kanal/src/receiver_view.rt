@@ -2,8 +2,9 @@
 //!
 //! Stands on the receiver for tasks; nothing is done here but handing on. A view is not counted: it
 //! has no clone, no conversion and no drop of its own.
-ghost use Rattle.std.specs.Prelude.{◌≡◌, ◌++◌, List, length, IfOk, IfErr, OnErr};
+ghost use Rattle.std.specs.Prelude.{◌≡◌, IfOk, IfErr, OnErr};
 ghost use Rattle.std.specs.Vec.{vec_capacity};
+ghost use Rattle.kanal_shared.specs.Drains.{GoesOnBy};
 
 use crate::async_receiver::AsyncReceiver;
 use crate::messages::Messages;
@@ -108,7 +109,7 @@ impl<T: Drop> ReceiverView<'_, T> {
     /// view.drain_into(&rt, &mut messages)   answers  Ok(2)   where two messages were there
     /// ```
     pub fn drain_into<R: Wait>(&self, rt: &R, into: &mut Vec<T>) -> Result<usize, ReceiveError>
-        ensures drained { IfOk result (λ n. (more : List T) × (into.new.items ≡ into.old.items ++ more) × (length more ≡ n)) }
+        ensures drained { IfOk result (λ n. GoesOnBy n into.old.items into.new.items) }
         ensures refused { IfErr result (λ _. into.new.items ≡ into.old.items) }
         ensures no_growth { OnErr result (vec_capacity into.new ≡ vec_capacity into.old) }
     {

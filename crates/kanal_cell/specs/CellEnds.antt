@@ -1,9 +1,18 @@
 -- What a caller sees of an end.
-use Rattle.std.specs.Prelude.{◌≡◌, Option}
+use Rattle.std.specs.Prelude.{◌≡◌, true, false, Option}
 use Rattle.futures.specs.declared.task.waker.Waker.{Waker}
+use Rattle.kanal_cell.specs.declared.signal.rule.Bits.{Bits}
 use Rattle.kanal_cell.specs.declared.signal.rule.View.{View}
 use Rattle.kanal_cell.specs.declared.signal.WaitEnd.{WaitEnd}
 use Rattle.kanal_cell.specs.declared.signal.SettleEnd.{SettleEnd}
+
+-- the end goes on as this step does where it finds what it found
+abbrev pub GoesOn : (View → Bits → View) → View → View → Type 0
+GoesOn after old new = new ≡ after old new.found
+
+-- the step found the outcome there, which the waiter had not taken before
+abbrev pub FindsOutcome : View → View → Type 0
+FindsOutcome old new = (new.found.ended ≡ true) × (old.had ≡ false)
 
 module _ {P : Type 0} where
   -- what the waiter knows of its own steps

@@ -19,7 +19,8 @@ pub(crate) fn put_outcome<P: Drop>(cell: &Slots<P>, seat: &mut Place<P>, outcome
     requires table { seat.old.table_id ≡ cell.now.table_id }
     requires empty { seat.old.me.1 ≡ (0, None) ∷ rest seat.old.me.1 }
     ensures table { (seat.new.table_id ≡ seat.old.table_id) × (seat.new.id ≡ seat.old.id) }
-    ensures put { seat.new.me ≡ (seat.old.me.0, (0, Some (Held.Outcome outcome)) ∷ rest seat.old.me.1) }
+    ensures put { seat.new.me
+        ≡ (seat.old.me.0, (0, Some (Held.Outcome outcome)) ∷ rest seat.old.me.1) }
 {
     let None = cell.exchange(seat, 0, Some(Held::Outcome(outcome))) else {
         unreachable!()
@@ -45,7 +46,8 @@ pub(crate) fn put_sleeper<P: Drop>(cell: &Slots<P>, seat: &mut Place<P>, sleeper
     requires table { seat.old.table_id ≡ cell.now.table_id }
     requires empty { seat.old.me.1 ≡ (1, None) ∷ rest seat.old.me.1 }
     ensures table { (seat.new.table_id ≡ seat.old.table_id) × (seat.new.id ≡ seat.old.id) }
-    ensures put { seat.new.me ≡ (seat.old.me.0, (1, Some (Held.Sleeper sleeper)) ∷ rest seat.old.me.1) }
+    ensures put { seat.new.me
+        ≡ (seat.old.me.0, (1, Some (Held.Sleeper sleeper)) ∷ rest seat.old.me.1) }
 {
     let None = cell.exchange(seat, 1, Some(Held::Sleeper(sleeper))) else {
         unreachable!()

@@ -7,7 +7,7 @@ use Rattle.kanal_core.specs.declared.internal.outcome.Outcome.TheVariants.{Taken
 use Rattle.kanal_core.specs.declared.internal.outcome.Waiter.{Waiter}
 use Rattle.kanal_core.specs.Line.{Entry, bare, messages, tickets, IsWithin}
 use Rattle.kanal_core.specs.Moves.{drain, taken}
-use Rattle.kanal_core.specs.Channel.{drained, line_of, settlement, taken_by}
+use Rattle.kanal_core.specs.Channel.{after_drain, line_of, settlement, taken_by}
 use Rattle.kanal_core.specs.Waiters.{brought, sender_first}
 use Rattle.kanal_core.specs.Calls.{MovesTo}
 use Rattle.kanal_core.specs.Sided.{AllSend, IsOneSided, Rises}
@@ -47,7 +47,7 @@ module _ {T W : Type 0} where
   rises-drained ws n r = elim (cases_Bool (sender_first ws)) [ inl e ↦ rw e (omega arith) | inr e ↦ rw e r ]
 
 module _ {T W : Type 0} (c : Option ℕ) (s r n : ℕ) (ms : List T) (ws : List (Waiter T W)) (side : IsOneSided ms c ws) (within : IsWithin (length ms) c) where
-  pub drains : MovesTo (drain (line_of (row c s r n ms ws))) (map settlement (cond (sender_first ws) (map taken_by ws) [])) (line_of (drained (row c s r n ms ws)))
+  pub drains : MovesTo (drain (line_of (row c s r n ms ws))) (map settlement (cond (sender_first ws) (map taken_by ws) [])) (line_of (after_drain (row c s r n ms ws)))
   drains =
       elim (cases_Bool (sender_first ws)) [
         | inl e ↦ let send = sender-side ms c ws side within e in rw (e, tickets-behind ms (entries ws), takes-send ws send.0, send-demands ws send.0) refl

@@ -1,5 +1,5 @@
 -- What each call on a core does to its line, and who leaves the list of waiters.
-use Rattle.std.specs.Prelude.{◌≡◌, ◌≢◌, ℕ, true, false, List, [], ◌∷◌, Option, Some, None}
+use Rattle.std.specs.Prelude.{◌≡◌, ◌≢◌, ℕ, true, false, List, [], ◌∷◌, ◌++◌, Option, Some, None, MatchOption}
 use Rattle.kanal_core.specs.declared.internal.outcome.Outcome.{Outcome}
 use Rattle.kanal_core.specs.declared.internal.outcome.Settled.{Settled}
 use Rattle.kanal_core.specs.declared.internal.outcome.Ticket.{Ticket}
@@ -11,6 +11,11 @@ use Rattle.kanal_core.specs.declared.internal.outcome.Take.TheVariants.{Got, Clo
 use Rattle.kanal_core.specs.Line.{Entry, Line, has_place, has, found}
 use Rattle.kanal_core.specs.Moves.{Moved, enter, leave, without_entry, without_demand}
 use Rattle.kanal_core.specs.Channel.{Channel, settlement, settlements}
+use Rattle.kanal_core.specs.Tickets.{number_of}
+
+-- the first of the list was taken out, or nothing where the list is empty
+abbrev pub TakesFirst : {A : Type 0} → Option A → List A → List A → Type 0
+TakesFirst taken old new = MatchOption taken ((old ≡ []) × (new ≡ [])) (λ a. old ≡ a ∷ new)
 
 -- the line moved, and settled these tickets
 abbrev pub MovesTo : {T : Type 0} → Moved T → List (ℕ × Outcome T) → Line T → Type 0
@@ -54,6 +59,11 @@ Withdraws old t (Some (Some m)) new = (found t.number old.line ≡ m ∷ []) × 
 Withdraws old t (Some None) new = (found t.number old.line ≡ []) × (has t.number old.demands ≡ true) × (new ≡ without_demand old t.number)
 
 module _ {T W : Type 0} where
+  -- behind those that wait stands one more, under a ticket with this number
+  abbrev pub WaitsLast : ℕ → Option T → W → Ticket → List (Waiter T W) → List (Waiter T W) → Type 0
+  WaitsLast number message w ticket old new =
+      (number_of ticket ≡ number) × (new ≡ old ++ record { ticket = ticket; message = message; w = w } ∷ [])
+
   -- a message was offered
   abbrev pub Offers : Line T → T → Offer T W → Line T → Type 0
   Offers old m Entered new = Enters old m [] new

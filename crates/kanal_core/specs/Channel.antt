@@ -74,8 +74,8 @@ module _ {T W : Type 0} where
   receiver_dropped c = record c { waiters = cond (c.receivers == 1) [] c.waiters; receivers = c.receivers - 1 }
 
   -- a channel after a drain: the buffer and the waiting senders leave, and waiting receivers stay
-  abbrev pub drained : Channel T W → Channel T W
-  drained c = record c { buffer = []; waiters = cond (sender_first c.waiters) [] c.waiters }
+  abbrev pub after_drain : Channel T W → Channel T W
+  after_drain c = record c { buffer = []; waiters = cond (sender_first c.waiters) [] c.waiters }
 
   -- a settled waiter, as the line tells it
   abbrev pub settlement : Settled T W → ℕ × Outcome T

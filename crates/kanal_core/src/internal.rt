@@ -9,16 +9,15 @@
 //! counts and the close are in `handles`, the drain is in `draining`, and what can be asked is in
 //! `questions`. Whoever shares a core puts it behind a lock, and settles or drops what a call hands
 //! out only after the release.
-ghost use Rattle.std.specs.Prelude.{◌≡◌, ◌≢◌, ◌⊎◌, ◌≤◌, ℕ, false, ◌↔◌, [], ◌∷◌, ◌++◌, true, length, map, IfOk, IfErr, IsErr, IsErrOf, IsOk, Some, None};
+ghost use Rattle.std.specs.Prelude.{◌≡◌, ◌≢◌, ◌⊎◌, ◌≤◌, ℕ, false, ◌↔◌, [], true, length, map, IfOk, IfErr, IsErr, IsErrOf, IsOk, Some, None};
 ghost use Rattle.std.specs.Borrow.{sem};
 ghost use Rattle.std.specs.Fn.{FnReturnsAt};
 ghost use Rattle.std.specs.Option.{option_copied_mut, option_map};
-ghost use Rattle.kanal_core.specs.Line.{IsWithin, bare, found, has, has_place, messages};
+ghost use Rattle.kanal_core.specs.Line.{IsWithin, bare, found, has, has_place, last_word, messages};
 ghost use Rattle.kanal_core.specs.Moves.{wait_send, wait_recv};
 ghost use Rattle.kanal_core.specs.Channel.{line_of, opening, starting};
-ghost use Rattle.kanal_core.specs.Tickets.{number_of};
 ghost use Rattle.kanal_core.specs.Waiters.{waiter_of, without, IsFirstWhere, receiver_first, sender_first};
-ghost use Rattle.kanal_core.specs.Calls.{Offers, HasEntered, LacksMemory, Takes, Withdraws, OldestLeft, IsFull, IsEmpty, handed, let_in};
+ghost use Rattle.kanal_core.specs.Calls.{WaitsLast, Offers, HasEntered, LacksMemory, Takes, Withdraws, OldestLeft, IsFull, IsEmpty, handed, let_in};
 ghost use Rattle.kanal_core.specs.Handing.{HandsOver, TakesSender, LetsIn, HasOnePlace};
 ghost use Rattle.kanal_core.specs.Sided.{Rises};
 
@@ -119,7 +118,7 @@ impl<T, W> ChannelInternal<T, W> {
     /// ```
     pub fn new(alloc: Global, capacity: usize) -> Result<Self, NewError>
         ensures new { IfOk result (λ c. c ≡ opening (Some capacity)) }
-        ensures large { IsErrOf result NewError.TooLarge ↔ (capacity ≡ 18446744073709551615) }
+        ensures large { IsErrOf result NewError.TooLarge ↔ (capacity ≡ last_word) }
         ensures without_places { capacity ≡ 0 → IsOk result }
     {
         if capacity == usize::MAX {
@@ -167,7 +166,7 @@ impl<T, W> ChannelInternal<T, W> {
         receivers: u32,
     ) -> Result<Self, NewError>
         ensures new { IfOk result (λ c. c ≡ starting capacity first_ticket senders receivers) }
-        ensures large { IsErrOf result NewError.TooLarge ↔ (capacity ≡ Some 18446744073709551615) }
+        ensures large { IsErrOf result NewError.TooLarge ↔ (capacity ≡ Some last_word) }
         ensures without_places { capacity ≡ Some 0 → IsOk result }
         ensures without_limit { capacity ≡ None → IsOk result }
     {
@@ -211,8 +210,10 @@ impl<T, W> ChannelInternal<T, W> {
     /// ```
     pub fn offer(&mut self, message: T) -> Offer<T, W>
         ensures step { Offers (line_of self.old) message result (line_of self.new) }
-        ensures entered { HasEntered result → (self.old.receivers ≢ 0) × (has_place (line_of self.old) ≡ true) }
-        ensures enters { self.old.receivers ≢ 0 → has_place (line_of self.old) ≡ true → HasEntered result ⊎ LacksMemory result }
+        ensures entered { HasEntered result → (self.old.receivers ≢ 0)
+            × (has_place (line_of self.old) ≡ true) }
+        ensures enters { self.old.receivers ≢ 0 → has_place (line_of self.old) ≡ true
+            → HasEntered result ⊎ LacksMemory result }
         ensures waiter { OldestLeft self.old.waiters (handed result) self.new.waiters }
         ensures ticket { self.new.next ≡ self.old.next }
     {
@@ -295,10 +296,13 @@ impl<T, W> ChannelInternal<T, W> {
     pub fn wait_send(&mut self, message: T, w: W) -> Result<Ticket, (WaitError, T, W)>
         requires full { IsFull (line_of self.old) }
         ensures step { IfOk result (λ _. line_of self.new ≡ wait_send (line_of self.old) message) }
-        ensures waits { IfOk result (λ ticket. (number_of ticket ≡ self.old.next) × (self.new.waiters ≡ self.old.waiters ++ record { ticket = ticket; message = Some message; w = w } ∷ [])) }
-        ensures refused { IfErr result (λ back. (back.1 ≡ message) × (back.2 ≡ w) × (self.new ≡ self.old)) }
-        ensures reason { IfErr result (λ back. back.0 ≡ WaitError.TooMany ↔ (self.old.next ≡ 18446744073709551615)) }
-        ensures last { self.old.next ≡ 18446744073709551615 → IsErr result }
+        ensures waits { IfOk result (λ ticket.
+            WaitsLast self.old.next (Some message) w ticket self.old.waiters self.new.waiters) }
+        ensures refused { IfErr result (λ back. (back.1 ≡ message) × (back.2 ≡ w)
+            × (self.new ≡ self.old)) }
+        ensures reason { IfErr result (λ back. back.0 ≡ WaitError.TooMany
+            ↔ (self.old.next ≡ last_word)) }
+        ensures last { self.old.next ≡ last_word → IsErr result }
     {
         if self.next == u64::MAX {
             return Err((WaitError::TooMany, message, w));
@@ -332,10 +336,12 @@ impl<T, W> ChannelInternal<T, W> {
     pub fn wait_recv(&mut self, w: W) -> Result<Ticket, (WaitError, W)>
         requires empty { IsEmpty (line_of self.old) }
         ensures step { IfOk result (λ _. line_of self.new ≡ wait_recv (line_of self.old)) }
-        ensures waits { IfOk result (λ ticket. (number_of ticket ≡ self.old.next) × (self.new.waiters ≡ self.old.waiters ++ record { ticket = ticket; message = None; w = w } ∷ [])) }
+        ensures waits { IfOk result (λ ticket.
+            WaitsLast self.old.next None w ticket self.old.waiters self.new.waiters) }
         ensures refused { IfErr result (λ back. (back.1 ≡ w) × (self.new ≡ self.old)) }
-        ensures reason { IfErr result (λ back. back.0 ≡ WaitError.TooMany ↔ (self.old.next ≡ 18446744073709551615)) }
-        ensures last { self.old.next ≡ 18446744073709551615 → IsErr result }
+        ensures reason { IfErr result (λ back. back.0 ≡ WaitError.TooMany
+            ↔ (self.old.next ≡ last_word)) }
+        ensures last { self.old.next ≡ last_word → IsErr result }
     {
         if self.next == u64::MAX {
             return Err((WaitError::TooMany, w));
@@ -360,7 +366,8 @@ impl<T, W> ChannelInternal<T, W> {
     /// core.withdraw(ticket)   answers  None           after that
     /// ```
     pub fn withdraw(&mut self, ticket: Ticket) -> Option<Waiter<T, W>>
-        ensures step { Withdraws (line_of self.old) ticket (option_map (λ (w : Waiter T W). w.message) result) (line_of self.new) }
+        ensures step { Withdraws (line_of self.old) ticket
+            (option_map (λ (w : Waiter T W). w.message) result) (line_of self.new) }
         ensures waiter { result ≡ waiter_of ticket self.old.waiters }
         ensures others { self.new.waiters ≡ without ticket self.old.waiters }
         ensures ticket { self.new.next ≡ self.old.next }
@@ -380,7 +387,8 @@ impl<T, W> ChannelInternal<T, W> {
     /// ```
     pub fn waiting(&mut self, ticket: Ticket) -> Option<&mut W>
         ensures* writes_back { sem 𝓛 (lends_w T.row W.row self.entry ticket result) }
-        ensures value { option_copied_mut result ≡ option_map (λ (w : Waiter T W). w.w) (waiter_of ticket self.old.waiters) }
+        ensures value { option_copied_mut result
+            ≡ option_map (λ (w : Waiter T W). w.w) (waiter_of ticket self.old.waiters) }
     {
         let waiters = &mut self.waiters;
         waiters.waiting(ticket)
@@ -407,8 +415,10 @@ impl<T, W> ChannelInternal<T, W> {
     pub fn holds(&self)
         ensures one_side { ((line_of self.now).line ≡ []) ⊎ ((line_of self.now).demands ≡ []) }
         ensures bound { IsWithin (length self.now.buffer) self.now.capacity }
-        ensures full { ((line_of self.now).line ≡ map bare self.now.buffer) ⊎ (self.now.capacity ≡ Some (length self.now.buffer)) }
-        ensures given { (t : ℕ) → self.now.next ≤ t → (found t (line_of self.now).line ≡ []) × (has t (line_of self.now).demands ≡ false) }
+        ensures full { ((line_of self.now).line ≡ map bare self.now.buffer)
+            ⊎ (self.now.capacity ≡ Some (length self.now.buffer)) }
+        ensures given { (t : ℕ) → self.now.next ≤ t → (found t (line_of self.now).line ≡ [])
+            × (has t (line_of self.now).demands ≡ false) }
         ensures rising { Rises 0 self.now.waiters self.now.next }
     {
         let _ = &self.next;

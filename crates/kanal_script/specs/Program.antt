@@ -1,6 +1,7 @@
 -- What the program answers, and what it tells of a fault.
 use Rattle.std.specs.Prelude.{◌≡◌, ◌⊎◌, ℕ, List, ◌++◌, Option, Some, None, MatchOption, codes, decimal}
 use Rattle.std.specs.Io.KnownBytes.{Appends}
+use Rattle.kanal_core.specs.Line.{last_word}
 use Rattle.kanal_journal.specs.declared.journal.event.Event.{Event}
 use Rattle.kanal_journal.specs.declared.journal.event.Report.{Report}
 use Rattle.kanal_journal.specs.Runs.{Runs}
@@ -32,7 +33,7 @@ fault_text Device = codes "kanal-run: device fault"
 -- the bytes are a script, and this is what the channel tells along it: nothing if it can't be so large
 abbrev pub IsAnswer : List ℕ → Option (Report ℕ) → Type 0
 IsAnswer bytes answer = (capacity : Option ℕ) × (events : List (Event ℕ)) × IsWritten bytes (script_text capacity events)
-    × MatchOption answer (capacity ≡ Some 18446744073709551615) (λ report. Runs capacity events report)
+    × MatchOption answer (capacity ≡ Some last_word) (λ report. Runs capacity events report)
 
 -- an answer, printed
 abbrev pub answer_text : Option (Report ℕ) → List ℕ

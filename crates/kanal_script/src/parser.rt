@@ -55,7 +55,8 @@ impl<'a> Parser<'a> {
     /// Takes what stands before the next space, line feed or end, if it is text.
     fn word(&mut self) -> Option<&'a str>
         ensures taken { IfSome result (λ word. self.old.rest.now ≡ word.now ++ self.new.rest.now) }
-        ensures read { (w s : List ℕ) → IsWord w → EndsWord s → self.old.rest.now ≡ w ++ s → MatchOption result ⊥ (λ word. (word.now ≡ w) × (self.new.rest.now ≡ s)) }
+        ensures read { (w s : List ℕ) → IsWord w → EndsWord s → self.old.rest.now ≡ w ++ s
+            → MatchOption result ⊥ (λ word. (word.now ≡ w) × (self.new.rest.now ≡ s)) }
         ensures line { self.new.line ≡ self.old.line }
     {
         let rest = self.rest;
@@ -84,8 +85,10 @@ impl<'a> Parser<'a> {
 
     /// Takes a space and the word behind it.
     fn next_word(&mut self) -> Option<&'a str>
-        ensures taken { IfSome result (λ word. self.old.rest.now ≡ 32 ∷ (word.now ++ self.new.rest.now)) }
-        ensures read { (w s : List ℕ) → IsWord w → EndsWord s → self.old.rest.now ≡ 32 ∷ (w ++ s) → MatchOption result ⊥ (λ word. (word.now ≡ w) × (self.new.rest.now ≡ s)) }
+        ensures taken { IfSome result (λ word. self.old.rest.now
+            ≡ 32 ∷ (word.now ++ self.new.rest.now)) }
+        ensures read { (w s : List ℕ) → IsWord w → EndsWord s → self.old.rest.now ≡ 32 ∷ (w ++ s)
+            → MatchOption result ⊥ (λ word. (word.now ≡ w) × (self.new.rest.now ≡ s)) }
         ensures line { self.new.line ≡ self.old.line }
     {
         if self.skip(b' ') { self.word() } else { None }
@@ -93,9 +96,11 @@ impl<'a> Parser<'a> {
 
     /// Takes a space and a number.
     fn argument(&mut self) -> Option<u64>
-        ensures taken { IfSome result (λ n. self.old.rest.now ≡ 32 ∷ (decimal n ++ self.new.rest.now)) }
+        ensures taken { IfSome result (λ n. self.old.rest.now
+            ≡ 32 ∷ (decimal n ++ self.new.rest.now)) }
         ensures fits { IfSome result (λ n. n < 2 ^ 64) }
-        ensures read { (n : ℕ) (s : List ℕ) → n < 2 ^ 64 → EndsWord s → self.old.rest.now ≡ 32 ∷ (decimal n ++ s) → IsSome result × (self.new.rest.now ≡ s) }
+        ensures read { (n : ℕ) (s : List ℕ) → n < 2 ^ 64 → EndsWord s
+            → self.old.rest.now ≡ 32 ∷ (decimal n ++ s) → IsSome result × (self.new.rest.now ≡ s) }
         ensures line { self.new.line ≡ self.old.line }
     {
         number(self.next_word()?)
@@ -103,9 +108,12 @@ impl<'a> Parser<'a> {
 
     /// Takes the words of a `cap` line.
     fn capacity(&mut self) -> Option<Option<usize>>
-        ensures taken { IfSome result (λ capacity. self.old.rest.now ≡ capacity_words capacity ++ self.new.rest.now) }
+        ensures taken { IfSome result (λ capacity. self.old.rest.now
+            ≡ capacity_words capacity ++ self.new.rest.now) }
         ensures fits { IfSome result (λ capacity. FitsWord capacity) }
-        ensures read { (capacity : Option ℕ) (s : List ℕ) → FitsWord capacity → EndsWord s → self.old.rest.now ≡ capacity_words capacity ++ s → IsSome result × (self.new.rest.now ≡ s) }
+        ensures read { (capacity : Option ℕ) (s : List ℕ) → FitsWord capacity → EndsWord s
+            → self.old.rest.now ≡ capacity_words capacity ++ s → IsSome result
+            × (self.new.rest.now ≡ s) }
         ensures line { self.new.line ≡ self.old.line }
     {
         match self.word()? {
@@ -116,9 +124,12 @@ impl<'a> Parser<'a> {
 
     /// Takes a space and what the capacity is.
     fn limit(&mut self) -> Option<Option<usize>>
-        ensures taken { IfSome result (λ capacity. self.old.rest.now ≡ 32 ∷ (limit_word capacity ++ self.new.rest.now)) }
+        ensures taken { IfSome result (λ capacity. self.old.rest.now
+            ≡ 32 ∷ (limit_word capacity ++ self.new.rest.now)) }
         ensures fits { IfSome result (λ capacity. FitsWord capacity) }
-        ensures read { (capacity : Option ℕ) (s : List ℕ) → FitsWord capacity → EndsWord s → self.old.rest.now ≡ 32 ∷ (limit_word capacity ++ s) → IsSome result × (self.new.rest.now ≡ s) }
+        ensures read { (capacity : Option ℕ) (s : List ℕ) → FitsWord capacity → EndsWord s
+            → self.old.rest.now ≡ 32 ∷ (limit_word capacity ++ s) → IsSome result
+            × (self.new.rest.now ≡ s) }
         ensures line { self.new.line ≡ self.old.line }
     {
         match self.next_word()? {
@@ -129,9 +140,11 @@ impl<'a> Parser<'a> {
 
     /// Takes the words of an event.
     fn event(&mut self) -> Option<Event<u64>>
-        ensures taken { IfSome result (λ event. self.old.rest.now ≡ event_words event ++ self.new.rest.now) }
+        ensures taken { IfSome result (λ event. self.old.rest.now
+            ≡ event_words event ++ self.new.rest.now) }
         ensures fits { IfSome result (λ event. EventFits event) }
-        ensures read { (event : Event ℕ) (s : List ℕ) → EventFits event → EndsWord s → self.old.rest.now ≡ event_words event ++ s → IsSome result × (self.new.rest.now ≡ s) }
+        ensures read { (event : Event ℕ) (s : List ℕ) → EventFits event → EndsWord s
+            → self.old.rest.now ≡ event_words event ++ s → IsSome result × (self.new.rest.now ≡ s) }
         ensures line { self.new.line ≡ self.old.line }
     {
         match self.word()? {
@@ -158,8 +171,11 @@ impl<'a> Parser<'a> {
 
     /// Takes a space and the name of a side.
     fn side(&mut self) -> Option<Side>
-        ensures taken { IfSome result (λ side. self.old.rest.now ≡ 32 ∷ (side_word side ++ self.new.rest.now)) }
-        ensures read { (side : Side) (s : List ℕ) → EndsWord s → self.old.rest.now ≡ 32 ∷ (side_word side ++ s) → IsSome result × (self.new.rest.now ≡ s) }
+        ensures taken { IfSome result (λ side. self.old.rest.now
+            ≡ 32 ∷ (side_word side ++ self.new.rest.now)) }
+        ensures read { (side : Side) (s : List ℕ) → EndsWord s
+            → self.old.rest.now ≡ 32 ∷ (side_word side ++ s) → IsSome result
+            × (self.new.rest.now ≡ s) }
         ensures line { self.new.line ≡ self.old.line }
     {
         match self.next_word()? {
@@ -171,8 +187,11 @@ impl<'a> Parser<'a> {
 
     /// Takes a space and the name of a question.
     fn question(&mut self) -> Option<Ask>
-        ensures taken { IfSome result (λ ask. self.old.rest.now ≡ 32 ∷ (ask_word ask ++ self.new.rest.now)) }
-        ensures read { (ask : Ask) (s : List ℕ) → EndsWord s → self.old.rest.now ≡ 32 ∷ (ask_word ask ++ s) → IsSome result × (self.new.rest.now ≡ s) }
+        ensures taken { IfSome result (λ ask. self.old.rest.now
+            ≡ 32 ∷ (ask_word ask ++ self.new.rest.now)) }
+        ensures read { (ask : Ask) (s : List ℕ) → EndsWord s
+            → self.old.rest.now ≡ 32 ∷ (ask_word ask ++ s) → IsSome result
+            × (self.new.rest.now ≡ s) }
         ensures line { self.new.line ≡ self.old.line }
     {
         match self.next_word()? {
@@ -192,7 +211,8 @@ impl<'a> Parser<'a> {
     /// Takes the end of a line, after which the next line begins.
     fn end_line(&mut self) -> bool
         ensures taken { IsTrue result → IsReadTo self.old.rest.now (line []) self.new.rest.now }
-        ensures next { IsTrue result → 0 < length self.new.rest.now → self.new.line ≡ self.old.line + 1 }
+        ensures next { IsTrue result → 0 < length self.new.rest.now
+            → self.new.line ≡ self.old.line + 1 }
         ensures read { EndsLine self.old.rest.now → IsTrue result }
     {
         if self.rest.is_empty() {
@@ -208,10 +228,14 @@ impl<'a> Parser<'a> {
 
     /// Takes the first line.
     fn capacity_line(&mut self) -> Result<Option<usize>, ParseError>
-        ensures taken { IfOk result (λ capacity. IsReadTo self.old.rest.now (line (capacity_words capacity)) self.new.rest.now) }
+        ensures taken { IfOk result (λ capacity.
+            IsReadTo self.old.rest.now (line (capacity_words capacity)) self.new.rest.now) }
         ensures fits { IfOk result (λ capacity. FitsWord capacity) }
-        ensures unreadable { IsErr result → (capacity : Option ℕ) (rest : List ℕ) → FitsWord capacity → ¬ (IsReadTo self.old.rest.now (line (capacity_words capacity)) rest) }
-        ensures next { OnOk result (0 < length self.new.rest.now → self.new.line ≡ self.old.line + 1) }
+        ensures unreadable { IsErr result → (capacity : Option ℕ) (rest : List ℕ)
+            → FitsWord capacity
+            → ¬ (IsReadTo self.old.rest.now (line (capacity_words capacity)) rest) }
+        ensures next { OnOk result (0 < length self.new.rest.now
+            → self.new.line ≡ self.old.line + 1) }
         ensures fault { IfErr result (λ error. error ≡ ParseError.Unreadable self.old.line) }
     {
         let line = self.line;
@@ -226,10 +250,13 @@ impl<'a> Parser<'a> {
 
     /// Takes a line after the first.
     fn event_line(&mut self) -> Result<Event<u64>, ParseError>
-        ensures taken { IfOk result (λ event. IsReadTo self.old.rest.now (line (event_words event)) self.new.rest.now) }
+        ensures taken { IfOk result (λ event.
+            IsReadTo self.old.rest.now (line (event_words event)) self.new.rest.now) }
         ensures fits { IfOk result (λ event. EventFits event) }
-        ensures unreadable { IsErr result → (event : Event ℕ) (rest : List ℕ) → EventFits event → ¬ (IsReadTo self.old.rest.now (line (event_words event)) rest) }
-        ensures next { OnOk result (0 < length self.new.rest.now → self.new.line ≡ self.old.line + 1) }
+        ensures unreadable { IsErr result → (event : Event ℕ) (rest : List ℕ) → EventFits event
+            → ¬ (IsReadTo self.old.rest.now (line (event_words event)) rest) }
+        ensures next { OnOk result (0 < length self.new.rest.now
+            → self.new.line ≡ self.old.line + 1) }
         ensures fault { IfErr result (λ error. error ≡ ParseError.Unreadable self.old.line) }
     {
         let line = self.line;
@@ -307,7 +334,8 @@ pub fn number(word: &str) -> Option<u64>
 /// ```
 pub fn parse(alloc: Global, bytes: &[u8]) -> Result<Script, ParseError>
     ensures fault { IfErr result (IsFirstFault bytes.now) }
-    ensures written { IfOk result (λ script. IsWritten bytes.now (script_text script.capacity script.events.items)) }
+    ensures written { IfOk result (λ script.
+        IsWritten bytes.now (script_text script.capacity script.events.items)) }
 {
     let mut parser = Parser::new(bytes);
     let capacity = parser.capacity_line()?;

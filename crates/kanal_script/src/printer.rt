@@ -2,7 +2,7 @@
 //!
 //! It stands on the names of `kanal_journal`'s replies and of `kanal_core`'s outcomes. No other
 //! module writes these texts.
-ghost use Rattle.std.specs.Prelude.{◌≡◌, ◌++◌, ◌≤◌, length, drop, OnOk};
+ghost use Rattle.std.specs.Prelude.{◌≡◌, ◌≤◌, length, drop, OnOk};
 ghost use Rattle.std.specs.Io.KnownBytes.{Appends};
 ghost use Rattle.kanal_script.specs.Script.{line};
 ghost use Rattle.kanal_script.specs.Answer.{refusal_name, reason_name, messages_text, reply_words, flag_word, counted, drained_count, cleared_count, settlement_words, settlements_text, settled_at, report_text, too_large_text};
@@ -58,8 +58,10 @@ impl<'a> Uncounted<'a> {
     /// Takes those that the reply counts.
     fn take(&mut self, reply: &Reply<u64>) -> &'a [u64]
         ensures own { result.now ≡ counted reply.now self.old.drained.now self.old.cleared.now }
-        ensures drained { self.new.drained.now ≡ drop (drained_count reply.now) self.old.drained.now }
-        ensures cleared { self.new.cleared.now ≡ drop (cleared_count reply.now) self.old.cleared.now }
+        ensures drained { self.new.drained.now
+            ≡ drop (drained_count reply.now) self.old.drained.now }
+        ensures cleared { self.new.cleared.now
+            ≡ drop (cleared_count reply.now) self.old.cleared.now }
     {
         match reply {
             Reply::Drained(count) => {
@@ -79,7 +81,8 @@ impl<'a> Uncounted<'a> {
 
 /// Prints each message behind a space, and ends the line.
 fn print_messages<W: Write>(output: &mut W, messages: &[u64]) -> io::Result<()>
-    ensures { OnOk result (Appends (W.contents output.old) (W.contents output.new) (line (messages_text messages.now))) }
+    ensures { OnOk result (Appends (W.contents output.old) (W.contents output.new)
+        (line (messages_text messages.now))) }
 {
     for message in messages {
         write!(output, " {message}")?;
@@ -99,7 +102,8 @@ fn print_messages<W: Write>(output: &mut W, messages: &[u64]) -> io::Result<()>
 /// assert_eq!(rt; text.as_slice(), b"refused Closed 7\n".as_slice());
 /// ```
 pub fn print_reply<W: Write>(output: &mut W, reply: &Reply<u64>, messages: &[u64]) -> io::Result<()>
-    ensures { OnOk result (Appends (W.contents output.old) (W.contents output.new) (line (reply_words reply.now messages.now))) }
+    ensures { OnOk result (Appends (W.contents output.old) (W.contents output.new)
+        (line (reply_words reply.now messages.now))) }
 {
     match reply {
         Reply::Sent => writeln!(output, "sent"),
@@ -140,7 +144,8 @@ pub fn print_reply<W: Write>(output: &mut W, reply: &Reply<u64>, messages: &[u64
 /// assert_eq!(rt; text.as_slice(), b"ticket 0 given 7\n".as_slice());
 /// ```
 pub fn print_settlement<W: Write>(output: &mut W, settlement: &Settlement<u64>) -> io::Result<()>
-    ensures { OnOk result (Appends (W.contents output.old) (W.contents output.new) (line (settlement_words settlement.now))) }
+    ensures { OnOk result (Appends (W.contents output.old) (W.contents output.new)
+        (line (settlement_words settlement.now))) }
 {
     let ticket = settlement.ticket;
     match &settlement.outcome {
@@ -172,7 +177,8 @@ fn settled_at(step: usize, settled: &[Settlement<u64>]) -> usize
 
 /// Prints the settlements' lines.
 fn print_settlements<W: Write>(output: &mut W, settled: &[Settlement<u64>]) -> io::Result<()>
-    ensures { OnOk result (Appends (W.contents output.old) (W.contents output.new) (settlements_text settled.now)) }
+    ensures { OnOk result (Appends (W.contents output.old) (W.contents output.new)
+        (settlements_text settled.now)) }
 {
     for settlement in settled {
         print_settlement(output, settlement)?;
@@ -193,7 +199,8 @@ fn print_settlements<W: Write>(output: &mut W, settled: &[Settlement<u64>]) -> i
 /// assert_eq!(rt; text.as_slice(), b"waits 0\ngot 7\nticket 0 taken\n".as_slice());
 /// ```
 pub fn print<W: Write>(output: &mut W, report: &Report<u64>) -> io::Result<()>
-    ensures { OnOk result (Appends (W.contents output.old) (W.contents output.new) (report_text report.now)) }
+    ensures { OnOk result (Appends (W.contents output.old) (W.contents output.new)
+        (report_text report.now)) }
 {
     let mut messages = Uncounted {
         drained: report.drained.as_slice(),

@@ -65,7 +65,8 @@ impl From<ParseError> for Fault {
 
 /// Reads the input to its end.
 fn read_all<R: Read>(alloc: Global, input: &mut R) -> Result<Vec<u8>, Fault>
-    ensures read { IfOk result (λ read. IfSome (R.remaining input.old) (λ bytes. read.items ≡ bytes)) }
+    ensures read { IfOk result (λ read.
+        IfSome (R.remaining input.old) (λ bytes. read.items ≡ bytes)) }
     ensures fault { IfErr result (λ fault. IsReadFault fault) }
 {
     let mut bytes = Vec::new(alloc);
@@ -110,7 +111,8 @@ fn printed(alloc: Global, answer: &Option<Report<u64>>) -> Result<Vec<u8>, Fault
 fn write_pieces<W: Write>(output: &mut W, text: &[u8]) -> Result<(), Fault>
     ensures ok { OnOk result (Appends (W.contents output.old) (W.contents output.new) text.now) }
     ensures err { IfErr result (λ fault. fault ≡ Fault.Device) }
-    ensures begun { OnErr result (AppendsBeginning (W.contents output.old) (W.contents output.new) text.now) }
+    ensures begun { OnErr result (AppendsBeginning (W.contents output.old) (W.contents output.new)
+        text.now) }
 {
     let mut rest = text;
     for _ in 0..u64::MAX {
@@ -134,7 +136,8 @@ fn write_pieces<W: Write>(output: &mut W, text: &[u8]) -> Result<(), Fault>
 fn write_text<W: Write>(output: &mut W, text: &[u8]) -> Result<(), Fault>
     ensures ok { OnOk result (Appends (W.contents output.old) (W.contents output.new) text.now) }
     ensures err { IfErr result (λ fault. fault ≡ Fault.Device) }
-    ensures begun { OnErr result (AppendsBeginning (W.contents output.old) (W.contents output.new) text.now) }
+    ensures begun { OnErr result (AppendsBeginning (W.contents output.old) (W.contents output.new)
+        text.now) }
 {
     write_pieces(output, text)?;
     let Ok(()) = output.flush() else {
@@ -145,17 +148,22 @@ fn write_text<W: Write>(output: &mut W, text: &[u8]) -> Result<(), Fault>
 
 /// Tells the fault by a line on the writer for errors, and answers whether that was written.
 fn tell<E: Write>(errors: &mut E, fault: Fault) -> bool
-    ensures told { IsTrue result → Appends (E.contents errors.old) (E.contents errors.new) (line (fault_text fault)) }
+    ensures told { IsTrue result → Appends (E.contents errors.old) (E.contents errors.new)
+        (line (fault_text fault)) }
 {
     writeln!(errors, "{fault}").is_ok()
 }
 
 /// Reads a script and writes its answer.
 fn answer<R: Read, W: Write>(alloc: Global, input: &mut R, output: &mut W) -> Result<(), Fault>
-    ensures ok { OnOk result (IfSome (R.remaining input.old) (λ bytes. Answers bytes (W.contents output.old) (W.contents output.new))) }
+    ensures ok { OnOk result (IfSome (R.remaining input.old)
+        (λ bytes. Answers bytes (W.contents output.old) (W.contents output.new))) }
     ensures kept { IfErr result (λ fault. fault ≢ Fault.Device → output.new ≡ output.old) }
-    ensures begun { OnErr result ((output.new ≡ output.old) ⊎ IfSome (R.remaining input.old) (λ bytes. BeginsToAnswer bytes (W.contents output.old) (W.contents output.new))) }
-    ensures fault { IfErr result (λ fault. IsReadFault fault ⊎ IfSome (R.remaining input.old) (λ bytes. IsScriptFault bytes fault)) }
+    ensures begun { OnErr result ((output.new ≡ output.old)
+        ⊎ IfSome (R.remaining input.old)
+        (λ bytes. BeginsToAnswer bytes (W.contents output.old) (W.contents output.new))) }
+    ensures fault { IfErr result (λ fault. IsReadFault fault
+        ⊎ IfSome (R.remaining input.old) (λ bytes. IsScriptFault bytes fault)) }
 {
     let bytes = read_all(alloc, input)?;
     let answer = run_script(alloc, &bytes)?;
@@ -191,11 +199,15 @@ pub fn serve<R: Read, W: Write, E: Write>(
     errors: &mut E,
 ) -> u8
     ensures status { result ≤ 2 }
-    ensures answered { result ≡ 0 → IfSome (R.remaining input.old) (λ bytes. Answers bytes (W.contents output.old) (W.contents output.new)) }
+    ensures answered { result ≡ 0 → IfSome (R.remaining input.old)
+        (λ bytes. Answers bytes (W.contents output.old) (W.contents output.new)) }
     ensures silent { result ≡ 0 → errors.new ≡ errors.old }
     ensures unreadable { result ≡ 2 → output.new ≡ output.old }
-    ensures first { result ≡ 2 → IfSome (R.remaining input.old) (λ bytes. (number : ℕ) × IsFirstFault bytes (ParseError.Unreadable number)) }
-    ensures begun { result ≡ 1 → (output.new ≡ output.old) ⊎ IfSome (R.remaining input.old) (λ bytes. BeginsToAnswer bytes (W.contents output.old) (W.contents output.new)) }
+    ensures first { result ≡ 2 → IfSome (R.remaining input.old) (λ bytes. (number : ℕ)
+        × IsFirstFault bytes (ParseError.Unreadable number)) }
+    ensures begun { result ≡ 1 → (output.new ≡ output.old)
+        ⊎ IfSome (R.remaining input.old)
+        (λ bytes. BeginsToAnswer bytes (W.contents output.old) (W.contents output.new)) }
 {
     match answer(alloc, input, output) {
         Ok(()) => 0,

@@ -1,7 +1,9 @@
-//! How a blocked call waits for its outcome: it looks with pauses, then with yields, and then sleeps.
+//! A blocked call's wait: it looks for its outcome with pauses, then with yields, and then sleeps
+//! until it is told or its deadline comes.
 //!
-//! Stands on the cell's waiting end, on parking and on clocks. Only blocked calls use it; what is
-//! asked for memory is there before the wait starts, so nothing is refused here.
+//! Its name is kanal's, after the spinning that is its first part. Stands on the cell's waiting end,
+//! on parking and on clocks. Only blocked calls use it; what is asked for memory is there before the
+//! wait starts, so nothing is refused here.
 ghost use Rattle.std.specs.Prelude.{◌≡◌, IfOk};
 ghost use Rattle.kanal_cell.specs.CellRule.{MaySleep};
 ghost use Rattle.kanal_cell.specs.CellEnds.{wait_view};

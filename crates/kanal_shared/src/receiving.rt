@@ -2,8 +2,9 @@
 //!
 //! Stands on the lock, on the steps and on how a blocked call waits. A message is asked for first;
 //! only where there is none is the memory of a wait asked for.
-ghost use Rattle.std.specs.Prelude.{◌≡◌, ◌++◌, List, length, IfOk, IfErr, OnErr};
+ghost use Rattle.std.specs.Prelude.{◌≡◌, IfOk, IfErr, OnErr};
 ghost use Rattle.std.specs.Vec.{vec_capacity};
+ghost use Rattle.kanal_shared.specs.Drains.{GoesOnBy};
 
 mod timed;
 
@@ -75,7 +76,7 @@ impl<T: Drop> Shared<T> {
     /// shared.drain_into(&rt, &mut messages)   answers  Ok(2)   where two messages were there
     /// ```
     pub fn drain_into<R: Wait>(&self, rt: &R, into: &mut Vec<T>) -> Result<usize, ReceiveError>
-        ensures drained { IfOk result (λ n. (more : List T) × (into.new.items ≡ into.old.items ++ more) × (length more ≡ n)) }
+        ensures drained { IfOk result (λ n. GoesOnBy n into.old.items into.new.items) }
         ensures refused { IfErr result (λ _. into.new.items ≡ into.old.items) }
         ensures no_growth { OnErr result (vec_capacity into.new ≡ vec_capacity into.old) }
     {

@@ -33,7 +33,8 @@ pub(crate) fn answer_of<T: Drop>(outcome: Outcome<T>) -> Result<(), SendError> {
 
 /// What a wait needs: the blocked call's half, and the seat for the core.
 pub(crate) fn wait<T: Drop>(alloc: Global) -> Option<(Waiting<Outcome<T>>, Box<Seat<T>>)>
-    ensures cell { IfSome result (λ made. AreOfOneCell (end_at made.0.watch) (end_of made.1.value)) }
+    ensures cell { IfSome result (λ made.
+        AreOfOneCell (end_at made.0.watch) (end_of made.1.value)) }
 {
     let (end, settler) = signal::new(alloc).ok()?;
     let waiting = Waiting::new(alloc, end).ok()?;

@@ -56,6 +56,7 @@ impl<T: Drop> Shared<T> {
     /// ```text
     /// shared.left_waits()   answers  1   after a future that waited was dropped while the lock was held
     /// ```
+    #[doc(hidden)] // For tests of what stays in the line while the lock is held.
     pub fn left_waits(&self) -> u64 {
         self.left.load(SeqCst)
     }

@@ -28,8 +28,8 @@ kept_by None = []
 kept_by (Some seat) = kept_from seat.value
 
 -- what is kept of a waiter
-abbrev pub entry_of : {T : Type 0} → Waiter T (Boxed T) → Option T × Settler T
-entry_of w = (w.message, settler_of w.w.value)
+abbrev pub kept_of : {T : Type 0} → Waiter T (Boxed T) → Option T × Settler T
+kept_of w = (w.message, settler_of w.w.value)
 
 -- these waiters were withdrawn one after the other, the last of them first, and nothing else changed
 abbrev pub LeaveInTurn : {T W : Type 0} → Channel T W → List (Waiter T W) → Channel T W → Type 0

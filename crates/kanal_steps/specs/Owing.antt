@@ -1,6 +1,8 @@
 -- What a step owes: the waits that left the core by it.
-use Rattle.std.specs.Prelude.{List, [], ◌∷◌, Option, Some, None}
+use Rattle.std.specs.Prelude.{ℕ, List, [], ◌∷◌, map, Option, Some, None}
+use Rattle.kanal_core.specs.declared.internal.outcome.Outcome.{Outcome}
 use Rattle.kanal_core.specs.declared.internal.outcome.Settled.{Settled}
+use Rattle.kanal_core.specs.Channel.{settlement}
 use Rattle.kanal_steps.specs.declared.owed.Owed.{Owed}
 use Rattle.kanal_steps.specs.declared.owed.Waits.{Waits}
 use Rattle.kanal_steps.specs.declared.owed.Waits.TheVariants.{Nothing, One, All}
@@ -26,3 +28,7 @@ module _ {T : Type 0} where
   -- the waits whose waiters have to be told, oldest first
   abbrev pub waits_in : Owed T → List (Settled T (Boxed T))
   waits_in owed = waits_of owed.waits
+
+  -- their tickets, each with what became of its wait
+  abbrev pub settled_in : Owed T → List (ℕ × Outcome T)
+  settled_in owed = map settlement (waits_in owed)

@@ -8,12 +8,12 @@ ghost use Rattle.std.specs.Prelude.{◌≡◌, ◌↔◌, ◌+◌, ◌≤◌, �
 ghost use Rattle.std.specs.Vec.{vec_capacity, vec_len};
 ghost use Rattle.kanal_core.specs.Line.{messages};
 ghost use Rattle.kanal_core.specs.Moves.{cleared, close, drain, drop_receiver, drop_sender};
-ghost use Rattle.kanal_core.specs.Channel.{closed, drained, ended_by, line_of, settlement, taken_by};
+ghost use Rattle.kanal_core.specs.Channel.{closed, after_drain, ended_by, line_of, taken_by};
 ghost use Rattle.kanal_core.specs.Waiters.{sender_first, waiter_of};
 ghost use Rattle.kanal_core.specs.Calls.{IsFull, IsEmpty, MovesTo, OldestLeft};
 ghost use Rattle.kanal_core.specs.declared.internal.outcome.Waiter.{Waiter};
-ghost use Rattle.kanal_steps.specs.Leaving.{LeaveInTurn, entry_of, kept_by, kept_from};
-ghost use Rattle.kanal_steps.specs.Owing.{first, waits_in};
+ghost use Rattle.kanal_steps.specs.Leaving.{LeaveInTurn, kept_of, kept_by, kept_from};
+ghost use Rattle.kanal_steps.specs.Owing.{first, settled_in, waits_in};
 ghost use Rattle.kanal_steps.specs.Renewing.{Renews};
 ghost use Rattle.kanal_steps.specs.Seats.{Boxed};
 ghost use Rattle.kanal_steps.specs.Steps.{TriesToSend, TriesToReceive, RefusesDrain, Sends, SendSeats, WaitsToSend, WaitingSeats, ReceivesLate, Receives, ReceiveSeats, WaitsToReceive, AwaitingSeats, drops_last, receivers_dropped, senders_dropped, times};
@@ -70,7 +70,8 @@ pub enum Received<T> {
 /// try_send(&mut core, 8)   answers  Full(8)   after that
 /// ```
 pub fn try_send<T: Drop>(core: &mut Core<T>, message: T) -> (Offered<T>, Owed<T>)
-    ensures step { TriesToSend (line_of core.old) message result.0 (map settlement (waits_in result.1)) (line_of core.new) }
+    ensures step { TriesToSend (line_of core.old) message result.0 (settled_in result.1)
+        (line_of core.new) }
     ensures waiter { OldestLeft core.old.waiters (first (waits_in result.1)) core.new.waiters }
 {
     let offered = match core.offer(message) {
@@ -95,7 +96,8 @@ pub fn try_send<T: Drop>(core: &mut Core<T>, message: T) -> (Offered<T>, Owed<T>
 /// try_recv(&mut core)   answers  Ok(Some(7))   after 7 entered
 /// ```
 pub fn try_recv<T: Drop>(core: &mut Core<T>) -> (Result<Option<T>, ReceiveError>, Owed<T>)
-    ensures step { TriesToReceive (line_of core.old) result.0 (map settlement (waits_in result.1)) (line_of core.new) }
+    ensures step { TriesToReceive (line_of core.old) result.0 (settled_in result.1)
+        (line_of core.new) }
     ensures waiter { OldestLeft core.old.waiters (first (waits_in result.1)) core.new.waiters }
 {
     let answer = match core.take() {
@@ -117,7 +119,8 @@ pub fn try_recv<T: Drop>(core: &mut Core<T>) -> (Result<Option<T>, ReceiveError>
 /// recv_late(&mut core)   answers  Err(Timeout)   in a new core
 /// ```
 pub fn recv_late<T: Drop>(core: &mut Core<T>) -> (Result<T, ReceiveErrorTimeout>, Owed<T>)
-    ensures step { ReceivesLate (line_of core.old) result.0 (map settlement (waits_in result.1)) (line_of core.new) }
+    ensures step { ReceivesLate (line_of core.old) result.0 (settled_in result.1)
+        (line_of core.new) }
     ensures waiter { OldestLeft core.old.waiters (first (waits_in result.1)) core.new.waiters }
 {
     let error = match core.take() {
@@ -165,8 +168,10 @@ pub fn wait_send<T: Drop>(
 /// send(&mut core, 8, seat)   answers  Waits(ticket)   after that
 /// ```
 pub fn send<T: Drop>(core: &mut Core<T>, message: T, seat: Box<Seat<T>>) -> (Sent<T>, Owed<T>)
-    ensures step { Sends (line_of core.old) message result.0 (map settlement (waits_in result.1)) (line_of core.new) }
-    ensures seats { SendSeats core.old.waiters message seat result.0 (waits_in result.1) core.new.waiters }
+    ensures step { Sends (line_of core.old) message result.0 (settled_in result.1)
+        (line_of core.new) }
+    ensures seats { SendSeats core.old.waiters message seat result.0 (waits_in result.1)
+        core.new.waiters }
 {
     let (offered, owed) = try_send(core, message);
     let sent = match offered {
@@ -215,8 +220,9 @@ pub fn wait_recv<T: Drop>(
 /// recv(&mut core, seat)   answers  Waits(ticket)   in a new core
 /// ```
 pub fn recv<T: Drop>(core: &mut Core<T>, seat: Box<Seat<T>>) -> (Received<T>, Owed<T>)
-    ensures step { Receives (line_of core.old) result.0 (map settlement (waits_in result.1)) (line_of core.new) }
-    ensures seats { ReceiveSeats core.old.waiters seat result.0 (waits_in result.1) core.new.waiters }
+    ensures step { Receives (line_of core.old) result.0 (settled_in result.1) (line_of core.new) }
+    ensures seats { ReceiveSeats core.old.waiters seat result.0 (waits_in result.1)
+        core.new.waiters }
 {
     let (answer, owed) = try_recv(core);
     let received = match answer {
@@ -264,16 +270,22 @@ pub fn drain<T: Drop>(
     core: &mut Core<T>,
     into: &mut Vec<T>,
 ) -> (Result<usize, ReceiveError>, Owed<T>)
-    ensures step { IfOk result.0 (λ _. MovesTo (drain (line_of core.old)) (map settlement (waits_in result.1)) (line_of core.new)) }
-    ensures moved { IfOk result.0 (λ _. into.new.items ≡ into.old.items ++ messages (line_of core.old).line) }
+    ensures step { IfOk result.0 (λ _.
+        MovesTo (drain (line_of core.old)) (settled_in result.1) (line_of core.new)) }
+    ensures moved { IfOk result.0 (λ _. into.new.items
+        ≡ into.old.items ++ messages (line_of core.old).line) }
     ensures count { IfOk result.0 (λ n. n ≡ length (line_of core.old).line) }
-    ensures taken { IfOk result.0 (λ _. waits_in result.1 ≡ cond (sender_first core.old.waiters) (map taken_by core.old.waiters) []) }
+    ensures taken { IfOk result.0 (λ _. waits_in result.1
+        ≡ cond (sender_first core.old.waiters) (map taken_by core.old.waiters) []) }
     ensures receiver { IsErrOf result.0 ReceiveError.Closed ↔ (core.old.receivers ≡ 0) }
-    ensures after { IfOk result.0 (λ _. core.new ≡ drained core.old) }
-    ensures refused { IfErr result.0 (λ _. (core.new ≡ core.old) × (into.new.items ≡ into.old.items)) }
+    ensures after { IfOk result.0 (λ _. core.new ≡ after_drain core.old) }
+    ensures refused { IfErr result.0 (λ _. (core.new ≡ core.old)
+        × (into.new.items ≡ into.old.items)) }
     ensures nobody { IfErr result.0 (λ _. waits_in result.1 ≡ []) }
-    ensures reason { IfErr result.0 (λ e. RefusesDrain (line_of core.old) (vec_len into.old) (vec_capacity into.old) e) }
-    ensures room { vec_len into.old + length (line_of core.old).line ≤ vec_capacity into.old → vec_capacity into.new ≡ vec_capacity into.old }
+    ensures reason { IfErr result.0 (λ e.
+        RefusesDrain (line_of core.old) (vec_len into.old) (vec_capacity into.old) e) }
+    ensures room { vec_len into.old + length (line_of core.old).line ≤ vec_capacity into.old
+        → vec_capacity into.new ≡ vec_capacity into.old }
     ensures no_growth { OnErr result.0 (vec_capacity into.new ≡ vec_capacity into.old) }
 {
     let error = match core.drain_into(into) {
@@ -296,9 +308,11 @@ pub fn drain<T: Drop>(
 /// close(&mut core)   answers  Err(CloseError)   after that
 /// ```
 pub fn close<T: Drop>(core: &mut Core<T>) -> (Result<Cleared<T>, CloseError>, Owed<T>)
-    ensures step { IfOk result.0 (λ _. MovesTo (close (line_of core.old)) (map settlement (waits_in result.1)) (line_of core.new)) }
+    ensures step { IfOk result.0 (λ _.
+        MovesTo (close (line_of core.old)) (settled_in result.1) (line_of core.new)) }
     ensures cleared { IfOk result.0 (λ c. c ≡ cleared (line_of core.old)) }
-    ensures ended { IfOk result.0 (λ _. waits_in result.1 ≡ map (ended_by Reason.Closed) core.old.waiters) }
+    ensures ended { IfOk result.0 (λ _. waits_in result.1
+        ≡ map (ended_by Reason.Closed) core.old.waiters) }
     ensures after { IfOk result.0 (λ _. core.new ≡ closed core.old) }
     ensures refused { IfErr result.0 (λ _. (core.new ≡ core.old) × (waits_in result.1 ≡ [])) }
     ensures shut { IsErr result.0 ↔ ((core.old.senders ≡ 0) × (core.old.receivers ≡ 0)) }
@@ -316,8 +330,10 @@ pub fn close<T: Drop>(core: &mut Core<T>) -> (Result<Cleared<T>, CloseError>, Ow
 /// drop_senders(&mut core, 1)   ends all receives that wait, in a core with one sender
 /// ```
 pub fn drop_senders<T: Drop>(core: &mut Core<T>, count: u64) -> Owed<T>
-    ensures step { MovesTo (times drop_sender count (line_of core.old)) (map settlement (waits_in result)) (line_of core.new) }
-    ensures ended { waits_in result ≡ cond (drops_last count core.old.senders) (map (ended_by Reason.SendClosed) core.old.waiters) [] }
+    ensures step { MovesTo (times drop_sender count (line_of core.old)) (settled_in result)
+        (line_of core.new) }
+    ensures ended { waits_in result ≡ cond (drops_last count core.old.senders)
+        (map (ended_by Reason.SendClosed) core.old.waiters) [] }
     ensures after { core.new ≡ senders_dropped count core.old }
 {
     let mut left = count;
@@ -339,8 +355,10 @@ pub fn drop_senders<T: Drop>(core: &mut Core<T>, count: u64) -> Owed<T>
 /// drop_receivers(&mut core, 1)   ends all sends that wait, in a core with one receiver
 /// ```
 pub fn drop_receivers<T: Drop>(core: &mut Core<T>, count: u64) -> Owed<T>
-    ensures step { MovesTo (times drop_receiver count (line_of core.old)) (map settlement (waits_in result)) (line_of core.new) }
-    ensures ended { waits_in result ≡ cond (drops_last count core.old.receivers) (map (ended_by Reason.ReceiveClosed) core.old.waiters) [] }
+    ensures step { MovesTo (times drop_receiver count (line_of core.old)) (settled_in result)
+        (line_of core.new) }
+    ensures ended { waits_in result ≡ cond (drops_last count core.old.receivers)
+        (map (ended_by Reason.ReceiveClosed) core.old.waiters) [] }
     ensures after { core.new ≡ receivers_dropped count core.old }
 {
     let mut left = count;
@@ -357,7 +375,7 @@ pub fn drop_receivers<T: Drop>(core: &mut Core<T>, count: u64) -> Owed<T>
 
 /// Puts the entry's message into its own seat, in front of the chain.
 fn keep<T: Drop>(waiter: Waiter<T, Box<Seat<T>>>, next: Option<Box<Seat<T>>>) -> Box<Seat<T>>
-    ensures kept { kept_from result.value ≡ entry_of waiter ∷ kept_by next }
+    ensures kept { kept_from result.value ≡ kept_of waiter ∷ kept_by next }
 {
     let Waiter {
         ticket: _,
@@ -378,7 +396,8 @@ fn keep<T: Drop>(waiter: Waiter<T, Box<Seat<T>>>, next: Option<Box<Seat<T>>>) ->
 /// withdraw_left(&mut core)   answers  None   where everybody who waits still does
 /// ```
 pub fn withdraw_left<T: Drop>(core: &mut Core<T>) -> Option<Box<Seat<T>>>
-    ensures withdrawn { (gone : List (Waiter T (Boxed T))) × LeaveInTurn core.old gone core.new × (kept_by result ≡ map entry_of gone) }
+    ensures withdrawn { (gone : List (Waiter T (Boxed T))) × LeaveInTurn core.old gone core.new
+        × (kept_by result ≡ map kept_of gone) }
 {
     let mut chain = None;
     for _ in 0..u64::MAX {

@@ -2,9 +2,9 @@
 //!
 //! They stand on `rule` and `pointer`. A put comes before the step that gives its slot to the
 //! other end, and a take after the step that brought the slot.
-ghost use Rattle.std.specs.Prelude.{◌≡◌, ◌↔◌, ◌∷◌, [], true, false, Some, None, if◌then◌else◌, IfOk, IsSome, IsTrue};
+ghost use Rattle.std.specs.Prelude.{◌≡◌, ◌↔◌, ◌∷◌, [], true, false, Some, None, if◌then◌else◌, IfOk, IsSome};
 ghost use Rattle.kanal_cell.specs.CellRule.{fresh, after_poll, after_sleep, after_leave, after_settle, HasNotLeft, HasNotSettled, MaySleep};
-ghost use Rattle.kanal_cell.specs.CellEnds.{AreOfOneCell, StaysAtCell, wait_view, settle_view, kept_waker};
+ghost use Rattle.kanal_cell.specs.CellEnds.{AreOfOneCell, FindsOutcome, GoesOn, StaysAtCell, wait_view, settle_view, kept_waker};
 ghost use Rattle.kanal_cell.specs.declared.signal.rule.Role.TheVariants.{Waiter, Settler};
 
 use super::rule::{
@@ -26,9 +26,12 @@ type Seated<P> = (CellTable<P>, EndSeat<P>, EndSeat<P>);
 /// A table for a cell, with the waiter's seat, which is lent the sleeper's slot, and the settler's, which
 /// is lent the outcome's.
 fn table_with_seats<P: Drop>(alloc: Global) -> Result<Seated<P>, NoMemory>
-    ensures sized { IfOk result (λ made. (made.0.shared.table_id.words ≡ 1) × (made.0.shared.table_id.slots ≡ 2)) }
-    ensures waiter { IfOk result (λ made. (made.1.table_id ≡ made.0.shared.table_id) × (made.1.me ≡ (fresh Waiter, (1, None) ∷ []))) }
-    ensures settler { IfOk result (λ made. (made.2.table_id ≡ made.0.shared.table_id) × (made.2.me ≡ (fresh Settler, (0, None) ∷ []))) }
+    ensures sized { IfOk result (λ made. (made.0.shared.table_id.words ≡ 1)
+        × (made.0.shared.table_id.slots ≡ 2)) }
+    ensures waiter { IfOk result (λ made. (made.1.table_id ≡ made.0.shared.table_id)
+        × (made.1.me ≡ (fresh Waiter, (1, None) ∷ []))) }
+    ensures settler { IfOk result (λ made. (made.2.table_id ≡ made.0.shared.table_id)
+        × (made.2.me ≡ (fresh Settler, (0, None) ∷ []))) }
 {
     let Ok((table, mut waiter)) = Table::vacant(alloc, &[0], 2, &()) else {
         return Err(NoMemory);
@@ -90,8 +93,8 @@ impl<P: Drop> WaitEnd<P> {
     /// ```
     pub fn poll(&mut self) -> Option<P>
         requires unspent { HasNotLeft (wait_view self.old) }
-        ensures step { wait_view self.new ≡ after_poll (wait_view self.old) (wait_view self.new).found }
-        ensures answer { IsSome result ↔ (((wait_view self.new).found.ended ≡ true) × ((wait_view self.old).had ≡ false)) }
+        ensures step { GoesOn after_poll (wait_view self.old) (wait_view self.new) }
+        ensures answer { IsSome result ↔ FindsOutcome (wait_view self.old) (wait_view self.new) }
     {
         let found = self.signal.table.shared.load::<Polls>(&mut self.seat, 0);
         if found & ENDED != 0 && !self.had {
@@ -117,8 +120,8 @@ impl<P: Drop> WaitEnd<P> {
     /// ```
     pub fn sleep(&mut self, sleeper: Unparker) -> Option<P>
         requires unspent { MaySleep (wait_view self.old) }
-        ensures step { wait_view self.new ≡ after_sleep (wait_view self.old) (wait_view self.new).found }
-        ensures answer { IsSome result ↔ (((wait_view self.new).found.ended ≡ true) × ((wait_view self.old).had ≡ false)) }
+        ensures step { GoesOn after_sleep (wait_view self.old) (wait_view self.new) }
+        ensures answer { IsSome result ↔ FindsOutcome (wait_view self.old) (wait_view self.new) }
     {
         pointer::put_sleeper(&self.signal.table.shared, &mut self.seat, sleeper);
         let found = self
@@ -145,8 +148,8 @@ impl<P: Drop> WaitEnd<P> {
     /// ```
     pub fn leave(&mut self) -> Option<P>
         requires unspent { HasNotLeft (wait_view self.old) }
-        ensures step { wait_view self.new ≡ after_leave (wait_view self.old) (wait_view self.new).found }
-        ensures answer { IsSome result ↔ (((wait_view self.new).found.ended ≡ true) × ((wait_view self.old).had ≡ false)) }
+        ensures step { GoesOn after_leave (wait_view self.old) (wait_view self.new) }
+        ensures answer { IsSome result ↔ FindsOutcome (wait_view self.old) (wait_view self.new) }
     {
         let found = self
             .signal
@@ -175,8 +178,9 @@ impl<P: Drop> SettleEnd<P> {
     /// ```
     pub fn settle(&mut self, outcome: P) -> Option<P>
         requires unspent { HasNotSettled (settle_view self.old) }
-        ensures step { settle_view self.new ≡ after_settle (settle_view self.old) (settle_view self.new).found }
-        ensures answer { result ≡ (if (settle_view self.new).found.left then Some outcome else None) }
+        ensures step { GoesOn after_settle (settle_view self.old) (settle_view self.new) }
+        ensures answer { result
+            ≡ (if (settle_view self.new).found.left then Some outcome else None) }
         ensures waker { kept_waker self.new ≡ None }
     {
         let (waking, back) = self.end(outcome);
@@ -221,10 +225,11 @@ impl<P: Drop> SettleEnd<P> {
     /// Makes the step of a settle, and hands out whom it has to wake and the outcome that it took.
     fn end(&mut self, outcome: P) -> (Waking, Option<P>)
         requires unspent { HasNotSettled (settle_view self.old) }
-        ensures step { settle_view self.new ≡ after_settle (settle_view self.old) (settle_view self.new).found }
+        ensures step { GoesOn after_settle (settle_view self.old) (settle_view self.new) }
         ensures sleeper { IsSome result.0.sleeper ↔ ((settle_view self.new).found.sleeping ≡ true) }
         ensures waker { result.0.waker ≡ kept_waker self.old }
-        ensures back { result.1 ≡ (if (settle_view self.new).found.left then Some outcome else None) }
+        ensures back { result.1
+            ≡ (if (settle_view self.new).found.left then Some outcome else None) }
         ensures kept { kept_waker self.new ≡ None }
     {
         pointer::put_outcome(&self.signal.table.shared, &mut self.seat, outcome);

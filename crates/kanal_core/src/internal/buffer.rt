@@ -78,8 +78,10 @@ impl<T> Buffer<T> {
     /// Puts a message at the back, or gives it back where an unlimited buffer finds no memory.
     pub fn push_back(&mut self, message: T) -> Result<(), T>
         requires { is_below (length self.old.messages) self.old.limit ≡ true }
-        ensures entered { OnOk result (self.new ≡ record self.old { messages = self.old.messages ++ message ∷ [] }) }
-        ensures refused { IfErr result (λ back. (back ≡ message) × (self.new ≡ self.old) × (self.old.limit ≡ None)) }
+        ensures entered { OnOk result (self.new
+            ≡ record self.old { messages = self.old.messages ++ message ∷ [] }) }
+        ensures refused { IfErr result (λ back. (back ≡ message) × (self.new ≡ self.old)
+            × (self.old.limit ≡ None)) }
     {
         match self.limit {
             None => match self.messages.push_back(message) {
@@ -95,7 +97,8 @@ impl<T> Buffer<T> {
 
     /// Takes the front message out.
     pub fn pop_front(&mut self) -> Option<T>
-        ensures { MatchOption result ((self.old.messages ≡ []) × (self.new ≡ self.old)) (λ m. (self.old.messages ≡ m ∷ self.new.messages) × (self.new.limit ≡ self.old.limit)) }
+        ensures { MatchOption result ((self.old.messages ≡ []) × (self.new ≡ self.old))
+            (λ m. (self.old.messages ≡ m ∷ self.new.messages) × (self.new.limit ≡ self.old.limit)) }
     {
         self.messages.pop_front()
     }

@@ -5,7 +5,7 @@ ghost use Rattle.std.specs.Prelude.{◌≡◌, ◌↔◌, ◌+◌, ◌<◌, ◌�
 ghost use Rattle.std.specs.Vec.{vec_capacity, vec_len};
 ghost use Rattle.kanal_core.specs.Line.{messages};
 ghost use Rattle.kanal_core.specs.Moves.{drain};
-ghost use Rattle.kanal_core.specs.Channel.{drained, line_of, settlement, taken_by};
+ghost use Rattle.kanal_core.specs.Channel.{after_drain, line_of, settlement, taken_by};
 ghost use Rattle.kanal_core.specs.Waiters.{sender_first};
 ghost use Rattle.kanal_core.specs.Calls.{MovesTo};
 
@@ -18,8 +18,10 @@ fn reserve<T>(into: &mut Vec<T>, count: usize) -> Result<(), DrainError>
     ensures items { into.new.items ≡ into.old.items }
     ensures len { vec_len into.new ≡ vec_len into.old }
     ensures room { OnOk result (vec_len into.old + count ≤ vec_capacity into.new) }
-    ensures enough { vec_len into.old + count ≤ vec_capacity into.old → vec_capacity into.new ≡ vec_capacity into.old }
-    ensures refused { IfErr result (λ e. (e ≡ DrainError.NoMemory) × (vec_capacity into.old < vec_len into.old + count)) }
+    ensures enough { vec_len into.old + count ≤ vec_capacity into.old
+        → vec_capacity into.new ≡ vec_capacity into.old }
+    ensures refused { IfErr result (λ e. (e ≡ DrainError.NoMemory)
+        × (vec_capacity into.old < vec_len into.old + count)) }
     ensures no_growth { OnErr result (vec_capacity into.new ≡ vec_capacity into.old) }
 {
     if count <= into.capacity() - into.len() {
@@ -50,15 +52,21 @@ impl<T, W> ChannelInternal<T, W> {
     /// taken.next()   answers  the oldest sender that waited, as Taken, and so on
     /// ```
     pub fn drain_into(&mut self, into: &mut Vec<T>) -> Result<(usize, Ended<T, W>), DrainError>
-        ensures step { IfOk result (λ d. MovesTo (drain (line_of self.old)) (map settlement d.1) (line_of self.new)) }
+        ensures step { IfOk result (λ d. MovesTo (drain (line_of self.old)) (map settlement d.1)
+            (line_of self.new)) }
         ensures receiver { IsErrOf result DrainError.Closed ↔ (self.old.receivers ≡ 0) }
-        ensures moved { IfOk result (λ _. into.new.items ≡ into.old.items ++ messages (line_of self.old).line) }
+        ensures moved { IfOk result (λ _. into.new.items
+            ≡ into.old.items ++ messages (line_of self.old).line) }
         ensures count { IfOk result (λ d. d.0 ≡ length (line_of self.old).line) }
-        ensures after { IfOk result (λ _. self.new ≡ drained self.old) }
-        ensures taken { IfOk result (λ d. d.1 ≡ cond (sender_first self.old.waiters) (map taken_by self.old.waiters) []) }
-        ensures refused { IfErr result (λ _. (self.new ≡ self.old) × (into.new.items ≡ into.old.items)) }
-        ensures room { vec_len into.old + length (line_of self.old).line ≤ vec_capacity into.old → vec_capacity into.new ≡ vec_capacity into.old }
-        ensures memory { IsErrOf result DrainError.NoMemory → vec_capacity into.old < vec_len into.old + length (line_of self.old).line }
+        ensures after { IfOk result (λ _. self.new ≡ after_drain self.old) }
+        ensures taken { IfOk result (λ d. d.1
+            ≡ cond (sender_first self.old.waiters) (map taken_by self.old.waiters) []) }
+        ensures refused { IfErr result (λ _. (self.new ≡ self.old)
+            × (into.new.items ≡ into.old.items)) }
+        ensures room { vec_len into.old + length (line_of self.old).line ≤ vec_capacity into.old
+            → vec_capacity into.new ≡ vec_capacity into.old }
+        ensures memory { IsErrOf result DrainError.NoMemory
+            → vec_capacity into.old < vec_len into.old + length (line_of self.old).line }
         ensures no_growth { OnErr result (vec_capacity into.new ≡ vec_capacity into.old) }
     {
         if self.receivers == 0 {

@@ -37,7 +37,8 @@ impl<T, W> ChannelInternal<T, W> {
     /// core.sender_count()   answers  2   where it answered 1 before
     /// ```
     pub fn add_sender(&mut self) -> Result<(), TooMany>
-        ensures raised { OnOk result (self.new ≡ record self.old { senders = raised self.old.senders }) }
+        ensures raised { OnOk result (self.new
+            ≡ record self.old { senders = raised self.old.senders }) }
         ensures refused { IfErr result (λ _. self.new ≡ self.old) }
         ensures most { IsErr result ↔ (self.old.senders ≡ last_count) }
         ensures gone { StaysGone self.old self.new }
@@ -57,7 +58,8 @@ impl<T, W> ChannelInternal<T, W> {
     /// core.receiver_count()   answers  2   where it answered 1 before
     /// ```
     pub fn add_receiver(&mut self) -> Result<(), TooMany>
-        ensures raised { OnOk result (self.new ≡ record self.old { receivers = raised self.old.receivers }) }
+        ensures raised { OnOk result (self.new
+            ≡ record self.old { receivers = raised self.old.receivers }) }
         ensures refused { IfErr result (λ _. self.new ≡ self.old) }
         ensures most { IsErr result ↔ (self.old.receivers ≡ last_count) }
         ensures gone { StaysGone self.old self.new }
@@ -78,9 +80,11 @@ impl<T, W> ChannelInternal<T, W> {
     /// core.take()    answers  SendClosed
     /// ```
     pub fn drop_sender(&mut self) -> Ended<T, W>
-        ensures step { MovesTo (drop_sender (line_of self.old)) (map settlement result) (line_of self.new) }
+        ensures step { MovesTo (drop_sender (line_of self.old)) (map settlement result)
+            (line_of self.new) }
         ensures after { self.new ≡ sender_dropped self.old }
-        ensures ended { result ≡ cond (self.old.senders == 1) (map (ended_by Reason.SendClosed) self.old.waiters) [] }
+        ensures ended { result ≡ cond (self.old.senders == 1)
+            (map (ended_by Reason.SendClosed) self.old.waiters) [] }
         ensures gone { StaysGone self.old self.new }
     {
         if self.senders == 1 {
@@ -103,9 +107,11 @@ impl<T, W> ChannelInternal<T, W> {
     /// core.offer(8)   answers  ReceiveClosed(8)
     /// ```
     pub fn drop_receiver(&mut self) -> Ended<T, W>
-        ensures step { MovesTo (drop_receiver (line_of self.old)) (map settlement result) (line_of self.new) }
+        ensures step { MovesTo (drop_receiver (line_of self.old)) (map settlement result)
+            (line_of self.new) }
         ensures after { self.new ≡ receiver_dropped self.old }
-        ensures ended { result ≡ cond (self.old.receivers == 1) (map (ended_by Reason.ReceiveClosed) self.old.waiters) [] }
+        ensures ended { result ≡ cond (self.old.receivers == 1)
+            (map (ended_by Reason.ReceiveClosed) self.old.waiters) [] }
         ensures gone { StaysGone self.old self.new }
     {
         if self.receivers == 1 {
@@ -128,7 +134,8 @@ impl<T, W> ChannelInternal<T, W> {
     /// closing.ended.next()     answers  the oldest wait, as Ended(Closed, its message), and so on
     /// ```
     pub fn close(&mut self) -> Result<Closing<T, W>, CloseError>
-        ensures step { IfOk result (λ c. MovesTo (close (line_of self.old)) (map settlement c.ended) (line_of self.new)) }
+        ensures step { IfOk result (λ c. MovesTo (close (line_of self.old)) (map settlement c.ended)
+            (line_of self.new)) }
         ensures cleared { IfOk result (λ c. c.cleared ≡ cleared (line_of self.old)) }
         ensures ended { IfOk result (λ c. c.ended ≡ map (ended_by Reason.Closed) self.old.waiters) }
         ensures after { IfOk result (λ _. self.new ≡ closed self.old) }

@@ -3,8 +3,9 @@
 //!
 //! Stands on the two rooms. Each value was moved out of the core as it stood, with no memory asked
 //! for, so that its waiters can be settled and its messages dropped after a lock was released.
-ghost use Rattle.std.specs.Prelude.{◌≡◌, ◌+◌, ◌≤◌, [], ◌∷◌, ◌++◌, cond, length, MatchOption, map};
+ghost use Rattle.std.specs.Prelude.{◌≡◌, ◌+◌, ◌≤◌, [], ◌∷◌, ◌++◌, cond, length, map};
 ghost use Rattle.std.specs.Vec.{vec_capacity, vec_len};
+ghost use Rattle.kanal_core.specs.Calls.{TakesFirst};
 ghost use Rattle.kanal_core.specs.Waiters.{brought, sender_first};
 ghost use Rattle.kanal_core.specs.Channel.{ended_by, taken_by};
 ghost use Rattle.kanal_core.specs.Endings.{HaveMovedOut, settled_by};
@@ -77,10 +78,12 @@ impl<T, W> Ended<T, W> {
     /// Moves the messages of waiting senders to the vector's end, which has the room, and the
     /// senders out of the list. Receivers stay.
     pub(crate) fn taken(waiters: &mut WaitList<T, W>, into: &mut Vec<T>, alloc: Global) -> Self
-        requires room { vec_len into.old + cond (sender_first waiters.old) (length waiters.old) 0 ≤ vec_capacity into.old }
+        requires room { vec_len into.old + cond (sender_first waiters.old) (length waiters.old) 0
+            ≤ vec_capacity into.old }
         ensures ended { result ≡ cond (sender_first waiters.old) (map taken_by waiters.old) [] }
         ensures left { waiters.new ≡ cond (sender_first waiters.old) [] waiters.old }
-        ensures moved { into.new.items ≡ into.old.items ++ cond (sender_first waiters.old) (brought waiters.old) [] }
+        ensures moved { into.new.items ≡ into.old.items
+            ++ cond (sender_first waiters.old) (brought waiters.old) [] }
         ensures capacity { vec_capacity into.new ≡ vec_capacity into.old }
     {
         if !waiters.sender_first() {
@@ -106,7 +109,7 @@ impl<T, W> Ended<T, W> {
     /// Hands out the oldest wait that is left. A sender whose wait ended has its message back; one
     /// whose message a drain took is told so.
     pub fn next(&mut self) -> Option<Settled<T, W>>
-        ensures { MatchOption result ((self.old ≡ []) × (self.new ≡ [])) (λ s. self.old ≡ s ∷ self.new) }
+        ensures { TakesFirst result self.old self.new }
     {
         match self.waiters.pop_front() {
             None => None,
@@ -146,7 +149,7 @@ impl<T> Cleared<T> {
 
     /// Hands out the front message of those that are left.
     pub fn next(&mut self) -> Option<T>
-        ensures { MatchOption result ((self.old ≡ []) × (self.new ≡ [])) (λ m. self.old ≡ m ∷ self.new) }
+        ensures { TakesFirst result self.old self.new }
     {
         self.buffer.pop_front()
     }
@@ -179,7 +182,7 @@ impl<T: Drop, W: Drop> Left<T, W> {
 
     /// Hands out the front message of those that are left.
     pub fn next(&mut self) -> Option<T>
-        ensures { MatchOption result ((self.old ≡ []) × (self.new ≡ [])) (λ m. self.old ≡ m ∷ self.new) }
+        ensures { TakesFirst result self.old self.new }
     {
         match self.buffer.pop_front() {
             Some(message) => Some(message),

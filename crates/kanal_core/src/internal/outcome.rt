@@ -34,7 +34,8 @@ impl<T, W> Waiter<T, W> {
     /// A waiting receiver is given the message.
     pub(crate) fn given(self, message: T) -> Settled<T, W>
         requires { self.message ≡ None }
-        ensures { result ≡ record { ticket = self.ticket; w = self.w; outcome = Outcome.Given message } }
+        ensures { result
+            ≡ record { ticket = self.ticket; w = self.w; outcome = Outcome.Given message } }
     {
         let Waiter {
             ticket,
@@ -55,7 +56,8 @@ impl<T, W> Waiter<T, W> {
     pub(crate) fn taken(self) -> (T, Settled<T, W>)
         requires { IsSome self.message }
         ensures message { self.message ≡ Some result.0 }
-        ensures settled { result.1 ≡ record { ticket = self.ticket; w = self.w; outcome = Outcome.Taken } }
+        ensures settled { result.1
+            ≡ record { ticket = self.ticket; w = self.w; outcome = Outcome.Taken } }
     {
         let Waiter { ticket, message, w } = self;
         match message {

@@ -2,13 +2,13 @@
 //!
 //! Stands on a deque alone. Only the core, and what it hands out at an end, hold one. A waiter is
 //! named by its ticket; no other module knows where in the list it stands.
-ghost use Rattle.std.specs.Prelude.{◌≡◌, ◌+◌, ◌^◌, ◌<◌, ◌≤◌, [], ◌∷◌, ◌++◌, cond, length, map, MatchOption, IfOk, IfErr};
+ghost use Rattle.std.specs.Prelude.{◌≡◌, ◌+◌, ◌^◌, ◌<◌, ◌≤◌, [], ◌++◌, cond, length, map, IfOk, IfErr};
 ghost use Rattle.std.specs.Vec.{vec_capacity, vec_len};
 ghost use Rattle.std.specs.Borrow.{sem};
 ghost use Rattle.std.specs.Fn.{FnReturnsAt};
 ghost use Rattle.std.specs.Option.{option_copied_mut, option_map};
+ghost use Rattle.kanal_core.specs.Calls.{TakesFirst, WaitsLast};
 ghost use Rattle.kanal_core.specs.Places.{TakesMessage, place_of};
-ghost use Rattle.kanal_core.specs.Tickets.{number_of};
 ghost use Rattle.kanal_core.specs.Waiters.{brought, emptied, waiter_of, without, IsFirstWhere, receiver_first, sender_first};
 
 use super::outcome::{Ticket, Waiter};
@@ -109,8 +109,9 @@ impl<T, W> WaitList<T, W> {
         message: Option<T>,
         w: W,
     ) -> Result<Ticket, (Option<T>, W)>
-        ensures ok { IfOk result (λ ticket. (number_of ticket ≡ number) × (self.new ≡ self.old ++ record { ticket = ticket; message = message; w = w } ∷ [])) }
-        ensures refused { IfErr result (λ back. (back.0 ≡ message) × (back.1 ≡ w) × (self.new ≡ self.old)) }
+        ensures ok { IfOk result (λ ticket. WaitsLast number message w ticket self.old self.new) }
+        ensures refused { IfErr result (λ back. (back.0 ≡ message) × (back.1 ≡ w)
+            × (self.new ≡ self.old)) }
     {
         let ticket = Ticket { number };
         match self.waiters.push_back(Waiter { ticket, message, w }) {
@@ -128,7 +129,7 @@ impl<T, W> WaitList<T, W> {
 
     /// Takes the oldest waiter out.
     pub fn pop_front(&mut self) -> Option<Waiter<T, W>>
-        ensures { MatchOption result ((self.old ≡ []) × (self.new ≡ [])) (λ w. self.old ≡ w ∷ self.new) }
+        ensures { TakesFirst result self.old self.new }
     {
         self.waiters.pop_front()
     }
@@ -138,7 +139,7 @@ impl<T, W> WaitList<T, W> {
     where
         T: Drop,
         W: Drop,
-        ensures { MatchOption result ((brought self.old ≡ []) × (brought self.new ≡ [])) (λ m. brought self.old ≡ m ∷ brought self.new) }
+        ensures { TakesFirst result (brought self.old) (brought self.new) }
     {
         while let Some(waiter) = self.waiters.pop_front() {
             let Waiter {
@@ -197,7 +198,8 @@ impl<T, W> WaitList<T, W> {
     /// Lends the W of the waiter with the ticket, if it is there.
     pub fn waiting(&mut self, ticket: Ticket) -> Option<&mut W>
         ensures* writes_back { sem 𝓛 (lends_w T.row W.row self.entry ticket result) }
-        ensures value { option_copied_mut result ≡ option_map (λ (x : Waiter T W). x.w) (waiter_of ticket self.old) }
+        ensures value { option_copied_mut result
+            ≡ option_map (λ (x : Waiter T W). x.w) (waiter_of ticket self.old) }
     {
         let at = place(&self.waiters, ticket);
         match self.waiters.get_mut(at) {

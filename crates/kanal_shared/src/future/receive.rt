@@ -188,7 +188,9 @@ impl<T: Drop> Future for ReceiveFuture<'_, T> {
         ensures same { OnPending result ((x : Result T ReceiveError) → ⊤ → ⊤) }
         ensures registered { OnPending result (Covers cx.new (λ s. s ≡ receive_source self.new)) }
         ensures kept { Keeps cx.old cx.new }
-        ensures over { receive_is_over self.old ≡ true → (result ≡ Poll.Ready (Err ReceiveError.Finished)) × (receive_is_over self.new ≡ true) }
+        ensures over { receive_is_over self.old ≡ true
+            → (result ≡ Poll.Ready (Err ReceiveError.Finished))
+            × (receive_is_over self.new ≡ true) }
         ensures ends { IfReady result (λ _. receive_is_over self.new ≡ true) }
         ensures goes_on { OnPending result (receive_is_over self.new ≡ false) }
     {

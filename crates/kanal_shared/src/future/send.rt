@@ -171,7 +171,8 @@ impl<T: Drop> Future for SendFuture<'_, T> {
         ensures same { OnPending result ((x : Result Unit SendError) → ⊤ → ⊤) }
         ensures registered { OnPending result (Covers cx.new (λ s. s ≡ send_source self.new)) }
         ensures kept { Keeps cx.old cx.new }
-        ensures over { send_is_over self.old ≡ true → (result ≡ Poll.Ready (Err SendError.Finished)) × (send_is_over self.new ≡ true) }
+        ensures over { send_is_over self.old ≡ true → (result ≡ Poll.Ready (Err SendError.Finished))
+            × (send_is_over self.new ≡ true) }
         ensures ends { IfReady result (λ _. send_is_over self.new ≡ true) }
         ensures goes_on { OnPending result (send_is_over self.new ≡ false) }
     {

@@ -56,7 +56,8 @@ impl<'a, T: Drop> ReceiveStream<'a, T> {
     /// ```
     pub fn is_terminated<R: Wait>(&self, rt: &R) -> bool
         ensures ended { stream_is_over self.now ≡ true → result ≡ true }
-        ensures waiting { stream_is_over self.now ≡ false → stream_waits self.now ≡ true → result ≡ false }
+        ensures waiting { stream_is_over self.now ≡ false → stream_waits self.now ≡ true
+            → result ≡ false }
     {
         if self.fault.is_some() {
             return true;
@@ -104,7 +105,8 @@ impl<T: Drop> Stream for ReceiveStream<'_, T> {
         ensures same { OnPending result (Within {A = T} (λ _ _. ⊤) (λ _ _. ⊤)) }
         ensures registered { OnPending result (Covers cx.new (λ s. s ≡ stream_source self.new)) }
         ensures kept { Keeps cx.old cx.new }
-        ensures over { stream_is_over self.old ≡ true → (result ≡ Poll.Ready None) × (stream_is_over self.new ≡ true) }
+        ensures over { stream_is_over self.old ≡ true → (result ≡ Poll.Ready None)
+            × (stream_is_over self.new ≡ true) }
         ensures ends { IfReady result (λ o. IfNone o (stream_is_over self.new ≡ true)) }
         ensures goes_on { OnPending result (stream_is_over self.new ≡ false) }
     {

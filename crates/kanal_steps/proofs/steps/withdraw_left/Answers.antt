@@ -1,5 +1,5 @@
 use Rattle.std.proofs.Common.{◌∷◌, sym, ap, ◌∙◌}
-use Rattle.kanal_steps.specs.Leaving.{entry_of}
+use Rattle.kanal_steps.specs.Leaving.{kept_of}
 use Rattle.kanal_steps.proofs.Withdrawing.{leave-to, without-none}
 use Rattle.kanal_steps.proofs.steps.withdraw_left.Goals as goal
 
@@ -14,5 +14,5 @@ loop-preserved g c =
     let left = c.loop.invariant in (
       c.in-Some-withdraw.waiter ∷ left.0,
       (c.loop.core, c.in-Some.ticket, left.1, sym c.withdraw.ensures.waiter ∙ c.in-Some-withdraw.is, c.withdraw.ensures.others, c.in-Some-withdraw.ensures.step),
-      c.keep.ensures.kept ∙ ap (λ xs. entry_of c.in-Some-withdraw.waiter ∷ xs) left.2,
+      c.keep.ensures.kept ∙ ap (λ xs. kept_of c.in-Some-withdraw.waiter ∷ xs) left.2,
     )

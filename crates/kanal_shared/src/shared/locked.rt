@@ -129,12 +129,7 @@ impl<T: Drop> Locked<'_, T> {
     /// ```
     #[inline]
     pub fn give_back(self, owed: Owed<T>) {
-        let shared = self.shared;
-        self.release();
-        owed.settle();
-        if !shared.is_quiet() {
-            shared.look();
-        }
+        self.give_back_left(Left { taken: None }, owed);
     }
 
     /// The same, of a lock that one try got: what the notices took out is settled first.

@@ -1,6 +1,10 @@
 //! The tests, and what they share.
 mod counted;
+mod dropped;
 mod ended;
 mod given;
 mod held;
+mod late;
 mod polled;
+mod served;
+mod timed;

@@ -1,6 +1,6 @@
 //! Calls whose wait has begun, which the lock shows, and what ends such a wait in an error.
 use crate::tests::counted::{Counted, counter, counts_in};
-use crate::tests::given::{channel, equal, holds};
+use crate::tests::given::{common, equal, holds};
 use kanal_core::error::{ReceiveError, SendError};
 use kanal_shared::Shared;
 use kanal_steps::owed::Owed;
@@ -17,18 +17,8 @@ const LOOKS: u32 = 10_000_000;
 /// What the call of a thread answered.
 type Answer<T, E> = JoinHandle<Result<T, E>>;
 
-/// A channel with so many places, for two threads.
-fn common<T: Drop>(
-    rt: &(impl Abort + AllocGlobal),
-    capacity: usize,
-) -> (Arc<Shared<T>>, Arc<Shared<T>>) {
-    let first = Arc::new(rt.alloc(), channel(rt, capacity)).expect(rt, "a channel");
-    let second = Arc::try_clone(&first).expect(rt, "one more");
-    (first, second)
-}
-
 /// Whether a wait begins.
-fn begins<T: Drop, R: Wait>(rt: &R, shared: &Shared<T>) -> bool {
+pub fn begins<T: Drop, R: Wait>(rt: &R, shared: &Shared<T>) -> bool {
     for _ in 0..LOOKS {
         let mut locked = shared.hold(rt);
         let waits = locked.core().first_waiter(|_| true).is_some();

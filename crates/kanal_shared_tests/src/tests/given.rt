@@ -8,6 +8,7 @@ use std::alloc::AllocGlobal;
 use std::fmt::Debug;
 use std::process::Abort;
 use std::random::RandomSource;
+use std::sync::Arc;
 
 /// Ends the test, and shows both values, unless the answer is the expected one.
 pub fn equal<A: PartialEq + Debug + Drop>(rt: &impl Abort, answer: A, expected: A) {
@@ -23,6 +24,16 @@ pub fn holds(rt: &impl Abort, fact: bool) {
 pub fn channel<T: Drop>(rt: &(impl Abort + AllocGlobal), capacity: usize) -> Shared<T> {
     let core = ChannelInternal::new(rt.alloc(), capacity).expect(rt, "a core");
     Shared::new(core, rt.alloc())
+}
+
+/// A channel with so many places, for two threads.
+pub fn common<T: Drop>(
+    rt: &(impl Abort + AllocGlobal),
+    capacity: usize,
+) -> (Arc<Shared<T>>, Arc<Shared<T>>) {
+    let first = Arc::new(rt.alloc(), channel(rt, capacity)).expect(rt, "a channel");
+    let second = Arc::try_clone(&first).expect(rt, "one more");
+    (first, second)
 }
 
 /// A task that is polled by hand.

@@ -1,0 +1,120 @@
+//! Messages that have another thread look, while they are dropped, whether the lock of their channel
+//! is free.
+use crate::tests::given::{common, equal, holds, new_task};
+use futures::task::Poll;
+use kanal_shared::Shared;
+use std::alloc::{AllocGlobal, Global};
+use std::process::Abort;
+use std::sync::Arc;
+use std::sync::atomic::AtomicBool;
+use std::sync::atomic::Ordering::SeqCst;
+use std::thread;
+use std::thread::{JoinHandle, Threads};
+
+/// How often a thread looks for the other's word before it gives up.
+const LOOKS: u32 = 10_000_000;
+
+/// A look at the lock, which one thread asks for and another takes.
+#[derive(Drop)]
+struct Look {
+    is_asked_for: AtomicBool,
+    is_taken: AtomicBool,
+    found_free: AtomicBool,
+}
+
+impl Look {
+    /// Has the other thread look, and waits until it has.
+    fn ask(&self) {
+        self.is_asked_for.store(true, SeqCst);
+        for _ in 0..LOOKS {
+            if self.is_taken.load(SeqCst) {
+                return;
+            }
+            thread::yield_now();
+        }
+    }
+
+    /// Looks when it is asked to: a channel with a message in it, and one that is closed, answer
+    /// nothing only while somebody holds the lock.
+    fn take(&self, shared: &Shared<Message>) {
+        for _ in 0..LOOKS {
+            if self.is_asked_for.load(SeqCst) {
+                let is_free = !matches!(shared.try_recv_realtime(), Ok(None));
+                self.found_free.store(is_free, SeqCst);
+                self.is_taken.store(true, SeqCst);
+                return;
+            }
+            thread::yield_now();
+        }
+    }
+}
+
+/// A message that asks for a look while it is dropped, if it has one.
+struct Message {
+    look: Option<Arc<Look, Global>>,
+}
+
+impl Drop for Message {
+    fn drop(self) {
+        let Message { look } = self;
+        if let Some(look) = look {
+            look.ask();
+        }
+    }
+}
+
+/// A look that nobody has asked for.
+fn new_look(rt: &(impl Abort + AllocGlobal)) -> Arc<Look, Global> {
+    let look = Look {
+        is_asked_for: AtomicBool::new(false),
+        is_taken: AtomicBool::new(false),
+        found_free: AtomicBool::new(false),
+    };
+    Arc::new(rt.alloc(), look).expect(rt, "a look")
+}
+
+/// A message that asks for this look.
+fn asks_for(rt: &impl Abort, look: &Arc<Look, Global>) -> Message {
+    Message {
+        look: Some(Arc::try_clone(look).expect(rt, "one more")),
+    }
+}
+
+fn start_look<R: Threads + Abort + Copy + Send + 'static>(
+    rt: R,
+    shared: Arc<Shared<Message>>,
+    look: &Arc<Look, Global>,
+) -> JoinHandle<()> {
+    let look = Arc::try_clone(look).expect(&rt, "one more");
+    thread::spawn(&rt, move || look.take(&shared)).expect(&rt, "a thread")
+}
+
+#[test]
+fn a_close_drops_its_messages_after_the_release(rt: HostRuntime) {
+    let (shared, other) = common(&rt, 1);
+    let look = new_look(&rt);
+    let thread = start_look(rt, other, &look);
+    equal(&rt, shared.send_blocking(&rt, asks_for(&rt, &look)), Ok(()));
+    equal(&rt, shared.close(&rt), Ok(()));
+    thread.join(&rt);
+    holds(&rt, look.found_free.load(SeqCst));
+}
+
+/// The second message waits behind the first; the look takes the first.
+#[test]
+fn a_future_that_leaves_drops_its_message_after_the_release(rt: HostRuntime) {
+    let (shared, other) = common(&rt, 1);
+    let look = new_look(&rt);
+    let thread = start_look(rt, other, &look);
+    let task = new_task(&rt);
+    equal(
+        &rt,
+        shared.send_blocking(&rt, Message { look: None }),
+        Ok(()),
+    );
+    let mut sending = shared.send(asks_for(&rt, &look));
+    equal(&rt, task.poll(&mut sending), Poll::Pending);
+    drop(sending);
+    thread.join(&rt);
+    holds(&rt, look.found_free.load(SeqCst));
+}

@@ -1,0 +1,112 @@
+//! Timed calls whose wait is served, ended or late, by a clock that acts when it is read.
+use crate::tests::given::{channel, equal, holds, new_task};
+use futures::task::Poll;
+use kanal_core::error::{ReceiveErrorTimeout, SendErrorTimeout};
+use kanal_shared::{Clock, Shared};
+use kanal_steps::steps::Offered;
+use std::cell::Cell;
+use std::time::Duration;
+
+/// A clock that rises by one each call, from 0.
+#[derive(Drop)]
+struct Rising {
+    next: Cell<u64>,
+}
+
+impl Clock for Rising {
+    fn now(&self) -> u64 {
+        let now = self.next.get();
+        self.next.set(now.wrapping_add(1));
+        now
+    }
+}
+
+/// A clock that stands at 0, and sends 7 at its third read.
+#[derive(Drop)]
+struct Sending<'a> {
+    reads: Cell<u64>,
+    shared: &'a Shared<u64>,
+}
+
+impl Clock for Sending<'_> {
+    fn now(&self) -> u64 {
+        let reads = self.reads.get().wrapping_add(1);
+        self.reads.set(reads);
+        if reads == 3 {
+            drop(self.shared.offer_realtime(7));
+        }
+        0
+    }
+}
+
+/// A clock that stands still.
+#[derive(Drop)]
+struct Still;
+
+impl Clock for Still {
+    fn now(&self) -> u64 {
+        0
+    }
+}
+
+/// A clock that stands at 0, and drops the sender at its second read.
+#[derive(Drop)]
+struct Dropping<'a> {
+    reads: Cell<u64>,
+    shared: &'a Shared<u64>,
+}
+
+impl Clock for Dropping<'_> {
+    fn now(&self) -> u64 {
+        let reads = self.reads.get().wrapping_add(1);
+        self.reads.set(reads);
+        if reads == 2 {
+            self.shared.drop_sender();
+        }
+        0
+    }
+}
+
+#[test]
+fn a_late_receive_serves_a_send(rt: HostRuntime) {
+    let shared = channel::<u64>(&rt, 0);
+    let task = new_task(&rt);
+    let mut sending = shared.send(7);
+    equal(&rt, task.poll(&mut sending), Poll::Pending);
+    let clock = Rising { next: Cell::new(0) };
+    let got = shared.recv_before(&rt, Duration::from_nanos(0), &clock);
+    equal(&rt, got, Ok(7));
+    holds(&rt, task.is_woken());
+    equal(&rt, task.poll(&mut sending), Poll::Ready(Ok(())));
+}
+
+#[test]
+fn a_timed_receive_is_given_a_message_during_its_wait(rt: HostRuntime) {
+    let shared = channel::<u64>(&rt, 0);
+    let clock = Sending {
+        reads: Cell::new(0),
+        shared: &shared,
+    };
+    let got = shared.recv_before(&rt, Duration::from_nanos(1), &clock);
+    equal(&rt, got, Ok(7));
+}
+
+#[test]
+fn a_timed_out_receive_waits_no_more(rt: HostRuntime) {
+    let shared = channel::<u64>(&rt, 0);
+    let got = shared.recv_before(&rt, Duration::from_nanos(0), &Still);
+    equal(&rt, got, Err(ReceiveErrorTimeout::Timeout));
+    holds(&rt, matches!(shared.offer(&rt, 7), Offered::Full(7)));
+}
+
+/// The last sender's drop ends the send's wait too, and its message comes back.
+#[test]
+fn a_message_whose_wait_is_ended_comes_back(rt: HostRuntime) {
+    let shared = channel::<u64>(&rt, 0);
+    let clock = Dropping {
+        reads: Cell::new(0),
+        shared: &shared,
+    };
+    let sent = shared.send_before(&rt, 7, Duration::from_nanos(1), &clock);
+    equal(&rt, sent, Err((SendErrorTimeout::Closed, Some(7))));
+}

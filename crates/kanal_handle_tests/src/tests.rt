@@ -2,6 +2,7 @@
 mod asked;
 mod counted;
 mod given;
+mod states;
 mod sync;
 mod tasks;
 mod threads;

@@ -29,6 +29,17 @@ fn sends_that_do_not_wait_for_the_lock(rt: HostRuntime) {
 }
 
 #[test]
+fn a_views_realtime_forms_hand_their_messages_on(rt: HostRuntime) {
+    let (sender, receiver) = ends::<u64>(&rt, 4);
+    let view = sender.as_sync();
+    let mut option = Some(2);
+    equal(&rt, view.try_send_realtime(1), Ok(true));
+    equal(&rt, receiver.try_recv(&rt), Ok(Some(1)));
+    equal(&rt, view.try_send_option_realtime(&mut option), Ok(true));
+    equal(&rt, receiver.try_recv(&rt), Ok(Some(2)));
+}
+
+#[test]
 fn sends_until_a_deadline(rt: HostRuntime) {
     let (sender, _receiver) = ends::<u64>(&rt, 1);
     let view = sender.as_sync();

@@ -1,5 +1,7 @@
 //! Several threads on each side: all that was sent arrives, once.
-use super::starts::{Sent, Tally, receive_all, start_numbers, start_receive_all};
+use super::starts::{
+    Sent, Tally, receive_all, start_numbers, start_receive_all, start_receive_in_turns,
+};
 use crate::tests::given::{endless, ends, equal, holds};
 use kanal::{Receiver, Sender};
 use std::alloc::AllocGlobal;
@@ -172,4 +174,20 @@ fn eight_senders_without_a_buffer(rt: HostRuntime) {
     holds(&rt, join_senders(&rt, started));
     equal(&rt, rest.sum.wrapping_add(first), 39600);
     equal(&rt, rest.count, 8 * 99 - 1);
+}
+
+/// Each receiver waits for a short time again and again, so that messages and deadlines meet.
+#[test]
+fn crowds_that_receive_until_deadlines(rt: HostRuntime) {
+    let (sender, receiver) = ends::<u64>(&rt, 0);
+    let other = one_more_receiver(&rt, &receiver);
+    let sending = start_senders(rt, &sender, 4, 0);
+    drop(sender);
+    let mut receiving = Vec::new(rt.alloc());
+    for receiver in [receiver, other] {
+        let thread = start_receive_in_turns(rt, receiver);
+        receiving.push(thread).expect(&rt, "memory for a thread");
+    }
+    holds(&rt, join_senders(&rt, sending));
+    equal(&rt, Some(join_receivers(&rt, receiving)), FROM_FOUR);
 }

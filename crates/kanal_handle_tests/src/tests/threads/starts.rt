@@ -1,12 +1,13 @@
 //! Threads that send or receive, each over a channel of numbers.
 //!
 //! The tests between threads start them here: one function starts one kind of thread.
-use kanal::error::{ReceiveError, SendError};
-use kanal::{Receiver, Sender};
+use kanal::error::{ReceiveError, ReceiveErrorTimeout, SendError};
+use kanal::{Receiver, Sender, SystemClock};
 use std::process::Abort;
 use std::sync::Wait;
-use std::thread;
 use std::thread::{JoinHandle, Threads};
+use std::time::Duration;
+use std::{thread, time};
 
 /// What a thread that sends answers.
 pub type Sent = Result<(), SendError>;
@@ -76,4 +77,35 @@ pub fn start_receive_all<R: Threads + Wait + Abort + Copy + Send + 'static>(
     receiver: Receiver<u64>,
 ) -> JoinHandle<Tally> {
     thread::spawn(&rt, move || receive_all(&rt, &receiver)).expect(&rt, "a thread")
+}
+
+/// How often a receiver waits for its turn before it gives up.
+const LOOKS: u32 = 1_000_000;
+
+/// For how many microseconds it waits in a turn.
+const TURN: u64 = 50;
+
+/// Receives by calls that wait for so short a time each, until the channel ends.
+pub fn receive_in_turns<R: Wait + time::Clock>(rt: &R, receiver: &Receiver<u64>) -> Tally {
+    let clock = SystemClock::new(rt);
+    let mut tally = Tally { count: 0, sum: 0 };
+    for _ in 0..LOOKS {
+        match receiver.recv_timeout(rt, Duration::from_micros(TURN), &clock) {
+            Ok(number) => {
+                tally.count = tally.count.wrapping_add(1);
+                tally.sum = tally.sum.wrapping_add(number);
+            },
+            Err(ReceiveErrorTimeout::Timeout) => {},
+            Err(_) => break,
+        }
+    }
+    tally
+}
+
+/// Receives so in a thread.
+pub fn start_receive_in_turns<R: Threads + Wait + time::Clock + Abort + Copy + Send + 'static>(
+    rt: R,
+    receiver: Receiver<u64>,
+) -> JoinHandle<Tally> {
+    thread::spawn(&rt, move || receive_in_turns(&rt, &receiver)).expect(&rt, "a thread")
 }

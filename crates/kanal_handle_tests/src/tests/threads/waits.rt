@@ -2,8 +2,10 @@
 use super::starts::{pass_turns, start_numbers, start_receive};
 use crate::tests::given::{ends, equal, holds};
 use kanal::{Receiver, Sender};
+use std::process::Abort;
 use std::sync::Wait;
 use std::thread;
+use std::thread::{JoinHandle, Threads};
 
 /// How often a test looks before it gives up.
 const LOOKS: u32 = 10_000_000;
@@ -17,6 +19,14 @@ fn send_to_a_waiter<R: Wait>(rt: &R, sender: &Sender<u64>, message: u64) -> bool
         thread::yield_now();
     }
     false
+}
+
+/// Sends 7 from a thread as soon as a receiver waits.
+fn start_to_a_waiter<R: Threads + Wait + Abort + Copy + Send + 'static>(
+    rt: R,
+    sender: Sender<u64>,
+) -> JoinHandle<bool> {
+    thread::spawn(&rt, move || send_to_a_waiter(&rt, &sender, 7)).expect(&rt, "a thread")
 }
 
 /// Receives as soon as a sender waits at a channel with no buffer.
@@ -77,6 +87,17 @@ fn a_waiting_sender_hands_over_its_message(rt: HostRuntime) {
     let thread = start_numbers(rt, sender, 7, 8);
     equal(&rt, receive_from_a_waiter(&rt, &receiver), Some(7));
     equal(&rt, thread.join(&rt), Ok(()));
+}
+
+/// A loop over messages waits where there is none.
+#[test]
+fn a_loop_over_messages_waits(rt: HostRuntime) {
+    let (sender, mut receiver) = ends::<u64>(&rt, 0);
+    let other = sender.clone(&rt).expect(&rt, "a clone");
+    let thread = start_to_a_waiter(rt, other);
+    equal(&rt, receiver.iter(&rt).next(), Some(7));
+    holds(&rt, thread.join(&rt));
+    drop(sender);
 }
 
 /// A drain takes the messages of waiting senders, too.

@@ -1,6 +1,6 @@
 //! Timed receives.
-use super::clocks::{Last, Rising, Still};
-use crate::tests::given::{ends, equal};
+use super::clocks::{Hour, Last, Looking, Rising, Still};
+use crate::tests::given::{ends, equal, holds};
 use kanal::error::ReceiveErrorTimeout;
 use kanal::error::ReceiveErrorTimeout::{Closed, DeadlineOutOfRange, SendClosed, Timeout};
 use kanal::{Clock, Receiver};
@@ -78,4 +78,22 @@ fn a_late_receive_on_a_closed_channel(rt: HostRuntime) {
     let (_sender, receiver) = ends::<u64>(&rt, 1);
     equal(&rt, receiver.close(&rt), Ok(()));
     refuses(&rt, &receiver, 0, &Rising::new(), Closed);
+}
+
+#[test]
+fn a_wait_looks_at_its_clock_again(rt: HostRuntime) {
+    let (_sender, receiver) = ends::<u64>(&rt, 1);
+    let got = receiver.recv_timeout(&rt, Duration::from_secs(3600), &Hour::new());
+    equal(&rt, got, Err(ReceiveErrorTimeout::Timeout));
+}
+
+#[test]
+fn no_clock_is_read_under_the_lock(rt: HostRuntime) {
+    let (sender, receiver) = ends::<u64>(&rt, 1);
+    drop(sender);
+    let other = receiver.clone(&rt).expect(&rt, "a clone");
+    let clock = Looking::new(other);
+    let got = receiver.recv_timeout(&rt, Duration::from_nanos(1), &clock);
+    equal(&rt, got, Err(ReceiveErrorTimeout::SendClosed));
+    holds(&rt, !clock.was_held());
 }

@@ -129,7 +129,9 @@ impl<T: Drop> Locked<'_, T> {
     /// ```
     #[inline]
     pub fn give_back(self, owed: Owed<T>) {
-        self.give_back_left(Left { taken: None }, owed);
+        let shared = self.shared;
+        self.release();
+        shared.finish(owed);
     }
 
     /// The same, of a lock that one try got: what the notices took out is settled first.
@@ -138,10 +140,7 @@ impl<T: Drop> Locked<'_, T> {
         let shared = self.shared;
         self.release();
         left.settle();
-        owed.settle();
-        if !shared.is_quiet() {
-            shared.look();
-        }
+        shared.finish(owed);
     }
 
     /// Releases the lock, and hands back what the step owes: the caller settles that later.
@@ -280,6 +279,16 @@ impl<T: Drop> Shared<T> {
     #[inline]
     fn is_quiet(&self) -> bool {
         self.notices.load(SeqCst) == 0
+    }
+
+    /// The end of each call that had the lock, which is released: tells those whose waits it ended, and
+    /// looks for new notices.
+    #[inline]
+    fn finish(&self, owed: Owed<T>) {
+        owed.settle();
+        if !self.is_quiet() {
+            self.look();
+        }
     }
 
     /// Applies notices while there are some and the lock is free, and looks at most 64 times.

@@ -4,7 +4,7 @@
 //! that left the core; what it owes to those whose waits it settled or ended is an `Owed`. Nothing is
 //! settled or let go here, since the lock is held. A handle changes a core by a step or by the core's
 //! own calls, and by nothing else.
-ghost use Rattle.std.specs.Prelude.{◌≡◌, ◌↔◌, ◌+◌, ◌≤◌, ◌++◌, List, [], ◌∷◌, IsSome, true, cond, map, length, IfOk, IfErr, OnErr, IsErr, IsErrOf};
+ghost use Rattle.std.specs.Prelude.{◌≡◌, ◌↔◌, ◌+◌, ◌^◌, ◌<◌, ◌≤◌, ◌++◌, List, [], ◌∷◌, IsSome, true, cond, map, length, IfOk, IfErr, OnErr, IsErr, IsErrOf};
 ghost use Rattle.std.specs.Vec.{vec_capacity, vec_len};
 ghost use Rattle.kanal_core.specs.Line.{messages};
 ghost use Rattle.kanal_core.specs.Moves.{cleared, close, drain, drop_receiver, drop_sender};
@@ -12,19 +12,22 @@ ghost use Rattle.kanal_core.specs.Channel.{closed, after_drain, ended_by, line_o
 ghost use Rattle.kanal_core.specs.Waiters.{sender_first, waiter_of};
 ghost use Rattle.kanal_core.specs.Calls.{IsFull, IsEmpty, MovesTo, OldestLeft};
 ghost use Rattle.kanal_core.specs.declared.internal.outcome.Waiter.{Waiter};
-ghost use Rattle.kanal_steps.specs.Leaving.{LeaveInTurn, kept_of, kept_by, kept_from};
+ghost use Rattle.kanal_steps.specs.Leaving.{LeaveInTurn, kept_of, kept_by};
 ghost use Rattle.kanal_steps.specs.Owing.{first, settled_in, waits_in};
 ghost use Rattle.kanal_steps.specs.Renewing.{Renews};
 ghost use Rattle.kanal_steps.specs.Seats.{Boxed};
 ghost use Rattle.kanal_steps.specs.Steps.{TriesToSend, TriesToReceive, RefusesDrain, Sends, SendSeats, WaitsToSend, WaitingSeats, ReceivesLate, Receives, ReceiveSeats, WaitsToReceive, AwaitingSeats, drops_last, receivers_dropped, senders_dropped, times};
 
 use crate::owed::Owed;
-use crate::seat::{Core, Seat};
+use crate::seat::{Core, Leavers, Seat};
 use futures::task::Waker;
 use kanal_core::error::{
     CloseError, DrainError, ReceiveError, ReceiveErrorTimeout, SendError, WaitError,
 };
 use kanal_core::internal::{Cleared, Closing, Offer, Reason, Take, Ticket, Waiter};
+
+/// How many waits that were left are withdrawn at most at once: more are never there.
+const MOST: u64 = 1 << 62;
 
 /// What the offer of a message came to, in a call that doesn't wait for a place.
 #[derive(Drop)]
@@ -373,41 +376,46 @@ pub fn drop_receivers<T: Drop>(core: &mut Core<T>, count: u64) -> Owed<T>
     Owed::nothing()
 }
 
-/// Puts the entry's message into its own seat, in front of the chain.
-fn keep<T: Drop>(waiter: Waiter<T, Box<Seat<T>>>, next: Option<Box<Seat<T>>>) -> Box<Seat<T>>
-    ensures kept { kept_from result.value ≡ kept_of waiter ∷ kept_by next }
+/// Keeps the entry in the room of its own seat, in front of those that left before.
+fn keep<T: Drop>(waiter: Waiter<T, Box<Seat<T>>>, before: Option<Leavers<T>>) -> Leavers<T>
+    requires few { length (kept_by before) < 2 ^ 62 }
+    ensures kept { result ≡ kept_of waiter ∷ kept_by before }
 {
     let Waiter {
         ticket: _,
         message,
         w,
     } = waiter;
-    let mut seat = w;
-    seat.message = message;
-    seat.next = next;
-    seat
+    let mut leavers = Box::into_inner(w).keep(message);
+    let Some(mut before) = before else {
+        return leavers;
+    };
+    let Ok(()) = leavers.append(&mut before) else {
+        unreachable!()
+    };
+    leavers
 }
 
-/// Withdraws all waits that were left, and hands out their entries, each in its own seat: the last
-/// that left is the first of the chain. It asks for no memory.
+/// Withdraws all waits that were left, at most 2 to the power of 62 of them, and hands out their
+/// entries, each in the room of its own seat: the last that left comes first. It asks for no memory.
 ///
 /// # Examples
 /// ```text
 /// withdraw_left(&mut core)   answers  None   where everybody who waits still does
 /// ```
-pub fn withdraw_left<T: Drop>(core: &mut Core<T>) -> Option<Box<Seat<T>>>
+pub fn withdraw_left<T: Drop>(core: &mut Core<T>) -> Option<Leavers<T>>
     ensures withdrawn { (gone : List (Waiter T (Boxed T))) × LeaveInTurn core.old gone core.new
         × (kept_by result ≡ map kept_of gone) }
 {
-    let mut chain = None;
-    for _ in 0..u64::MAX {
+    let mut leavers = None;
+    for _count in 0..MOST {
         let Some(ticket) = core.first_waiter(|seat| seat.is_left()) else {
-            return chain;
+            return leavers;
         };
         let Some(waiter) = core.withdraw(ticket) else {
-            return chain;
+            return leavers;
         };
-        chain = Some(keep(waiter, chain));
+        leavers = Some(keep(waiter, leavers));
     }
-    chain
+    leavers
 }

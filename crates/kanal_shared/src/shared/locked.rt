@@ -11,7 +11,7 @@ ghost use Rattle.kanal_shared.specs.Locks.{is_held, takes_nothing};
 use super::Shared;
 use crossbeam_utils::Backoff;
 use kanal_steps::owed::Owed;
-use kanal_steps::seat::{Core, Seat, let_go};
+use kanal_steps::seat::{Core, Leavers};
 use kanal_steps::steps;
 use std::sync::atomic::AtomicU64;
 use std::sync::atomic::Ordering::SeqCst;
@@ -42,7 +42,7 @@ pub struct Locked<'a, T> {
 
 /// What applying the notices took out of the core.
 struct Taken<T> {
-    gone: Option<Box<Seat<T>>>,
+    gone: Option<Leavers<T>>,
     senders: Owed<T>,
     receivers: Owed<T>,
 }
@@ -67,7 +67,7 @@ impl<T: Drop> Taken<T> {
             senders,
             receivers,
         } = self;
-        let_go(gone);
+        drop(gone);
         senders.settle();
         receivers.settle();
     }

@@ -1,5 +1,5 @@
 use Rattle.std.proofs.Common.{length}
-use Rattle.kanal_steps.proofs.seat.settle_all.Given as goal
+use Rattle.kanal_steps.proofs.seat.calls.settle_all.Given as goal
 
 -- each round settles one
 abbrev pub decreases-loop-settled : goal.decreases-loop-settled

@@ -1,14 +1,9 @@
--- The fields of the core and of its rooms, read as what contracts see.
-use Rattle.std.specs.Prelude.{◌≡◌, ℕ, ◌<◌, ◌≤◌, length, Option, Some, None}
+-- The fields of the core, read as what contracts see.
+use Rattle.std.specs.Prelude.{◌≡◌, ◌<◌, length}
 use Rattle.kanal_core.specs.Line.{IsWithin}
 use Rattle.kanal_core.specs.Sided.{IsOneSided, Rises}
 use Rattle.kanal_core.specs.Channel.{Channel}
 use Rattle.kanal_core.specs.declared.internal.ChannelInternal.TheInside.{Inside}
-
--- the room of a limit is there
-abbrev pub HasRoomFor : Option ℕ → ℕ → Type 0
-HasRoomFor None capacity = Unit {0}
-HasRoomFor (Some limit) capacity = limit ≤ capacity
 
 module _ {T W : Type 0} where
   -- the core as contracts see it

@@ -9,6 +9,7 @@ pub mod Channel
 pub mod Calls
 pub mod Endings
 pub mod Rooms
+pub mod Stores
 pub mod Sided
 pub mod Handing
 pub mod CoreLends

@@ -1,35 +1,42 @@
 //! The buffer: a first-in first-out room for messages, with a limit or without.
 //!
-//! Stands on a deque alone. A limited buffer has all its memory from the start, so that entering
-//! it is never refused for memory. Only the core holds one.
+//! Stands on the kit's ring and on a deque. A limited buffer has all its memory from the start, so
+//! that entering it is never refused for memory. Only the core holds one.
 ghost use Rattle.std.specs.Prelude.{◌≡◌, ◌+◌, ◌^◌, ◌<◌, ◌≤◌, [], ◌∷◌, ◌++◌, length, true, IfOk, IfErr, IsOk, OnOk, MatchOption, None, Some};
 ghost use Rattle.std.specs.Vec.{vec_capacity, vec_len};
 ghost use Rattle.kanal_core.specs.Line.{is_below};
 
+use circular_buffer::HeapCircularBuffer;
 use std::alloc::{AllocError, Global};
 use std::collections::VecDeque;
 use std::marker::Model;
 use std::mem;
 
+/// Where the messages lie.
+#[derive(Drop)]
+enum Store<T> {
+    /// For a limit of 0: nowhere.
+    Nothing,
+    /// For a limit above 0: a ring of exactly so many places.
+    Ring(HeapCircularBuffer<T>),
+    /// Without a limit: a deque that grows.
+    Deque(VecDeque<T>),
+}
+
 /// Messages, oldest first.
 #[derive(Drop)]
 pub struct Buffer<T> {
-    messages: VecDeque<T>,
-    limit: Option<usize>,
-    alloc: Global,
+    store: Store<T>,
 }
 
 impl<T> Model for Buffer<T> {
-    ghost use Rattle.std.specs.VecDeque.{deque_capacity};
     ghost use Rattle.kanal_core.specs.Rooms.{Room};
 
     ghost Value = { Room T };
 
-    ghost use Rattle.kanal_core.specs.Inside.{HasRoomFor};
+    ghost use Rattle.kanal_core.specs.Stores.{room_of};
 
-    ghost view = { λ b. record { messages = b.messages.items; limit = b.limit } };
-
-    ghost invariant = { λ b. HasRoomFor b.limit (deque_capacity b.messages) };
+    ghost view = { λ b. room_of b.store };
 }
 
 impl<T> Buffer<T> {
@@ -38,11 +45,14 @@ impl<T> Buffer<T> {
         ensures new { IfOk result (λ b. b ≡ record { messages = []; limit = Some limit }) }
         ensures without_places { limit ≡ 0 → IsOk result }
     {
-        let messages = VecDeque::with_capacity(alloc, limit)?;
+        if limit == 0 {
+            return Ok(Buffer {
+                store: Store::Nothing,
+            });
+        }
+        let ring = HeapCircularBuffer::with_capacity(alloc, limit)?;
         Ok(Buffer {
-            messages,
-            limit: Some(limit),
-            alloc,
+            store: Store::Ring(ring),
         })
     }
 
@@ -51,9 +61,7 @@ impl<T> Buffer<T> {
         ensures { result ≡ record { messages = []; limit = None } }
     {
         Buffer {
-            messages: VecDeque::new(alloc),
-            limit: None,
-            alloc,
+            store: Store::Deque(VecDeque::new(alloc)),
         }
     }
 
@@ -62,20 +70,26 @@ impl<T> Buffer<T> {
         ensures len { result ≡ length self.now.messages }
         ensures small { result < 2 ^ 63 }
     {
-        self.messages.len()
+        match &self.store {
+            Store::Nothing => 0,
+            Store::Ring(ring) => ring.len(),
+            Store::Deque(deque) => deque.len(),
+        }
     }
 
     /// Whether one more message is within the limit.
     pub fn has_place(&self) -> bool
         ensures { result ≡ is_below (length self.now.messages) self.now.limit }
     {
-        match self.limit {
-            None => true,
-            Some(limit) => self.messages.len() < limit,
+        match &self.store {
+            Store::Nothing => false,
+            Store::Ring(ring) => ring.len() < ring.capacity(),
+            Store::Deque(_) => true,
         }
     }
 
     /// Puts a message at the back, or gives it back where an unlimited buffer finds no memory.
+    #[inline(always)]
     pub fn push_back(&mut self, message: T) -> Result<(), T>
         requires { is_below (length self.old.messages) self.old.limit ≡ true }
         ensures entered { OnOk result (self.new
@@ -83,14 +97,18 @@ impl<T> Buffer<T> {
         ensures refused { IfErr result (λ back. (back ≡ message) × (self.new ≡ self.old)
             × (self.old.limit ≡ None)) }
     {
-        match self.limit {
-            None => match self.messages.push_back(message) {
+        match &mut self.store {
+            Store::Nothing => unreachable!(),
+            Store::Ring(ring) => {
+                let oldest = ring.push_back(message);
+                match oldest {
+                    None => Ok(()),
+                    Some(_overwritten) => unreachable!(),
+                }
+            },
+            Store::Deque(deque) => match deque.push_back(message) {
                 Ok(()) => Ok(()),
                 Err(refused) => Err(refused.value),
-            },
-            Some(_) => {
-                self.messages.push_back_reserved(message);
-                Ok(())
             },
         }
     }
@@ -100,7 +118,11 @@ impl<T> Buffer<T> {
         ensures { MatchOption result ((self.old.messages ≡ []) × (self.new ≡ self.old))
             (λ m. (self.old.messages ≡ m ∷ self.new.messages) × (self.new.limit ≡ self.old.limit)) }
     {
-        self.messages.pop_front()
+        match &mut self.store {
+            Store::Nothing => None,
+            Store::Ring(ring) => ring.pop_front(),
+            Store::Deque(deque) => deque.pop_front(),
+        }
     }
 
     /// Moves all messages to the vector's end, which has the room.
@@ -121,11 +143,7 @@ impl<T> Buffer<T> {
         ensures out { result ≡ self.old }
         ensures left { self.new ≡ record { messages = []; limit = Some 0 } }
     {
-        let nothing = Buffer {
-            messages: VecDeque::new(self.alloc),
-            limit: Some(0),
-            alloc: self.alloc,
-        };
-        mem::replace(self, nothing)
+        let store = mem::replace(&mut self.store, Store::Nothing);
+        Buffer { store }
     }
 }

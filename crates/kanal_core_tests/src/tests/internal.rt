@@ -2,5 +2,6 @@
 mod buffer;
 mod calls;
 mod drains;
+mod drops;
 mod handles;
 mod waits;

@@ -73,6 +73,9 @@ fn capacities(rt: HostRuntime) {
     let expected = Some(NewError::TooLarge);
     equal(&rt, refusal(rt.alloc(), usize::MAX), expected);
     equal(&rt, starting_refusal(rt.alloc(), usize::MAX), expected);
+    let expected = Some(NewError::NoMemory);
+    equal(&rt, refusal(rt.alloc(), usize::MAX - 1), expected);
+    equal(&rt, starting_refusal(rt.alloc(), usize::MAX - 1), expected);
 }
 
 #[test]

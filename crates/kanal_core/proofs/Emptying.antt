@@ -1,13 +1,10 @@
 -- Messages that are taken out of waiters, one after another.
-use Rattle.std.proofs.Common.{◌≡◌, ℕ, ◌+◌, ◌≤◌, zero, suc, List, [], ◌∷◌, ◌++◌, length, map, drop, Option, Some, None, slice_get, slice_set, refl, ap, sym, ◌∙◌, arith, append_assoc}
+use Rattle.std.proofs.Common.{◌≡◌, ℕ, ◌≤◌, zero, suc, List, [], ◌∷◌, ◌++◌, length, map, drop, Option, Some, None, refl, ap, sym, ◌∙◌, arith, append_assoc}
 use Rattle.std.specs.List.{cons_option}
 use Rattle.kanal_core.specs.declared.internal.outcome.Waiter.{Waiter}
 use Rattle.kanal_core.specs.Channel.{taken_by}
 use Rattle.kanal_core.specs.Waiters.{brought, emptied}
 use Rattle.kanal_core.specs.Sided.{AllReceive}
-
-next : (n : ℕ) → suc n ≡ n + 1
-next n = omega arith
 
 module _ {T W : Type 0} where
   -- the first n of them without a message
@@ -15,27 +12,6 @@ module _ {T W : Type 0} where
   emptied_to zero xs = xs
   emptied_to (suc n) [] = []
   emptied_to (suc n) (x ∷ xs) = emptied x ∷ emptied_to n xs
-
-  emptied-next : (n : ℕ) (xs : List (Waiter T W)) (x : Waiter T W) → slice_get (emptied_to n xs) n ≡ Some x → slice_set (emptied_to n xs) n (emptied x) ≡ emptied_to (suc n) xs
-  emptied-next zero [] x e = absurd (cc)
-  emptied-next zero (y ∷ xs) x e = let same : y ≡ x = cc (e) in ap (λ z. emptied z ∷ xs) (sym same)
-  emptied-next (suc n) [] x e = absurd (cc)
-  emptied-next (suc n) (y ∷ xs) x e = ap (λ ys. emptied y ∷ ys) (emptied-next n xs x e)
-
-  first-next : (n : ℕ) (xs : List (Waiter T W)) (x : Waiter T W) → slice_get (emptied_to n xs) n ≡ Some x → brought (drop n xs) ≡ cons_option x.message (brought (drop (suc n) xs))
-  first-next zero [] x e = absurd (cc)
-  first-next zero (y ∷ xs) x e = let same : y ≡ x = cc (e) in ap (λ (z : Waiter T W). cons_option z.message (brought xs)) same
-  first-next (suc n) [] x e = absurd (cc)
-  first-next (suc n) (y ∷ xs) x e = first-next n xs x e
-
-  module _ (n : ℕ) (xs : List (Waiter T W)) (x : Waiter T W) (e : slice_get (emptied_to n xs) n ≡ Some x) where
-    -- one more is emptied
-    pub one-more : slice_set (emptied_to n xs) n (emptied x) ≡ emptied_to (n + 1) xs
-    one-more = emptied-next n xs x e ∙ ap (λ k. emptied_to k xs) (next n)
-
-    -- and its message is the first of those that are left
-    pub first-left : brought (drop n xs) ≡ cons_option x.message (brought (drop (n + 1) xs))
-    first-left = first-next n xs x e ∙ ap (λ k. cons_option x.message (brought (drop k xs))) (next n)
 
   pub all-emptied : (n : ℕ) (xs : List (Waiter T W)) → length xs ≤ n → emptied_to n xs ≡ map emptied xs
   all-emptied zero [] h = refl
@@ -57,11 +33,6 @@ module _ {T W : Type 0} where
   pub emptied-taken : (xs : List (Waiter T W)) → map taken_by (map emptied xs) ≡ map taken_by xs
   emptied-taken [] = refl
   emptied-taken (x ∷ xs) = ap (λ ys. taken_by x ∷ ys) (emptied-taken xs)
-
-  pub length-emptied : (n : ℕ) (xs : List (Waiter T W)) → length (emptied_to n xs) ≡ length xs
-  length-emptied zero xs = refl
-  length-emptied (suc n) [] = refl
-  length-emptied (suc n) (x ∷ xs) = ap (λ k. suc k) (length-emptied n xs)
 
 -- a message that a waiter brought is moved to the end, or it brought none
 module _ {T : Type 0} (items new rest left all : List T) (o : Option T) (l : left ≡ cons_option o rest) (e : items ++ left ≡ all) where

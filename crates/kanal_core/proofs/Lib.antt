@@ -1,11 +1,15 @@
 pub mod Bare
 pub mod Within
-pub mod WaiterPlaces
+pub mod Linking
+pub mod Finding
+pub mod Changing
+pub mod Walks
 pub mod Sides
 pub mod Sided
 pub mod Stepping
 pub mod Sounding
 pub mod LettingIn
 pub mod Emptying
+pub mod Taking
 pub mod Dropping
 pub mod Draining

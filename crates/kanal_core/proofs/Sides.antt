@@ -2,7 +2,7 @@
 use Rattle.std.proofs.Common.{◌≡◌, ℕ, ◌+◌, ◌≤◌, ◌<◌, true, false, not, eqb, List, [], ◌∷◌, ◌++◌, map, filter, Option, Some, None, refl, sym, ap, ◌∙◌, inl, inr, arith}
 use Rattle.std.specs.List.{filter_map, cons_option}
 use Rattle.std.specs.Option.{option_map}
-use Rattle.std.proofs.lemmas.Bool.{cases_Bool, eqb-true, ne_eqb}
+use Rattle.std.proofs.lemmas.Bool.{cases_Bool, eq-eqb, ne_eqb}
 use Rattle.kanal_core.specs.declared.internal.outcome.Reason.{Reason}
 use Rattle.kanal_core.specs.declared.internal.outcome.Outcome.{Outcome}
 use Rattle.kanal_core.specs.declared.internal.outcome.Outcome.TheVariants.{Ended}
@@ -11,7 +11,7 @@ use Rattle.kanal_core.specs.declared.internal.outcome.Waiter.{Waiter}
 use Rattle.kanal_core.specs.Line.{Entry, waiting, messages, has, holds_ticket, found}
 use Rattle.kanal_core.specs.Moves.{ended_entry}
 use Rattle.kanal_core.specs.Channel.{entry_of, demand_of, ended_by, settlement}
-use Rattle.kanal_core.specs.Waiters.{waiter_of, without, with_w, same_ticket, brought}
+use Rattle.kanal_core.specs.Waiters.{waiter_of, without, with_w, same_ticket, brought, IsPlaced}
 use Rattle.kanal_core.specs.Sided.{AllSend, AllReceive, Rises}
 
 brought-cons : {T : Type 0} (o : Option T) (n : ℕ) (rest : List (Entry T)) (ms : List T) → messages rest ≡ ms → messages (cons_option (option_map (λ m. waiting m n) o) rest) ≡ cons_option o ms
@@ -184,6 +184,16 @@ module _ {T W : Type 0} (t : Ticket) (w : Waiter T W) (ws : List (Waiter T W)) w
   without-on : same_ticket w.ticket t ≡ false → without t (w ∷ ws) ≡ w ∷ without t ws
   without-on e = rw e refl
 
+same_number : (a b : Ticket) → same_ticket a b ≡ true → a.number ≡ b.number
+same_number a b e = grind arith
+
+same_place : (a b : Ticket) → same_ticket a b ≡ true → a.place ≡ b.place
+same_place a b e = grind arith
+
+-- where equal numbers stand at equal places, unequal tickets have unequal numbers
+other_number : (a b : Ticket) → (a.number ≡ b.number → a.place ≡ b.place) → same_ticket a b ≡ false → eqb a.number b.number ≡ false
+other_number a b placed e = ne_eqb a.number b.number (λ n. let p = placed n in absurd (grind arith))
+
 by_some : {X : Type 0} {a b : X} → Some a ≡ Some b → a ≡ b
 by_some e = cc
 
@@ -191,44 +201,74 @@ some_none : {X : Type 0} {a : X} → Some a ≡ None → ⊥
 some_none e = cc
 
 module _ {T W : Type 0} where
-  pub finds-send : (t : Ticket) (low : ℕ) (ws : List (Waiter T W)) (next : ℕ) → Rises low ws next → AllSend ws → FindsSend t ws (waiter_of t ws)
-  finds-send t low [] next r a = record { none = λ e. refl; some = λ w e. absurd (some_none (sym e)); left = refl }
-  finds-send t low (w ∷ ws) next r a =
+  -- whose number is above those of a ticket is elsewhere
+  placed-above : (t : Ticket) (low : ℕ) (ws : List (Waiter T W)) (next : ℕ) → t.number < low → Rises low ws next → IsPlaced t ws
+  placed-above t low [] next h r = tt
+  placed-above t low (w ∷ ws) next h r = (λ n. absurd (omega (arith, r.0, n)), placed-above t (w.ticket.number + 1) ws next (omega (arith, r.0)) r.1)
+
+  -- a ticket that somebody waits with has its place
+  pub placed-found : (t : Ticket) (low : ℕ) (ws : List (Waiter T W)) (next : ℕ) (x : Waiter T W) → Rises low ws next → waiter_of t ws ≡ Some x → IsPlaced t ws
+  placed-found t low [] next x r is = absurd (cc)
+  placed-found t low (w ∷ ws) next x r is =
       elim (cases_Bool (same_ticket w.ticket t)) [
         | inl e ↦
-            let n : w.ticket.number ≡ t.number = eqb-true w.ticket.number t.number e in
+            let n : w.ticket.number ≡ t.number = same_number w.ticket t e in
+            (λ _. same_place w.ticket t e, placed-above t (w.ticket.number + 1) ws next (omega (arith, n)) r.1)
+        | inr e ↦
+            let rest = sym (on t w ws e) ∙ is in
+            (λ n. absurd (elsewhere t (w.ticket.number + 1) ws next x (omega (arith, n)) r.1 rest), placed-found t (w.ticket.number + 1) ws next x r.1 rest)
+      ]
+    where
+      elsewhere : (t : Ticket) (low : ℕ) (ws : List (Waiter T W)) (next : ℕ) (x : Waiter T W) → t.number < low → Rises low ws next → waiter_of t ws ≡ Some x → ⊥
+      elsewhere t low [] next x h r is = cc
+      elsewhere t low (w ∷ ws) next x h r is =
+          elim (cases_Bool (same_ticket w.ticket t)) [
+            | inl e ↦ let n = same_number w.ticket t e in absurd (omega (arith, r.0, n))
+            | inr e ↦ elsewhere t (w.ticket.number + 1) ws next x (omega (arith, r.0)) r.1 (sym (on t w ws e) ∙ is)
+          ]
+
+  pub finds-send : (t : Ticket) (low : ℕ) (ws : List (Waiter T W)) (next : ℕ) → Rises low ws next → IsPlaced t ws → AllSend ws → FindsSend t ws (waiter_of t ws)
+  finds-send t low [] next r p a = record { none = λ e. refl; some = λ w e. absurd (some_none (sym e)); left = refl }
+  finds-send t low (w ∷ ws) next r p a =
+      elim (cases_Bool (same_ticket w.ticket t)) [
+        | inl e ↦
+            let n : w.ticket.number ≡ t.number = same_number w.ticket t e in
+            let is_it : eqb w.ticket.number t.number ≡ true = eq-eqb w.ticket.number t.number n in
             let rest = above-found t.number (w.ticket.number + 1) ws next (omega (arith, n)) r.1 a.2 in
             record {
               none = λ is. absurd (some_none (sym (here t w ws e) ∙ is));
-              some = λ v is. (a.0, ap (λ x. x.message) (sym (by_some (sym (here t w ws e) ∙ is))) ∙ a.1, send-here t.number w ws a.0 a.1 e rest.0);
-              left = ap entries (without-here t w ws e) ∙ (sym rest.1 ∙ sym (send-left t.number w ws a.0 a.1 e));
+              some = λ v is. (a.0, ap (λ x. x.message) (sym (by_some (sym (here t w ws e) ∙ is))) ∙ a.1, send-here t.number w ws a.0 a.1 is_it rest.0);
+              left = ap entries (without-here t w ws e) ∙ (sym rest.1 ∙ sym (send-left t.number w ws a.0 a.1 is_it));
             }
         | inr e ↦
-            let rest = finds-send t (w.ticket.number + 1) ws next r.1 a.2 in
+            let rest = finds-send t (w.ticket.number + 1) ws next r.1 p.1 a.2 in
+            let off = other_number w.ticket t p.0 e in
             record {
-              none = λ is. send-on t.number w ws a.0 a.1 e ∙ rest.none (sym (on t w ws e) ∙ is);
-              some = λ v is. let there = rest.some v (sym (on t w ws e) ∙ is) in (there.0, there.1, send-on t.number w ws a.0 a.1 e ∙ there.2);
-              left = ap entries (without-on t w ws e) ∙ (send-entries t.number w (without t ws) a.0 a.1 ∙ send-stays t.number w ws a.0 a.1 e (entries (without t ws)) rest.left);
+              none = λ is. send-on t.number w ws a.0 a.1 off ∙ rest.none (sym (on t w ws e) ∙ is);
+              some = λ v is. let there = rest.some v (sym (on t w ws e) ∙ is) in (there.0, there.1, send-on t.number w ws a.0 a.1 off ∙ there.2);
+              left = ap entries (without-on t w ws e) ∙ (send-entries t.number w (without t ws) a.0 a.1 ∙ send-stays t.number w ws a.0 a.1 off (entries (without t ws)) rest.left);
             }
       ]
 
-  pub finds-receive : (t : Ticket) (low : ℕ) (ws : List (Waiter T W)) (next : ℕ) → Rises low ws next → AllReceive ws → FindsReceive t ws (waiter_of t ws)
-  finds-receive t low [] next r a = record { none = λ e. refl; some = λ w e. absurd (some_none (sym e)); left = refl }
-  finds-receive t low (w ∷ ws) next r a =
+  pub finds-receive : (t : Ticket) (low : ℕ) (ws : List (Waiter T W)) (next : ℕ) → Rises low ws next → IsPlaced t ws → AllReceive ws → FindsReceive t ws (waiter_of t ws)
+  finds-receive t low [] next r p a = record { none = λ e. refl; some = λ w e. absurd (some_none (sym e)); left = refl }
+  finds-receive t low (w ∷ ws) next r p a =
       elim (cases_Bool (same_ticket w.ticket t)) [
         | inl e ↦
-            let n : w.ticket.number ≡ t.number = eqb-true w.ticket.number t.number e in
+            let n : w.ticket.number ≡ t.number = same_number w.ticket t e in
+            let is_it : eqb w.ticket.number t.number ≡ true = eq-eqb w.ticket.number t.number n in
             let rest = above-has t.number (w.ticket.number + 1) ws next (omega (arith, n)) r.1 a.1 in
             record {
               none = λ is. absurd (some_none (sym (here t w ws e) ∙ is));
-              some = λ v is. (ap (λ x. x.message) (sym (by_some (sym (here t w ws e) ∙ is))) ∙ a.0, receive-here t.number w ws a.0 e);
-              left = ap demands (without-here t w ws e) ∙ (sym rest.1 ∙ sym (receive-left t.number w ws a.0 e));
+              some = λ v is. (ap (λ x. x.message) (sym (by_some (sym (here t w ws e) ∙ is))) ∙ a.0, receive-here t.number w ws a.0 is_it);
+              left = ap demands (without-here t w ws e) ∙ (sym rest.1 ∙ sym (receive-left t.number w ws a.0 is_it));
             }
         | inr e ↦
-            let rest = finds-receive t (w.ticket.number + 1) ws next r.1 a.1 in
+            let rest = finds-receive t (w.ticket.number + 1) ws next r.1 p.1 a.1 in
+            let off = other_number w.ticket t p.0 e in
             record {
-              none = λ is. receive-on t.number w ws a.0 e ∙ rest.none (sym (on t w ws e) ∙ is);
-              some = λ v is. let there = rest.some v (sym (on t w ws e) ∙ is) in (there.0, receive-on t.number w ws a.0 e ∙ there.1);
-              left = ap demands (without-on t w ws e) ∙ (receive-demands t.number w (without t ws) a.0 ∙ receive-stays t.number w ws a.0 e (demands (without t ws)) rest.left);
+              none = λ is. receive-on t.number w ws a.0 off ∙ rest.none (sym (on t w ws e) ∙ is);
+              some = λ v is. let there = rest.some v (sym (on t w ws e) ∙ is) in (there.0, receive-on t.number w ws a.0 off ∙ there.1);
+              left = ap demands (without-on t w ws e) ∙ (receive-demands t.number w (without t ws) a.0 ∙ receive-stays t.number w ws a.0 off (demands (without t ws)) rest.left);
             }
       ]

@@ -11,14 +11,14 @@ use Rattle.kanal_core.specs.declared.internal.outcome.Waiter.{Waiter}
 use Rattle.kanal_core.specs.Line.{Entry, bare, waiting, tickets, is_below, has, has_place, holds_ticket, found, IsWithin}
 use Rattle.kanal_core.specs.Moves.{Moved, enter, leave, wait_send, wait_recv}
 use Rattle.kanal_core.specs.Channel.{Channel, line_of, entry_of, demand_of}
-use Rattle.kanal_core.specs.Waiters.{same_ticket, waiter_of, without, receiver_first, sender_first}
+use Rattle.kanal_core.specs.Waiters.{same_ticket, waiter_of, without, IsPlaced, receiver_first, sender_first}
 use Rattle.kanal_core.specs.Calls.{Enters, TakesFront, MovesTo, Withdraws}
 use Rattle.kanal_core.specs.Sided.{AllSend, AllReceive, Rises, IsOneSided}
 use Rattle.kanal_core.proofs.Bare.{leave-bare}
 use Rattle.kanal_core.proofs.Sides.{entries, demands, receive-entries, send-demands, sends-without, receives-without, beyond-found, beyond-has, finds-send, finds-receive}
 use Rattle.kanal_core.proofs.Sided.{serve-nothing, no-demand, no-entry}
 
-not-there : {T W : Type 0} (t : Ticket) (ws : List (Waiter T W)) → waiter_of t ws ≡ None → without t ws ≡ ws
+pub not-there : {T W : Type 0} (t : Ticket) (ws : List (Waiter T W)) → waiter_of t ws ≡ None → without t ws ≡ ws
 not-there t [] e = refl
 not-there t (w ∷ ws) e =
     elim (cases_Bool (same_ticket w.ticket t)) [
@@ -130,27 +130,27 @@ module _ {T W : Type 0} (c : Option ℕ) (s r n : ℕ) (ms : List T) (ws : List 
       rw (filter_map-append (entry_of {T = T} {W = W}) ws (record { ticket = t; message = None; w = w } ∷ []), filter_map-append (demand_of {T = T} {W = W}) ws (record { ticket = t; message = None; w = w } ∷ []), append-nil, e) refl
 
 module _ {T W : Type 0} (c : Option ℕ) (s r n : ℕ) (ms : List T) (ws : List (Waiter T W)) (t : Ticket) where
-  send-found : (rises : Rises 0 ws n) (a : AllSend ws) (o : Option (Waiter T W)) → waiter_of t ws ≡ o → Withdraws (line_of (row c s r n ms ws)) t (option_map (λ (w : Waiter T W). w.message) o) (line_of (row c s r n ms (without t ws)))
-  send-found rises a None e =
-      let f = finds-send t 0 ws n rises a in
+  send-found : (rises : Rises 0 ws n) (placed : IsPlaced t ws) (a : AllSend ws) (o : Option (Waiter T W)) → waiter_of t ws ≡ o → Withdraws (line_of (row c s r n ms ws)) t (option_map (λ (w : Waiter T W). w.message) o) (line_of (row c s r n ms (without t ws)))
+  send-found rises placed a None e =
+      let f = finds-send t 0 ws n rises placed a in
       let nothing : found t.number (entries ws) ≡ [] = f.none e in
       let still : without t ws ≡ ws = not-there t ws e in
       (bare-found t.number ms (entries ws) ∙ nothing, rw (send-demands ws a) refl, ap (λ xs. line_of (row c s r n ms xs)) still)
-  send-found rises a (Some w) e =
-      let f = finds-send t 0 ws n rises a in
+  send-found rises placed a (Some w) e =
+      let f = finds-send t 0 ws n rises placed a in
       let it = f.some w e in
       rw it.1 (
         bare-found t.number ms (entries ws) ∙ it.2,
         rw (f.left, bare-without t.number ms (entries ws), send-demands ws a, send-demands (without t ws) (sends-without t ws a)) refl,
       )
 
-  receive-found : (rises : Rises 0 ws n) (a : AllReceive ws) (o : Option (Waiter T W)) → waiter_of t ws ≡ o → Withdraws (line_of (row c s r n ms ws)) t (option_map (λ (w : Waiter T W). w.message) o) (line_of (row c s r n ms (without t ws)))
-  receive-found rises a None e =
-      let f = finds-receive t 0 ws n rises a in
+  receive-found : (rises : Rises 0 ws n) (placed : IsPlaced t ws) (a : AllReceive ws) (o : Option (Waiter T W)) → waiter_of t ws ≡ o → Withdraws (line_of (row c s r n ms ws)) t (option_map (λ (w : Waiter T W). w.message) o) (line_of (row c s r n ms (without t ws)))
+  receive-found rises placed a None e =
+      let f = finds-receive t 0 ws n rises placed a in
       let still : without t ws ≡ ws = not-there t ws e in
       (bare-found t.number ms (entries ws) ∙ rw (receive-entries ws a) refl, f.none e, ap (λ xs. line_of (row c s r n ms xs)) still)
-  receive-found rises a (Some w) e =
-      let f = finds-receive t 0 ws n rises a in
+  receive-found rises placed a (Some w) e =
+      let f = finds-receive t 0 ws n rises placed a in
       let it = f.some w e in
       rw it.0 (
         bare-found t.number ms (entries ws) ∙ rw (receive-entries ws a) refl,
@@ -176,7 +176,7 @@ module _ {T W : Type 0} (c : Option ℕ) (s r n : ℕ) (ms : List T) (ws : List 
   waits-full (inr (inl send)) = inr send.1
   waits-full (inr (inr receive)) = inl (rw (receive-entries ws receive.0, append-nil) refl)
 
-  pub withdraws : (rises : Rises 0 ws n) → IsOneSided ms c ws → Withdraws (line_of (row c s r n ms ws)) t (option_map (λ (w : Waiter T W). w.message) (waiter_of t ws)) (line_of (row c s r n ms (without t ws)))
-  withdraws rises (inl none) = receive-found rises (rw none tt) (waiter_of t ws) refl
-  withdraws rises (inr (inl send)) = send-found rises send.0 (waiter_of t ws) refl
-  withdraws rises (inr (inr receive)) = receive-found rises receive.0 (waiter_of t ws) refl
+  pub withdraws : (rises : Rises 0 ws n) → IsPlaced t ws → IsOneSided ms c ws → Withdraws (line_of (row c s r n ms ws)) t (option_map (λ (w : Waiter T W). w.message) (waiter_of t ws)) (line_of (row c s r n ms (without t ws)))
+  withdraws rises placed (inl none) = receive-found rises placed (rw none tt) (waiter_of t ws) refl
+  withdraws rises placed (inr (inl send)) = send-found rises placed send.0 (waiter_of t ws) refl
+  withdraws rises placed (inr (inr receive)) = receive-found rises placed receive.0 (waiter_of t ws) refl

@@ -3,7 +3,10 @@ pub mod Line
 pub mod Tickets
 pub mod Waiters
 pub mod ListLends
-pub mod Places
+pub mod Visits
+pub mod Links
+pub mod SlotLends
+pub mod SlotsLends
 pub mod Moves
 pub mod Channel
 pub mod Calls

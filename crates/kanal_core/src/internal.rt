@@ -9,33 +9,39 @@
 //! counts and the close are in `handles`, the drain is in `draining`, and what can be asked is in
 //! `questions`. Whoever shares a core puts it behind a lock, and settles or drops what a call hands
 //! out only after the release.
-ghost use Rattle.std.specs.Prelude.{◌≡◌, ◌≢◌, ◌⊎◌, ◌≤◌, ℕ, false, ◌↔◌, [], true, length, map, IfOk, IfErr, IsErr, IsErrOf, IsOk, Some, None};
+ghost use Rattle.std.specs.Prelude.{◌≡◌, ◌≢◌, ◌⊎◌, ◌≤◌, ℕ, false, ◌↔◌, [], true, length, map, IfOk, IfErr, IfNone, IsErr, IsErrOf, IsOk, IsSome, Some, None};
 ghost use Rattle.std.specs.Borrow.{sem};
 ghost use Rattle.std.specs.Fn.{FnReturnsAt};
 ghost use Rattle.std.specs.Option.{option_copied_mut, option_map};
 ghost use Rattle.kanal_core.specs.Line.{IsWithin, bare, found, has, has_place, last_word, messages};
 ghost use Rattle.kanal_core.specs.Moves.{wait_send, wait_recv};
 ghost use Rattle.kanal_core.specs.Channel.{line_of, opening, starting};
-ghost use Rattle.kanal_core.specs.Waiters.{waiter_of, without, IsFirstWhere, receiver_first, sender_first};
+ghost use Rattle.kanal_core.specs.Waiters.{behind, waiter_of, without, IsFirstWhere, IsPlaced, receiver_first, sender_first};
 ghost use Rattle.kanal_core.specs.Calls.{WaitsLast, Offers, HasEntered, LacksMemory, Takes, Withdraws, OldestLeft, IsFull, IsEmpty, handed, let_in};
 ghost use Rattle.kanal_core.specs.Handing.{HandsOver, TakesSender, LetsIn, HasOnePlace};
 ghost use Rattle.kanal_core.specs.Sided.{Rises};
+ghost use Rattle.kanal_core.specs.Visits.{RoseByAtMost};
 
 use crate::error::{NewError, WaitError};
 use std::alloc::Global;
 use std::marker::Model;
+use std::sync::ledger::Ledger;
 
 mod buffer;
 mod draining;
 mod handles;
 mod leaving;
+mod links;
 mod outcome;
 mod questions;
+mod slots;
+mod steps;
 mod wait_list;
 
 use buffer::Buffer;
 pub use leaving::{Cleared, Closing, Ended, Left};
 pub use outcome::{Offer, Outcome, Reason, Settled, Take, Ticket, Waiter};
+pub use steps::Steps;
 use wait_list::WaitList;
 
 /// Gives the message to the oldest waiting receiver.
@@ -360,19 +366,30 @@ impl<T, W> ChannelInternal<T, W> {
 
     /// Takes the waiter with the ticket out of the list; `None` if it does not wait here.
     ///
+    /// However many wait, it visits at most four of their slots, which the count tells. A ticket that
+    /// another channel gave finds who waits here under an equal one, and nobody else.
+    ///
     /// # Examples
     /// ```text
-    /// core.withdraw(ticket)   answers  Some(waiter)   with the message, if it is a sender's
-    /// core.withdraw(ticket)   answers  None           after that
+    /// let mut steps = Steps::<Brand>::idle();
+    /// core.withdraw(ticket, &mut steps)   answers  Some(waiter)   with a sender's message
+    /// core.withdraw(ticket, &mut steps)   answers  None           after that
     /// ```
-    pub fn withdraw(&mut self, ticket: Ticket) -> Option<Waiter<T, W>>
-        ensures step { Withdraws (line_of self.old) ticket
+    pub fn withdraw<L: Ledger>(
+        &mut self,
+        ticket: Ticket,
+        steps: &mut Steps<L>,
+    ) -> Option<Waiter<T, W>>
+        ensures step { IsSome result ⊎ IsPlaced ticket self.old.waiters
+            → Withdraws (line_of self.old) ticket
             (option_map (λ (w : Waiter T W). w.message) result) (line_of self.new) }
+        ensures missing { IfNone result (self.new ≡ self.old) }
         ensures waiter { result ≡ waiter_of ticket self.old.waiters }
         ensures others { self.new.waiters ≡ without ticket self.old.waiters }
         ensures ticket { self.new.next ≡ self.old.next }
+        ensures visits { RoseByAtMost 4 steps.old steps.new }
     {
-        self.waiters.remove(ticket)
+        self.waiters.remove(ticket, steps)
     }
 
     /// Lends what the waiter with the ticket brought; `None` if it does not wait here.
@@ -405,6 +422,21 @@ impl<T, W> ChannelInternal<T, W> {
         ensures { IsFirstWhere (FnReturnsAt F.Fn test) self.now.waiters result }
     {
         self.waiters.first_waiter(test)
+    }
+
+    /// The ticket of the oldest waiter behind the one with this ticket whose W passes the test;
+    /// `None` too where the ticket doesn't wait.
+    ///
+    /// # Examples
+    /// ```text
+    /// let oldest = core.first_waiter(|w| w.has_left())?;
+    /// core.next_waiter(oldest, |w| w.has_left())   answers  the ticket of the next that has left, or None
+    /// ```
+    pub fn next_waiter<F: Fn(&W) -> bool + Drop>(&self, ticket: Ticket, test: F) -> Option<Ticket>
+        requires { F.IsAlwaysCallable test }
+        ensures { IsFirstWhere (FnReturnsAt F.Fn test) (behind ticket self.now.waiters) result }
+    {
+        self.waiters.next_waiter(ticket, test)
     }
 
     /// What holds of every channel, for a caller's proof; it does nothing when it runs.

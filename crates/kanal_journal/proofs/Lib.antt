@@ -16,6 +16,7 @@ pub mod Along
 pub mod Weighing
 pub mod Headline
 pub mod Numbering
+pub mod Giving
 pub mod Withdrawing
 pub mod Counting
 pub mod Noting

@@ -14,7 +14,7 @@ use Rattle.kanal_journal.specs.declared.journal.event.Settlement.{Settlement}
 use Rattle.kanal_journal.specs.declared.journal.calls.Made.{Made}
 use Rattle.kanal_journal.specs.declared.journal.running.Running.{Running}
 use Rattle.kanal_journal.specs.Runs.{Account, IsTold, added, numbered as with_number, handles_after, opening, opening_line}
-use Rattle.kanal_journal.specs.Given.{AreNumbered, waiting_count}
+use Rattle.kanal_journal.specs.Given.{AreGiven, waiting_count}
 use Rattle.kanal_journal.specs.Made.{told_of, reply_of, settled_of, cleared_of, IsAnswered}
 use Rattle.kanal_journal.specs.Running.{IsNoted, IsOpened, IsWithinEvents, IsSame, account_of}
 use Rattle.kanal_journal.proofs.Counting.{told-counts, told-count}
@@ -82,10 +82,10 @@ module _ {T : Type 0} where
       (told-count old below handles e (told_of new is.messages made) is.told, omega (arith, k.left, ap length is.drained, length-append before is.messages), omega (arith, k.left))
 
   -- where the account is the same, no more is there
-  pub within-same : (n : ℕ) (replies : List (Reply T)) (old new : Running T) → account_of replies new ≡ account_of replies old → AreNumbered 0 new.tickets.items new.core.next → IsWithinEvents n old → IsWithinEvents n new
-  within-same n replies old new is numbered within =
+  pub within-same : (n : ℕ) (replies : List (Reply T)) (old new : Running T) → account_of replies new ≡ account_of replies old → AreGiven new.tickets.items new.core → IsWithinEvents n old → IsWithinEvents n new
+  within-same n replies old new is given within =
       record {
-        numbered = numbered;
+        tickets = given;
         given = omega (arith, ap (λ (a : Account T). a.line.next) is, within.given);
         waiting = omega (arith, ap (λ (a : Account T). length a.settled + waiting_count a.line) is, within.waiting);
         drains = omega (arith, ap (λ (a : Account T). length a.drained + length a.line.line) is, within.drains);
@@ -103,9 +103,9 @@ module _ {T : Type 0} where
   -- and no more is there
   pub same-within : (n : ℕ) (old new : Running T) → IsSame old new → IsWithinEvents n old → IsWithinEvents n new
   same-within n old new same within =
-      let N : List Ticket → Type 0 = λ ts. AreNumbered 0 ts old.core.next in
-      let C : Channel T (Unit {0}) → Type 0 = λ k. AreNumbered 0 new.tickets.items k.next in
-      within-same n [] old new (same-told [] old new same) (subst C (sym same.core) (subst N (sym same.tickets) within.numbered)) within
+      let N : List Ticket → Type 0 = λ ts. AreGiven ts old.core in
+      let C : Channel T (Unit {0}) → Type 0 = λ k. AreGiven new.tickets.items k in
+      within-same n [] old new (same-told [] old new same) (subst C (sym same.core) (subst N (sym same.tickets) within.tickets)) within
 
   -- nothing was told yet on a new channel
   pub opened-told : (capacity : Option ℕ) (r : Running T) → IsOpened capacity r → account_of [] r ≡ opening capacity
@@ -116,14 +116,14 @@ module _ {T : Type 0} where
   -- one event more brings no more than one event can
   pub within-next : (n : ℕ) (old new : Running T) (e : Event T) (made : Made T) → tickets (under old.core.capacity (line_of old.core).line) ≡ [] → IsWithinEvents n old
       → IsAnswered old.handles (line_of old.core) e (line_of new.core) old.drained.items new.drained.items made → new.handles ≡ handles_after old.handles e (reply_of made)
-      → AreNumbered 0 new.tickets.items new.core.next → length new.tickets.items ≤ length old.tickets.items + 1
+      → AreGiven new.tickets.items new.core → length new.tickets.items ≤ length old.tickets.items + 1
       → new.settled.items ≡ old.settled.items ++ with_number n (settled_of made) → new.cleared.items ≡ old.cleared.items ++ cleared_of made → IsWithinEvents (n + 1) new
-  within-next n old new e made below within answered handles numbered one settled cleared =
+  within-next n old new e made below within answered handles given one settled cleared =
       let counts = answered-counts old.handles (line_of old.core) (line_of new.core) e old.drained.items new.drained.items made below answered in
-      let more = numbered-more old.tickets.items new.tickets.items old.core.next new.core.next within.numbered numbered one in
+      let more = numbered-more old.tickets.items new.tickets.items old.core.next new.core.next within.tickets.numbered given.numbered one in
       let few = few-more old.handles e (reply_of made) in
       record {
-        numbered = numbered;
+        tickets = given;
         given = omega (arith, more, within.given);
         waiting = omega (arith, counts.0, more, within.waiting, noted-count n old.settled.items new.settled.items (settled_of made) settled);
         drains = omega (arith, counts.1, within.drains);

@@ -144,7 +144,7 @@ module _ {T : Type 0} where
           let now : IsWithinEvents (length entries) start = same-within (length entries) old.running start same (let V : List (Entry T) → Type 0 = λ es. IsWithinEvents (length es) old.running in subst V (sym kept) sound.within) in (
             record {
               replays = subst P (sym all) sound.replays;
-              within = subst W (ap length (sym is)) (within-same (length entries) (replies_of entries) start mid m.1 within.numbered now);
+              within = subst W (ap length (sym is)) (within-same (length entries) (replies_of entries) start mid m.1 within.tickets now);
             },
             inl (m.0, all),
           )

@@ -6,7 +6,7 @@ use Rattle.kanal_journal.specs.declared.journal.event.Reply.{Reply}
 use Rattle.kanal_journal.specs.declared.journal.running.Running.{Running}
 use Rattle.kanal_journal.specs.Steps.{Told}
 use Rattle.kanal_journal.specs.Runs.{Account, Answers, handles_after, numbered as with_number}
-use Rattle.kanal_journal.specs.Given.{AreNumbered, waiting_count}
+use Rattle.kanal_journal.specs.Given.{AreGiven, waiting_count}
 
 module _ {T : Type 0} where
   -- all that was told, where these were the replies
@@ -43,7 +43,7 @@ module _ {T : Type 0} where
 
   -- no more is there than so many events can have brought
   pub record IsWithinEvents (events : ℕ) (r : Running T) : Type 0 where
-    pub numbered : AreNumbered 0 r.tickets.items r.core.next
+    pub tickets : AreGiven r.tickets.items r.core
     pub given : r.core.next ≤ events
     pub waiting : length r.settled.items + waiting_count (line_of r.core) ≤ events
     pub drains : length r.drained.items + length (line_of r.core).line ≤ events

@@ -78,7 +78,7 @@ impl<T: Drop> Shared<T> {
             ticket: _,
             message,
             w,
-        } = self.ask(rt, |core| core.withdraw(ticket))?;
+        } = self.ask(rt, |core| steps::withdraw(core, ticket))?;
         drop(w);
         Some(message)
     }
@@ -87,7 +87,7 @@ impl<T: Drop> Shared<T> {
     pub(crate) fn leave(&self, ticket: Ticket) {
         match self.try_hold() {
             Some((mut locked, left)) => {
-                let found = locked.core.withdraw(ticket);
+                let found = steps::withdraw(&mut locked.core, ticket);
                 locked.give_back_left(left, Owed::nothing());
                 drop(found);
             },

@@ -4,13 +4,14 @@
 //! that left the core; what it owes to those whose waits it settled or ended is an `Owed`. Nothing is
 //! settled or let go here, since the lock is held. A handle changes a core by a step or by the core's
 //! own calls, and by nothing else.
-ghost use Rattle.std.specs.Prelude.{◌≡◌, ◌↔◌, ◌+◌, ◌^◌, ◌<◌, ◌≤◌, ◌++◌, List, [], ◌∷◌, IsSome, true, cond, map, length, IfOk, IfErr, OnErr, IsErr, IsErrOf};
+ghost use Rattle.std.specs.Prelude.{◌≡◌, ◌⊎◌, ◌↔◌, ◌+◌, ◌^◌, ◌<◌, ◌≤◌, ◌++◌, List, [], ◌∷◌, IsSome, true, cond, map, length, IfNone, IfOk, IfErr, OnErr, IsErr, IsErrOf};
+ghost use Rattle.std.specs.Option.{option_map};
 ghost use Rattle.std.specs.Vec.{vec_capacity, vec_len};
 ghost use Rattle.kanal_core.specs.Line.{messages};
 ghost use Rattle.kanal_core.specs.Moves.{cleared, close, drain, drop_receiver, drop_sender};
 ghost use Rattle.kanal_core.specs.Channel.{closed, after_drain, ended_by, line_of, taken_by};
-ghost use Rattle.kanal_core.specs.Waiters.{sender_first, waiter_of};
-ghost use Rattle.kanal_core.specs.Calls.{IsFull, IsEmpty, MovesTo, OldestLeft};
+ghost use Rattle.kanal_core.specs.Waiters.{IsPlaced, sender_first, waiter_of, without};
+ghost use Rattle.kanal_core.specs.Calls.{IsFull, IsEmpty, MovesTo, OldestLeft, Withdraws};
 ghost use Rattle.kanal_core.specs.declared.internal.outcome.Waiter.{Waiter};
 ghost use Rattle.kanal_steps.specs.Leaving.{LeaveInTurn, kept_of, kept_by};
 ghost use Rattle.kanal_steps.specs.Owing.{first, settled_in, waits_in};
@@ -24,7 +25,8 @@ use futures::task::Waker;
 use kanal_core::error::{
     CloseError, DrainError, ReceiveError, ReceiveErrorTimeout, SendError, WaitError,
 };
-use kanal_core::internal::{Cleared, Closing, Offer, Reason, Take, Ticket, Waiter};
+use kanal_core::internal::{Cleared, Closing, Offer, Reason, Steps, Take, Ticket, Waiter};
+use std::marker::Brand;
 
 /// How many waits that were left are withdrawn at most at once: more are never there.
 const MOST: u64 = 1 << 62;
@@ -376,6 +378,25 @@ pub fn drop_receivers<T: Drop>(core: &mut Core<T>, count: u64) -> Owed<T>
     Owed::nothing()
 }
 
+/// Takes a waiter's entry out, if the ticket waits, and counts no visit.
+///
+/// # Examples
+/// ```text
+/// withdraw(&mut core, ticket)   answers  Some(waiter)   with a sender's message
+/// withdraw(&mut core, ticket)   answers  None           after that
+/// ```
+pub fn withdraw<T: Drop>(core: &mut Core<T>, ticket: Ticket) -> Option<Waiter<T, Box<Seat<T>>>>
+    ensures step { IsSome result ⊎ IsPlaced ticket core.old.waiters
+        → Withdraws (line_of core.old) ticket
+        (option_map (λ (w : Waiter T (Boxed T)). w.message) result) (line_of core.new) }
+    ensures missing { IfNone result (core.new ≡ core.old) }
+    ensures waiter { result ≡ waiter_of ticket core.old.waiters }
+    ensures others { core.new.waiters ≡ without ticket core.old.waiters }
+{
+    let mut steps = Steps::<Brand>::idle();
+    core.withdraw(ticket, &mut steps)
+}
+
 /// Keeps the entry in the room of its own seat, in front of those that left before.
 fn keep<T: Drop>(waiter: Waiter<T, Box<Seat<T>>>, before: Option<Leavers<T>>) -> Leavers<T>
     requires few { length (kept_by before) < 2 ^ 62 }
@@ -397,7 +418,8 @@ fn keep<T: Drop>(waiter: Waiter<T, Box<Seat<T>>>, before: Option<Leavers<T>>) ->
 }
 
 /// Withdraws all waits that were left, at most 2 to the power of 62 of them, and hands out their
-/// entries, each in the room of its own seat: the last that left comes first. It asks for no memory.
+/// entries, each in the room of its own seat: the last that left comes first. It asks for no memory,
+/// and goes through those who wait once.
 ///
 /// # Examples
 /// ```text
@@ -408,11 +430,13 @@ pub fn withdraw_left<T: Drop>(core: &mut Core<T>) -> Option<Leavers<T>>
         × (kept_by result ≡ map kept_of gone) }
 {
     let mut leavers = None;
+    let mut found = core.first_waiter(|seat| seat.is_left());
     for _count in 0..MOST {
-        let Some(ticket) = core.first_waiter(|seat| seat.is_left()) else {
+        let Some(ticket) = found else {
             return leavers;
         };
-        let Some(waiter) = core.withdraw(ticket) else {
+        found = core.next_waiter(ticket, |seat| seat.is_left());
+        let Some(waiter) = withdraw(core, ticket) else {
             return leavers;
         };
         leavers = Some(keep(waiter, leavers));

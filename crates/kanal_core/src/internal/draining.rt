@@ -72,7 +72,9 @@ impl<T, W> ChannelInternal<T, W> {
         if self.receivers == 0 {
             return Err(DrainError::Closed);
         }
-        let count = self.buffer.len() + self.waiters.senders_len();
+        let Some(count) = self.buffer.len().checked_add(self.waiters.senders_len()) else {
+            return Err(DrainError::NoMemory);
+        };
         reserve(into, count)?;
         self.buffer.move_into(into);
         Ok((count, Ended::taken(&mut self.waiters, into, self.alloc)))

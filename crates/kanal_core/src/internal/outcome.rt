@@ -5,12 +5,14 @@
 ghost use Rattle.std.specs.Prelude.{◌≡◌, IsSome, Some, None};
 ghost use Rattle.kanal_core.specs.Tickets.{number_of};
 
-/// What a started wait is known by.
+/// What a started wait is known by: its number, and the place where it waits.
 ///
-/// Tickets are numbered from 0, sends and receives together, and no number is given twice.
+/// Tickets are numbered from 0, sends and receives together, and no number is given twice. A place
+/// is given again once who waited there has left. Two tickets are equal if both parts are.
 #[derive(Clone, Copy, Debug, PartialEq, Eq)]
 pub struct Ticket {
     pub(crate) number: u64,
+    pub(crate) place: usize,
 }
 
 impl Ticket {

@@ -1,26 +1,35 @@
 //! The list of those that wait, oldest first.
 //!
-//! Stands on a deque alone. Only the core, and what it hands out at an end, hold one. A waiter is
-//! named by its ticket; no other module knows where in the list it stands.
-ghost use Rattle.std.specs.Prelude.{◌≡◌, ◌+◌, ◌^◌, ◌<◌, ◌≤◌, [], ◌++◌, cond, length, map, IfOk, IfErr};
+//! Stands on linked slots alone. Only the core, and what it hands out at an end, hold one. A waiter
+//! is named by its ticket, which has the place of its slot, so that one which leaves is found at
+//! once; no other module reads that place. A place is used again after its waiter has left, and the
+//! ticket's number then tells the two apart.
+ghost use Rattle.std.specs.Prelude.{◌≡◌, ◌+◌, ◌≤◌, ℕ, [], ◌++◌, cond, drop, length, map, slice_get, IfErr, IfNone, IfOk, IfSome, option_copied};
 ghost use Rattle.std.specs.Vec.{vec_capacity, vec_len};
 ghost use Rattle.std.specs.Borrow.{sem};
 ghost use Rattle.std.specs.Fn.{FnReturnsAt};
 ghost use Rattle.std.specs.Option.{option_copied_mut, option_map};
+ghost use Rattle.slab.specs.Slab.{get};
 ghost use Rattle.kanal_core.specs.Calls.{TakesFirst, WaitsLast};
-ghost use Rattle.kanal_core.specs.Places.{TakesMessage, place_of};
-ghost use Rattle.kanal_core.specs.Waiters.{brought, emptied, waiter_of, without, IsFirstWhere, receiver_first, sender_first};
+ghost use Rattle.kanal_core.specs.Links.{IsFree, IsHeld, IsOneOut, TakesMessageAt, first_place, has_ticket};
+ghost use Rattle.kanal_core.specs.Visits.{RoseByAtMost, one_more};
+ghost use Rattle.kanal_core.specs.Waiters.{behind, brought, emptied, waiter_of, without, IsFirstWhere, receiver_first, sender_first};
 
+use super::links::{end_with, end_without, set_after, set_before};
 use super::outcome::{Ticket, Waiter};
+use super::slots::{Slot, Slots};
+use super::steps::Steps;
 use std::alloc::Global;
-use std::collections::VecDeque;
-use std::marker::Model;
+use std::marker::{Brand, Model};
 use std::mem;
+use std::sync::ledger::Ledger;
 
 /// Waiters, oldest first.
 #[derive(Drop)]
 pub struct WaitList<T, W> {
-    waiters: VecDeque<Waiter<T, W>>,
+    slots: Slots<T, W>,
+    first: Option<usize>,
+    last: Option<usize>,
 }
 
 impl<T, W> Model for WaitList<T, W> {
@@ -29,19 +38,24 @@ impl<T, W> Model for WaitList<T, W> {
 
     ghost Value = { List (Waiter T W) };
 
-    ghost view = { λ l. l.waiters.items };
+    ghost use Rattle.slab.specs.Slab.{slab_len};
+    ghost use Rattle.kanal_core.specs.Links.{walk, IsLinked};
+
+    ghost view = { λ l. walk (slab_len l.slots.slab) l.slots.slab l.first };
+
+    ghost invariant = { λ l. IsLinked l.slots.slab l.first l.last
+        (walk (slab_len l.slots.slab) l.slots.slab l.first) };
 }
 
-/// The index of the waiter with the ticket, or the length.
-fn place<T, W>(waiters: &VecDeque<Waiter<T, W>>, ticket: Ticket) -> usize
-    ensures { result ≡ place_of ticket waiters.now.items }
+/// Whether the waiter with the ticket stands at the ticket's place.
+fn is_at<T, W, L: Ledger>(slots: &Slots<T, W>, ticket: Ticket, steps: &mut Steps<L>) -> bool
+    ensures value { result ≡ has_ticket ticket (get slots.now.slab ticket.place) }
+    ensures step { steps.new ≡ one_more steps.old }
 {
-    for i in 0..waiters.len() {
-        if waiters[i].ticket == ticket {
-            return i;
-        }
+    match slots.get(ticket.place, steps) {
+        Some(slot) => slot.waiter.ticket == ticket,
+        None => false,
     }
-    waiters.len()
 }
 
 /// What the test answers of a W.
@@ -61,15 +75,26 @@ impl<T, W> WaitList<T, W> {
         ensures { result ≡ [] }
     {
         WaitList {
-            waiters: VecDeque::new(alloc),
+            slots: Slots::new(alloc),
+            first: None,
+            last: None,
         }
+    }
+
+    /// The oldest waiter.
+    fn front(&self) -> Option<&Waiter<T, W>>
+        ensures { option_copied result ≡ slice_get self.now 0 }
+    {
+        let mut steps = Steps::<Brand>::idle();
+        let slot = self.slots.get(self.first?, &mut steps)?;
+        Some(&slot.waiter)
     }
 
     /// Whether receivers wait, where all that wait are of one side.
     pub fn receiver_first(&self) -> bool
         ensures { result ≡ receiver_first self.now }
     {
-        match self.waiters.front() {
+        match self.front() {
             None => false,
             Some(waiter) => waiter.message.is_none(),
         }
@@ -79,7 +104,7 @@ impl<T, W> WaitList<T, W> {
     pub fn sender_first(&self) -> bool
         ensures { result ≡ sender_first self.now }
     {
-        match self.waiters.front() {
+        match self.front() {
             None => false,
             Some(waiter) => waiter.message.is_some(),
         }
@@ -87,16 +112,14 @@ impl<T, W> WaitList<T, W> {
 
     /// How many wait.
     fn len(&self) -> usize
-        ensures len { result ≡ length self.now }
-        ensures small { result < 2 ^ 63 }
+        ensures { result ≡ length self.now }
     {
-        self.waiters.len()
+        self.slots.len()
     }
 
     /// How many senders wait, where all that wait are of one side.
     pub fn senders_len(&self) -> usize
-        ensures len { result ≡ cond (sender_first self.now) (length self.now) 0 }
-        ensures small { result < 2 ^ 63 }
+        ensures { result ≡ cond (sender_first self.now) (length self.now) 0 }
     {
         if self.sender_first() { self.len() } else { 0 }
     }
@@ -113,25 +136,53 @@ impl<T, W> WaitList<T, W> {
         ensures refused { IfErr result (λ back. (back.0 ≡ message) × (back.1 ≡ w)
             × (self.new ≡ self.old)) }
     {
-        let ticket = Ticket { number };
-        match self.waiters.push_back(Waiter { ticket, message, w }) {
-            Ok(()) => Ok(ticket),
-            Err(refused) => {
-                let Waiter {
-                    ticket: _,
-                    message,
-                    w,
-                } = refused.value;
-                Err((message, w))
-            },
+        let mut steps = Steps::<Brand>::idle();
+        if self.slots.reserve().is_err() {
+            return Err((message, w));
         }
+        let place = self.slots.vacant_place();
+        let ticket = Ticket { number, place };
+        let waiter = Waiter { ticket, message, w };
+        self.slots.insert(Slot {
+            waiter,
+            before: self.last,
+            after: None,
+        });
+        set_after(&mut self.slots, self.last, Some(place), &mut steps);
+        self.first = end_with(self.first, place);
+        self.last = Some(place);
+        Ok(ticket)
+    }
+
+    /// Takes the waiter at the place out, and links those before and after it to each other.
+    fn unlink<L: Ledger>(&mut self, place: usize, steps: &mut Steps<L>) -> Option<Waiter<T, W>>
+        ensures some { IfSome result (λ w. (w.ticket.place ≡ place)
+            × IsOneOut self.old self.new w) }
+        ensures none { IfNone result ((self.new ≡ self.old) × IsFree place self.old) }
+        ensures step { RoseByAtMost 3 steps.old steps.new }
+    {
+        let Some(slot) = self.slots.try_remove(place, steps) else {
+            return None;
+        };
+        let Slot {
+            waiter,
+            before,
+            after,
+        } = slot;
+        self.first = end_without(before, after, self.first);
+        self.last = end_without(after, before, self.last);
+        set_after(&mut self.slots, before, after, steps);
+        set_before(&mut self.slots, after, before, steps);
+        Some(waiter)
     }
 
     /// Takes the oldest waiter out.
     pub fn pop_front(&mut self) -> Option<Waiter<T, W>>
         ensures { TakesFirst result self.old self.new }
     {
-        self.waiters.pop_front()
+        let mut steps = Steps::<Brand>::idle();
+        let place = self.first?;
+        self.unlink(place, &mut steps)
     }
 
     /// Takes waiters out until one of them brings a message.
@@ -141,7 +192,7 @@ impl<T, W> WaitList<T, W> {
         W: Drop,
         ensures { TakesFirst result (brought self.old) (brought self.new) }
     {
-        while let Some(waiter) = self.waiters.pop_front() {
+        while let Some(waiter) = self.pop_front() {
             let Waiter {
                 ticket: _,
                 message,
@@ -154,13 +205,19 @@ impl<T, W> WaitList<T, W> {
         None
     }
 
-    /// Takes the message out of the waiter at this index.
-    fn take_message(&mut self, i: usize) -> Option<T>
-        requires { i < length self.old }
-        ensures { TakesMessage self.old i result self.new }
+    /// Takes the message out of the waiter at the place, and names the place behind it.
+    fn take_message(&mut self, place: usize) -> (Option<T>, Option<usize>)
+        requires { IsHeld place self.old }
+        ensures { TakesMessageAt place self.old result.0 result.1 self.new }
     {
-        let waiter = &mut self.waiters[i];
-        waiter.message.take()
+        let mut steps = Steps::<Brand>::idle();
+        match self.slots.get_mut(place, &mut steps) {
+            None => unreachable!(),
+            Some(slot) => {
+                let message = slot.waiter.message.take();
+                (message, slot.after)
+            },
+        }
     }
 
     /// Moves what the waiters brought to the vector's end, which has the room, and leaves them
@@ -171,10 +228,16 @@ impl<T, W> WaitList<T, W> {
         ensures capacity { vec_capacity into.new ≡ vec_capacity into.old }
         ensures left { self.new ≡ map emptied self.old }
     {
-        for i in 0..self.len() {
-            if let Some(message) = self.take_message(i) {
+        let mut at = self.first;
+        for _ in 0..self.len() {
+            let Some(place) = at else {
+                return;
+            };
+            let (message, after) = self.take_message(place);
+            if let Some(message) = message {
                 into.push_reserved(message);
             }
+            at = after;
         }
     }
 
@@ -186,13 +249,21 @@ impl<T, W> WaitList<T, W> {
         mem::replace(self, WaitList::new(alloc))
     }
 
-    /// Takes the waiter with the ticket out, if it is there.
-    pub fn remove(&mut self, ticket: Ticket) -> Option<Waiter<T, W>>
+    /// Takes the waiter with the ticket out, if it is there. It visits four slots at most.
+    pub fn remove<L: Ledger>(
+        &mut self,
+        ticket: Ticket,
+        steps: &mut Steps<L>,
+    ) -> Option<Waiter<T, W>>
         ensures value { result ≡ waiter_of ticket self.old }
         ensures others { self.new ≡ without ticket self.old }
+        ensures visits { RoseByAtMost 4 steps.old steps.new }
     {
-        let at = place(&self.waiters, ticket);
-        self.waiters.remove(at)
+        let slot = self.slots.get(ticket.place, steps)?;
+        if slot.waiter.ticket != ticket {
+            return None;
+        }
+        self.unlink(ticket.place, steps)
     }
 
     /// Lends the W of the waiter with the ticket, if it is there.
@@ -201,11 +272,34 @@ impl<T, W> WaitList<T, W> {
         ensures value { option_copied_mut result
             ≡ option_map (λ (x : Waiter T W). x.w) (waiter_of ticket self.old) }
     {
-        let at = place(&self.waiters, ticket);
-        match self.waiters.get_mut(at) {
-            Some(waiter) => Some(&mut waiter.w),
-            None => None,
+        let mut steps = Steps::<Brand>::idle();
+        if !is_at(&self.slots, ticket, &mut steps) {
+            return None;
         }
+        Some(self.slots.w_mut(ticket.place, &mut steps))
+    }
+
+    /// The ticket of the first waiter, from the one at this place on, whose W passes the test.
+    fn first_from<F: Fn(&W) -> bool + Drop>(&self, from: Option<usize>, test: F) -> Option<Ticket>
+        requires { F.IsAlwaysCallable test }
+        ensures { (i : ℕ) → from ≡ first_place (drop i self.now)
+            → IsFirstWhere (FnReturnsAt F.Fn test) (drop i self.now) result }
+    {
+        let mut steps = Steps::<Brand>::idle();
+        let mut at = from;
+        for _ in 0..self.slots.len() {
+            let Some(place) = at else {
+                return None;
+            };
+            let Some(slot) = self.slots.get(place, &mut steps) else {
+                return None;
+            };
+            if passes(&test, &slot.waiter.w) {
+                return Some(slot.waiter.ticket);
+            }
+            at = slot.after;
+        }
+        None
     }
 
     /// The ticket of the oldest waiter whose W passes the test.
@@ -213,12 +307,19 @@ impl<T, W> WaitList<T, W> {
         requires { F.IsAlwaysCallable test }
         ensures { IsFirstWhere (FnReturnsAt F.Fn test) self.now result }
     {
-        for i in 0..self.waiters.len() {
-            let waiter = &self.waiters[i];
-            if passes(&test, &waiter.w) {
-                return Some(waiter.ticket);
-            }
+        self.first_from(self.first, test)
+    }
+
+    /// The ticket of the oldest waiter behind the one with this ticket whose W passes the test.
+    pub fn next_waiter<F: Fn(&W) -> bool + Drop>(&self, ticket: Ticket, test: F) -> Option<Ticket>
+        requires { F.IsAlwaysCallable test }
+        ensures { IsFirstWhere (FnReturnsAt F.Fn test) (behind ticket self.now) result }
+    {
+        let mut steps = Steps::<Brand>::idle();
+        let slot = self.slots.get(ticket.place, &mut steps)?;
+        if slot.waiter.ticket != ticket {
+            return None;
         }
-        None
+        self.first_from(slot.after, test)
     }
 }

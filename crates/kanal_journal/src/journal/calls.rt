@@ -9,14 +9,15 @@ ghost use Rattle.kanal_core.specs.Line.{buffered};
 ghost use Rattle.kanal_core.specs.Calls.{IsFull, IsEmpty};
 ghost use Rattle.kanal_journal.specs.Steps.{Tells, answer as answer_of, message_of};
 ghost use Rattle.kanal_journal.specs.Runs.{has_handle, has_side, handles_after};
-ghost use Rattle.kanal_journal.specs.Given.{AreNumbered, AreFew};
+ghost use Rattle.kanal_journal.specs.Given.{AreGiven, AreFew, GivesNone};
 ghost use Rattle.kanal_journal.specs.Made.{told_of, reply_of, IsMade, IsAnswered};
 ghost use Rattle.kanal_journal.specs.declared.journal.event.Side.TheVariants.{Tx, Rx};
 
 use super::event::{Ask, Event, Refusal, Reply, Side};
 use super::handles::Handles;
 use kanal_core::error::{DrainError, WaitError};
-use kanal_core::internal::{ChannelInternal, Closing, Ended, Offer, Settled, Take, Ticket};
+use kanal_core::internal::{ChannelInternal, Closing, Ended, Offer, Settled, Steps, Take, Ticket};
+use std::marker::Brand;
 
 /// A core on which nobody brings anything to a wait.
 pub(crate) type Core<T> = ChannelInternal<T, ()>;
@@ -43,7 +44,7 @@ fn only<T: Drop>(reply: Reply<T>) -> Made<T>
 fn try_send<T: Drop>(core: &mut Core<T>, message: T) -> Made<T>
     ensures told { Tells (line_of core.old) (Event.TrySend message)
         (told_of (line_of core.new) [] result) }
-    ensures tickets { core.new.next ≡ core.old.next }
+    ensures tickets { GivesNone core.old core.new }
 {
     match core.offer(message) {
         Offer::Entered => only(Reply::Yes),
@@ -58,7 +59,7 @@ fn try_send<T: Drop>(core: &mut Core<T>, message: T) -> Made<T>
 /// Asks for a message.
 fn try_recv<T: Drop>(core: &mut Core<T>) -> Made<T>
     ensures told { Tells (line_of core.old) Event.TryRecv (told_of (line_of core.new) [] result) }
-    ensures tickets { core.new.next ≡ core.old.next }
+    ensures tickets { GivesNone core.old core.new }
 {
     match core.take() {
         Take::Got(message, settled) => Made::One(Reply::Got(message), settled),
@@ -71,7 +72,7 @@ fn try_recv<T: Drop>(core: &mut Core<T>) -> Made<T>
 /// Asks for a message after the deadline.
 fn recv_late<T: Drop>(core: &mut Core<T>) -> Made<T>
     ensures told { Tells (line_of core.old) Event.RecvLate (told_of (line_of core.new) [] result) }
-    ensures tickets { core.new.next ≡ core.old.next }
+    ensures tickets { GivesNone core.old core.new }
 {
     match core.take() {
         Take::Got(message, settled) => Made::One(Reply::Got(message), settled),
@@ -85,10 +86,10 @@ fn recv_late<T: Drop>(core: &mut Core<T>) -> Made<T>
 fn start_send<T: Drop>(core: &mut Core<T>, tickets: &mut Vec<Ticket>, message: T) -> Made<T>
     requires full { IsFull (line_of core.old) }
     requires room { vec_len tickets.old < vec_capacity tickets.old }
-    requires numbered { AreNumbered 0 tickets.old.items core.old.next }
+    requires given { AreGiven tickets.old.items core.old }
     ensures told { Tells (line_of core.old) (Event.Send message)
         (told_of (line_of core.new) [] result) }
-    ensures numbered { AreNumbered 0 tickets.new.items core.new.next }
+    ensures given { AreGiven tickets.new.items core.new }
     ensures room { vec_capacity tickets.new ≡ vec_capacity tickets.old }
     ensures one { vec_len tickets.new ≤ vec_len tickets.old + 1 }
 {
@@ -105,10 +106,10 @@ fn start_send<T: Drop>(core: &mut Core<T>, tickets: &mut Vec<Ticket>, message: T
 /// Offers the message, and waits where there is no place for it.
 fn send<T: Drop>(core: &mut Core<T>, tickets: &mut Vec<Ticket>, message: T) -> Made<T>
     requires room { vec_len tickets.old < vec_capacity tickets.old }
-    requires numbered { AreNumbered 0 tickets.old.items core.old.next }
+    requires given { AreGiven tickets.old.items core.old }
     ensures told { Tells (line_of core.old) (Event.Send message)
         (told_of (line_of core.new) [] result) }
-    ensures numbered { AreNumbered 0 tickets.new.items core.new.next }
+    ensures given { AreGiven tickets.new.items core.new }
     ensures room { vec_capacity tickets.new ≡ vec_capacity tickets.old }
     ensures one { vec_len tickets.new ≤ vec_len tickets.old + 1 }
 {
@@ -126,9 +127,9 @@ fn send<T: Drop>(core: &mut Core<T>, tickets: &mut Vec<Ticket>, message: T) -> M
 fn start_recv<T: Drop>(core: &mut Core<T>, tickets: &mut Vec<Ticket>) -> Made<T>
     requires empty { IsEmpty (line_of core.old) }
     requires room { vec_len tickets.old < vec_capacity tickets.old }
-    requires numbered { AreNumbered 0 tickets.old.items core.old.next }
+    requires given { AreGiven tickets.old.items core.old }
     ensures told { Tells (line_of core.old) Event.Recv (told_of (line_of core.new) [] result) }
-    ensures numbered { AreNumbered 0 tickets.new.items core.new.next }
+    ensures given { AreGiven tickets.new.items core.new }
     ensures room { vec_capacity tickets.new ≡ vec_capacity tickets.old }
     ensures one { vec_len tickets.new ≤ vec_len tickets.old + 1 }
 {
@@ -145,9 +146,9 @@ fn start_recv<T: Drop>(core: &mut Core<T>, tickets: &mut Vec<Ticket>) -> Made<T>
 /// Asks for a message, and waits where there is none.
 fn recv<T: Drop>(core: &mut Core<T>, tickets: &mut Vec<Ticket>) -> Made<T>
     requires room { vec_len tickets.old < vec_capacity tickets.old }
-    requires numbered { AreNumbered 0 tickets.old.items core.old.next }
+    requires given { AreGiven tickets.old.items core.old }
     ensures told { Tells (line_of core.old) Event.Recv (told_of (line_of core.new) [] result) }
-    ensures numbered { AreNumbered 0 tickets.new.items core.new.next }
+    ensures given { AreGiven tickets.new.items core.new }
     ensures room { vec_capacity tickets.new ≡ vec_capacity tickets.old }
     ensures one { vec_len tickets.new ≤ vec_len tickets.old + 1 }
 {
@@ -161,16 +162,17 @@ fn recv<T: Drop>(core: &mut Core<T>, tickets: &mut Vec<Ticket>) -> Made<T>
 
 /// Takes back the wait with this ticket, if it waits.
 fn withdraw<T: Drop>(core: &mut Core<T>, tickets: &[Ticket], number: u64) -> Made<T>
-    requires { AreNumbered 0 tickets.now core.old.next }
+    requires { AreGiven tickets.now core.old }
     ensures told { Tells (line_of core.old) (Event.Withdraw number)
         (told_of (line_of core.new) [] result) }
-    ensures tickets { core.new.next ≡ core.old.next }
+    ensures tickets { GivesNone core.old core.new }
 {
     let Some(ticket) = tickets.get(number as usize) else {
         core.holds();
         return only(Reply::Refused(Refusal::NotWaiting, None));
     };
-    match core.withdraw(*ticket) {
+    let mut steps = Steps::<Brand>::idle();
+    match core.withdraw(*ticket, &mut steps) {
         Some(waiter) => only(Reply::Withdrawn(waiter.message)),
         None => only(Reply::Refused(Refusal::NotWaiting, None)),
     }
@@ -179,7 +181,7 @@ fn withdraw<T: Drop>(core: &mut Core<T>, tickets: &[Ticket], number: u64) -> Mad
 /// Closes the channel.
 fn close<T: Drop>(core: &mut Core<T>) -> Made<T>
     ensures told { Tells (line_of core.old) Event.Close (told_of (line_of core.new) [] result) }
-    ensures tickets { core.new.next ≡ core.old.next }
+    ensures tickets { GivesNone core.old core.new }
 {
     match core.close() {
         Ok(closing) => Made::Shut(closing),
@@ -192,7 +194,7 @@ fn drain<T: Drop>(core: &mut Core<T>, drained: &mut Vec<T>) -> Made<T>
     requires { vec_len drained.old + length (line_of core.old).line ≤ vec_capacity drained.old }
     ensures made { IsMade (line_of core.old) Event.Drain (line_of core.new) drained.old.items
         drained.new.items result }
-    ensures tickets { core.new.next ≡ core.old.next }
+    ensures tickets { GivesNone core.old core.new }
     ensures room { vec_capacity drained.new ≡ vec_capacity drained.old }
 {
     match core.drain_into(drained) {
@@ -207,7 +209,7 @@ fn clone_tx<T: Drop>(core: &mut Core<T>, handles: &mut Handles) -> Made<T>
     requires { AreFew handles.old }
     ensures told { Tells (line_of core.old) Event.CloneTx (told_of (line_of core.new) [] result) }
     ensures handles { handles.new ≡ handles_after handles.old Event.CloneTx (reply_of result) }
-    ensures tickets { core.new.next ≡ core.old.next }
+    ensures tickets { GivesNone core.old core.new }
 {
     match core.add_sender() {
         Ok(()) => {
@@ -223,7 +225,7 @@ fn clone_rx<T: Drop>(core: &mut Core<T>, handles: &mut Handles) -> Made<T>
     requires { AreFew handles.old }
     ensures told { Tells (line_of core.old) Event.CloneRx (told_of (line_of core.new) [] result) }
     ensures handles { handles.new ≡ handles_after handles.old Event.CloneRx (reply_of result) }
-    ensures tickets { core.new.next ≡ core.old.next }
+    ensures tickets { GivesNone core.old core.new }
 {
     match core.add_receiver() {
         Ok(()) => {
@@ -239,7 +241,7 @@ fn drop_tx<T: Drop>(core: &mut Core<T>, handles: &mut Handles) -> Made<T>
     requires { has_side handles.old Tx ≡ true }
     ensures told { Tells (line_of core.old) Event.DropTx (told_of (line_of core.new) [] result) }
     ensures handles { handles.new ≡ handles_after handles.old Event.DropTx (reply_of result) }
-    ensures tickets { core.new.next ≡ core.old.next }
+    ensures tickets { GivesNone core.old core.new }
 {
     handles.tx -= 1;
     Made::All(Reply::Done, core.drop_sender())
@@ -250,7 +252,7 @@ fn drop_rx<T: Drop>(core: &mut Core<T>, handles: &mut Handles) -> Made<T>
     requires { has_side handles.old Rx ≡ true }
     ensures told { Tells (line_of core.old) Event.DropRx (told_of (line_of core.new) [] result) }
     ensures handles { handles.new ≡ handles_after handles.old Event.DropRx (reply_of result) }
-    ensures tickets { core.new.next ≡ core.old.next }
+    ensures tickets { GivesNone core.old core.new }
 {
     handles.rx -= 1;
     Made::All(Reply::Done, core.drop_receiver())
@@ -285,6 +287,7 @@ fn terminated<T: Drop>(core: &Core<T>) -> Reply<T>
 }
 
 /// Makes one event, through a live handle of its side.
+#[tactic(auto, using(crate::proofs::Giving::still_given))]
 fn make<T: Drop>(
     core: &mut Core<T>,
     tickets: &mut Vec<Ticket>,
@@ -295,13 +298,13 @@ fn make<T: Drop>(
     requires handle { has_handle handles.old event ≡ true }
     requires few { AreFew handles.old }
     requires room { vec_len tickets.old < vec_capacity tickets.old }
-    requires numbered { AreNumbered 0 tickets.old.items core.old.next }
+    requires given { AreGiven tickets.old.items core.old }
     requires drains { vec_len drained.old + length (line_of core.old).line
         ≤ vec_capacity drained.old }
     ensures made { IsMade (line_of core.old) event (line_of core.new) drained.old.items
         drained.new.items result }
     ensures handles { handles.new ≡ handles_after handles.old event (reply_of result) }
-    ensures numbered { AreNumbered 0 tickets.new.items core.new.next }
+    ensures given { AreGiven tickets.new.items core.new }
     ensures room { (vec_capacity tickets.new ≡ vec_capacity tickets.old)
         × (vec_capacity drained.new ≡ vec_capacity drained.old) }
     ensures one { vec_len tickets.new ≤ vec_len tickets.old + 1 }
@@ -351,13 +354,13 @@ pub(crate) fn answer<T: Drop>(
 ) -> Made<T>
     requires few { AreFew handles.old }
     requires room { vec_len tickets.old < vec_capacity tickets.old }
-    requires numbered { AreNumbered 0 tickets.old.items core.old.next }
+    requires given { AreGiven tickets.old.items core.old }
     requires drains { vec_len drained.old + length (line_of core.old).line
         ≤ vec_capacity drained.old }
     ensures answered { IsAnswered handles.old (line_of core.old) event (line_of core.new)
         drained.old.items drained.new.items result }
     ensures handles { handles.new ≡ handles_after handles.old event (reply_of result) }
-    ensures numbered { AreNumbered 0 tickets.new.items core.new.next }
+    ensures given { AreGiven tickets.new.items core.new }
     ensures room { (vec_capacity tickets.new ≡ vec_capacity tickets.old)
         × (vec_capacity drained.new ≡ vec_capacity drained.old) }
     ensures one { vec_len tickets.new ≤ vec_len tickets.old + 1 }

@@ -69,6 +69,11 @@ const ROWS: &[(&str, &str, u8)] = &[
         0,
     ),
     (
+        "cap 0; send 1; send 2; send 3; withdraw 1; send 4; withdraw 1; withdraw 3; drain",
+        "waits 0; waits 1; waits 2; withdrawn 2; waits 3; refused NotWaiting; withdrawn 4; drained 2 1 3; ticket 0 taken; ticket 2 taken",
+        0,
+    ),
+    (
         "cap 0; send 1; send 2; drain; drain",
         "waits 0; waits 1; drained 2 1 2; ticket 0 taken; ticket 1 taken; drained 0",
         0,

@@ -6,8 +6,10 @@ use crate::tests::waits::{
 };
 use kanal_core::error::WaitError;
 use kanal_core::internal::{
-    ChannelInternal, Cleared, Closing, Ended, Offer, Outcome, Reason, Take, Ticket,
+    ChannelInternal, Cleared, Closing, Ended, Offer, Outcome, Reason, Steps, Take, Ticket,
 };
+use std::alloc::AllocGlobal;
+use std::marker::Brand;
 use std::process::Abort;
 
 type Core = ChannelInternal<u64, Box<u32>>;
@@ -63,7 +65,7 @@ fn first(core: &Core, number: u32) -> Option<Ticket> {
 
 /// The message of a wait that is withdrawn, and what it brought.
 fn withdraw(core: &mut Core, ticket: Ticket) -> Option<(Option<u64>, u32)> {
-    match core.withdraw(ticket) {
+    match core.withdraw(ticket, &mut Steps::<Brand>::idle()) {
         Some(waiter) => Some((waiter.message, *waiter.w)),
         None => None,
     }
@@ -78,6 +80,70 @@ fn a_withdrawn_send(rt: HostRuntime) {
     equal(&rt, first(&core, 7), None);
     equal(&rt, withdraw(&mut core, ticket), Some((Some(5), 8)));
     equal(&rt, withdraw(&mut core, ticket), None);
+}
+
+#[test]
+fn a_place_that_is_used_again(rt: HostRuntime) {
+    let mut core: Core = core_of(&rt, 0);
+    let oldest = send(&rt, &mut core, 1, boxed(&rt, 11));
+    let second = send(&rt, &mut core, 2, boxed(&rt, 12));
+    equal(&rt, withdraw(&mut core, oldest), Some((Some(1), 11)));
+    let third = send(&rt, &mut core, 3, boxed(&rt, 13));
+    equal(&rt, withdraw(&mut core, oldest), None);
+    equal(&rt, first(&core, 13), Some(third));
+    equal(&rt, withdraw(&mut core, third), Some((Some(3), 13)));
+    equal(&rt, withdraw(&mut core, second), Some((Some(2), 12)));
+    holds(&rt, is_empty(&mut core));
+}
+
+/// The ticket of the next behind this one that brings another number than 9.
+fn next_other(core: &Core, ticket: Ticket) -> Option<Ticket> {
+    core.next_waiter(ticket, |w| **w != 9)
+}
+
+#[test]
+fn the_next_behind_a_ticket(rt: HostRuntime) {
+    let mut core: Core = core_of(&rt, 0);
+    let oldest = send(&rt, &mut core, 1, boxed(&rt, 11));
+    let second = send(&rt, &mut core, 2, boxed(&rt, 9));
+    let third = send(&rt, &mut core, 3, boxed(&rt, 13));
+    equal(&rt, next_other(&core, oldest), Some(third));
+    equal(&rt, next_other(&core, second), Some(third));
+    equal(&rt, next_other(&core, third), None);
+    equal(&rt, withdraw(&mut core, second), Some((Some(2), 9)));
+    equal(&rt, next_other(&core, second), None);
+    equal(&rt, next_other(&core, oldest), Some(third));
+}
+
+/// Three sends that wait, of 1, 2 and 3, and the ticket of the one of this message.
+fn three_and_one(rt: &(impl Abort + AllocGlobal), one: u64) -> (Core, Ticket) {
+    let mut core: Core = core_of(rt, 0);
+    let mut found = send(rt, &mut core, 1, boxed(rt, 11));
+    for message in 2..4 {
+        let ticket = send(rt, &mut core, message, boxed(rt, 10));
+        if message == one {
+            found = ticket;
+        }
+    }
+    (core, found)
+}
+
+/// The messages that are left where the one of three is withdrawn come in order.
+fn expect_left(rt: &(impl Abort + AllocGlobal), one: u64, left: [u64; 2]) {
+    let (mut core, ticket) = three_and_one(rt, one);
+    holds(rt, withdraw(&mut core, ticket).is_some());
+    for message in left {
+        let (got, _) = take(&mut core).expect(rt, "a message");
+        equal(rt, got, message);
+    }
+    holds(rt, is_empty(&mut core));
+}
+
+#[test]
+fn one_of_three_is_withdrawn(rt: HostRuntime) {
+    expect_left(&rt, 1, [2, 3]);
+    expect_left(&rt, 2, [1, 3]);
+    expect_left(&rt, 3, [1, 2]);
 }
 
 /// The one message is this one.

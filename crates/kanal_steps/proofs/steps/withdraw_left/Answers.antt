@@ -1,13 +1,14 @@
-use Rattle.std.proofs.Common.{◌∷◌, length, sym, ap, ◌∙◌, arith}
+use Rattle.std.proofs.Common.{◌∷◌, length, refl, sym, ap, ◌∙◌, arith, inl}
+use Rattle.kanal_core.specs.Channel.{line_of}
 use Rattle.kanal_steps.specs.Leaving.{kept_of}
-use Rattle.kanal_steps.proofs.Withdrawing.{leave-to, without-none}
+use Rattle.kanal_steps.proofs.Withdrawing.{leave-to}
 use Rattle.kanal_steps.proofs.steps.withdraw_left.Goals as goal
 
 pub returns-in_default-withdraw : goal.returns-in_default-withdraw
 returns-in_default-withdraw g c =
     let left = c.loop-count.invariant.1 in
-    let same = c.withdraw.ensures.others ∙ without-none c.in-Some.ticket c.loop-count.core.waiters (sym c.withdraw.ensures.waiter ∙ c.in_default-withdraw.is) in
-    record { withdrawn = (left.0, leave-to _ c.loop-count.core c.withdraw.new.self left.0 left.1 same c.in_default-withdraw.ensures.step.2, left.2) }
+    let same = c.in_default-withdraw.ensures.missing in
+    record { withdrawn = (left.0, leave-to _ c.loop-count.core c.withdraw.new.core left.0 left.1 (ap (λ ch. ch.waiters) same) (ap line_of same), left.2) }
 
 pub keep-requires : goal.keep-requires
 keep-requires g c = omega (arith, c.loop-count.invariant.0, c.loop-count-test.true)
@@ -18,7 +19,7 @@ loop-count-preserved g c =
       omega (arith, c.loop-count.invariant.0, ap length c.keep.ensures.kept),
       (
         c.in-Some-withdraw.waiter ∷ left.0,
-        (c.loop-count.core, c.in-Some.ticket, left.1, sym c.withdraw.ensures.waiter ∙ c.in-Some-withdraw.is, c.withdraw.ensures.others, c.in-Some-withdraw.ensures.step),
+        (c.loop-count.core, c.in-Some.ticket, left.1, sym c.withdraw.ensures.waiter ∙ c.in-Some-withdraw.is, c.withdraw.ensures.others, c.in-Some-withdraw.ensures.step (inl refl)),
         c.keep.ensures.kept ∙ ap (λ xs. kept_of c.in-Some-withdraw.waiter ∷ xs) left.2,
       ),
     )

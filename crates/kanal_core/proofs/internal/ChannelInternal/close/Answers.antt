@@ -1,7 +1,17 @@
-use Rattle.std.proofs.Common.{refl, sym}
+use Rattle.std.proofs.Common.{refl, sym, arith, inl}
 use Rattle.kanal_core.specs.declared.internal.outcome.Reason.TheVariants.{Closed}
+use Rattle.kanal_core.proofs.Draining.{none-within}
 use Rattle.kanal_core.proofs.Sided.{cleared-line, ends-line}
 use Rattle.kanal_core.proofs.internal.ChannelInternal.close.Goals as goal
+
+pub invariant_of-self : goal.invariant_of-self
+invariant_of-self g c =
+    rw (c.all.ensures.left, c.take_all.ensures.left) (record {
+      side = inl refl;
+      rises = omega arith;
+      within = none-within c.self.inside.capacity;
+      room = λ some. absurd (omega (arith, some));
+    })
 
 pub returns-clause-step : goal.returns-clause-step
 returns-clause-step g c =

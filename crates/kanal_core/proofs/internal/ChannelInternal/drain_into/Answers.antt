@@ -1,19 +1,19 @@
-use Rattle.std.proofs.Common.{rules, ◌≡◌, ◌+◌, ◌++◌, length, map, refl, append_assoc}
+use Rattle.std.proofs.Common.{rules, ◌≡◌, ◌++◌, length, map, refl, append_assoc, arith}
 use Rattle.kanal_core.specs.Line.{bare}
 use Rattle.kanal_core.proofs.Sides.{entries}
 use Rattle.kanal_core.proofs.Draining.{drains, line-long, line-messages, none-within, rises-drained, side-drained}
 use Rattle.kanal_core.proofs.internal.ChannelInternal.drain_into.Goals as goal
 
 -- the room that is asked for is the line's length
-refused-long : (g : _) (c : goal.After-from_residual g) → length (map bare c.self.inside.buffer.messages ++ entries c.self.inside.waiters) ≡ c.len.result + c.senders_len.result
+refused-long : (g : _) (c : goal.After-from_residual g) → length (map bare c.self.inside.buffer.messages ++ entries c.self.inside.waiters) ≡ c.in-Some.count
 refused-long g c =
     let now = c.self.inside in
-    rw (c.len.ensures.len, c.senders_len.ensures.len) (line-long now.capacity now.buffer.messages now.waiters c.self.invariant.side c.self.invariant.within)
+    rw (c.in-Some.ensures.1, c.len.ensures.len, c.senders_len.ensures) (line-long now.capacity now.buffer.messages now.waiters c.self.invariant.side c.self.invariant.within)
 
-moved-long : (g : _) (c : goal.After-taken g) → length (map bare c.self.inside.buffer.messages ++ entries c.self.inside.waiters) ≡ c.len.result + c.senders_len.result
+moved-long : (g : _) (c : goal.After-taken g) → length (map bare c.self.inside.buffer.messages ++ entries c.self.inside.waiters) ≡ c.in-Some.count
 moved-long g c =
     let now = c.self.inside in
-    rw (c.len.ensures.len, c.senders_len.ensures.len) (line-long now.capacity now.buffer.messages now.waiters c.self.invariant.side c.self.invariant.within)
+    rw (c.in-Some.ensures.1, c.len.ensures.len, c.senders_len.ensures) (line-long now.capacity now.buffer.messages now.waiters c.self.invariant.side c.self.invariant.within)
 
 pub returns-in_err-reserve-clause-room : goal.returns-in_err-reserve-clause-room
 returns-in_err-reserve-clause-room g c = rw (← c.self.view_is, refused-long g c) c.reserve.ensures.enough
@@ -53,3 +53,10 @@ returns-then-self-eq0-clause-receiver g c = search rules
 
 pub returns-then-self-eq0-clause-memory : goal.returns-then-self-eq0-clause-memory
 returns-then-self-eq0-clause-memory g c = search rules
+
+-- more than a word can count is more than any vector has room for
+pub returns-in_default-clause-memory : goal.returns-in_default-clause-memory
+returns-in_default-clause-memory g c =
+    let now = c.self.inside in
+    let long = line-long now.capacity now.buffer.messages now.waiters c.self.invariant.side c.self.invariant.within in
+    rw (← c.self.view_is, long, ← c.len.ensures.len, ← c.senders_len.ensures) (λ _. omega (arith, c.in_default.ensures, c.args.into.now.small))

@@ -3,7 +3,7 @@ use Rattle.kanal_core.specs.declared.internal.outcome.Ticket.{Ticket}
 use Rattle.kanal_core.proofs.internal.ChannelInternal.holds.Goals as goal
 
 none : Ticket
-none = record { number = 0 }
+none = record { number = 0; place = 0 }
 
 pub returns-clause-one_side : goal.returns-clause-one_side
 returns-clause-one_side g c =

@@ -1,44 +1,52 @@
-use Rattle.std.proofs.Common.{rules, ◌+◌, ◌++◌, drop, slice_get, slice_set, sym, ap, ◌∙◌, arith, vec_capacity, vec_len}
-use Rattle.kanal_core.specs.Waiters.{brought, emptied}
-use Rattle.kanal_core.proofs.Emptying.{all-emptied, first-left, length-emptied, moved-none, moved-one, one-more}
+use Rattle.std.proofs.Common.{◌+◌, ◌++◌, drop, subst, sym, ap, ◌∙◌, arith, vec_capacity, vec_len}
+use Rattle.kanal_core.specs.Links.{IsHeld, TakesMessageAt}
+use Rattle.kanal_core.specs.Waiters.{brought}
+use Rattle.kanal_core.proofs.Emptying.{all-emptied, moved-none, moved-one}
+use Rattle.kanal_core.proofs.Taking.{TakesNext, held_at, takes_next, walked_all}
 use Rattle.kanal_core.proofs.internal.wait_list.WaitList.move_messages.Goals as goal
-use Rattle.kanal_core.proofs.internal.wait_list.WaitList.move_messages.Goals.{in-Some, in_default}
+use Rattle.kanal_core.proofs.internal.wait_list.WaitList.move_messages.Goals.{in-Some-message, in_default-message}
 
-pub take_message-requires : goal.take_message-requires
-take_message-requires g c = rw (c.loop-i.invariant.left, length-emptied c.loop-i.i c.args.self.now, ← c.len-i-end.ensures.len) c.loop-i-test.true
+pub returns-in_default-clause-left : goal.returns-in_default-clause-left
+returns-in_default-clause-left g c =
+    absurd (walked_all c.loop.counter c.args.self.now (rw (← c.len-end.ensures) c.loop-test.true) (sym c.in_default.is ∙ c.loop.invariant.at))
 
-pub loop-i-preserved : goal.loop-i-preserved
-loop-i-preserved g c =
-    let i = c.loop-i.i in
+pub take_message-message-requires : goal.take_message-message-requires
+take_message-message-requires g c =
+    subst (IsHeld c.in-Some.place) (sym c.loop.invariant.left) (held_at c.loop.counter c.in-Some.place c.args.self.now (sym c.in-Some.is ∙ c.loop.invariant.at))
+
+taken : (g : _) (c : goal.Joined-message g) → TakesNext c.loop.counter c.args.self.now c.take_message-message.result.0 c.take_message-message.result.1 c.take_message-message.new.self
+taken g c =
+    let P = λ (ws : _). TakesMessageAt c.in-Some.place ws c.take_message-message.result.0 c.take_message-message.result.1 c.take_message-message.new.self in
+    takes_next c.loop.counter c.in-Some.place c.args.self.now c.take_message-message.result.0 c.take_message-message.result.1 c.take_message-message.new.self (sym c.in-Some.is ∙ c.loop.invariant.at) (subst P c.loop.invariant.left c.take_message-message.ensures)
+
+pub loop-preserved : goal.loop-preserved
+loop-preserved g c =
+    let i = c.loop.counter in
     let xs = c.args.self.now in
-    let kept = c.loop-i.invariant in
-    let takes = c.take_message.ensures in
-    let there = ap (λ ys. slice_get ys i) (sym kept.left) ∙ takes.was in
-    let left = takes.left ∙ (ap (λ ys. slice_set ys i (emptied takes.waiter)) kept.left ∙ one-more i xs takes.waiter there) in
-    let first = first-left i xs takes.waiter there in
-    elim c.match-take_message.branch [
-      | in-Some w ↦
+    let kept = c.loop.invariant in
+    let next = taken g c in
+    elim c.match-message.branch [
+      | in-Some-message w ↦
           let long = ap vec_len w.into-is ∙ w.push_reserved.ensures.len in
           let wide = ap vec_capacity w.into-is ∙ w.push_reserved.ensures.capacity in
           record {
-            left = left;
-            moved = moved-one c.loop-i.into.items c.match-take_message.into.items (brought (drop (i + 1) xs)) (brought (drop i xs)) (c.args.into.now.items ++ brought xs) takes.waiter.message first kept.moved w.in-Some.message (sym takes.message ∙ w.in-Some.is) (ap (λ v. v.items) w.into-is ∙ w.push_reserved.ensures.items);
-            room = omega (arith, long, wide, kept.room, c.loop-i-test.true, c.len-i-end.ensures.len);
+            at = next.at;
+            left = next.left;
+            moved = moved-one c.loop.into.items c.match-message.into.items (brought (drop (i + 1) xs)) (brought (drop i xs)) (c.args.into.now.items ++ brought xs) c.take_message-message.result.0 next.first kept.moved w.in-Some-message.message w.in-Some-message.is (ap (λ v. v.items) w.into-is ∙ w.push_reserved.ensures.items);
+            room = omega (arith, long, wide, kept.room, c.loop-test.true, c.len-end.ensures);
             capacity = wide ∙ kept.capacity;
           }
-      | in_default w ↦
+      | in_default-message w ↦
           let long = ap vec_len w.into-is in
           let wide = ap vec_capacity w.into-is in
           record {
-            left = left;
-            moved = moved-none c.loop-i.into.items c.match-take_message.into.items (brought (drop (i + 1) xs)) (brought (drop i xs)) (c.args.into.now.items ++ brought xs) takes.waiter.message first kept.moved (sym takes.message ∙ w.in_default.is) (ap (λ v. v.items) w.into-is);
+            at = next.at;
+            left = next.left;
+            moved = moved-none c.loop.into.items c.match-message.into.items (brought (drop (i + 1) xs)) (brought (drop i xs)) (c.args.into.now.items ++ brought xs) c.take_message-message.result.0 next.first kept.moved w.in_default-message.is (ap (λ v. v.items) w.into-is);
             room = omega (arith, long, wide, kept.room);
             capacity = wide ∙ kept.capacity;
           }
     ]
 
 pub returns-clause-left : goal.returns-clause-left
-returns-clause-left g c = c.loop-i.invariant.left ∙ all-emptied c.loop-i.i c.args.self.now (rw (← c.len-i-end.ensures.len) c.loop-i-test.false)
-
-pub loop-i-init : goal.loop-i-init
-loop-i-init g c = search rules
+returns-clause-left g c = c.loop.invariant.left ∙ all-emptied c.loop.counter c.args.self.now (rw (← c.len-end.ensures) c.loop-test.false)

@@ -4,7 +4,7 @@ use Rattle.kanal_core.proofs.internal.wait_list.WaitList.next_message.Given as g
 
 -- those that left brought nothing
 abbrev pub invariant-loop-waiter : goal.invariant-loop-waiter
-invariant-loop-waiter g l = brought l.self-inside.waiters.items ≡ brought l.fn.self
+invariant-loop-waiter g l = brought l.self ≡ brought l.fn.self
 
 abbrev pub decreases-loop-waiter : goal.decreases-loop-waiter
-decreases-loop-waiter g l = length l.self-inside.waiters.items
+decreases-loop-waiter g l = length l.self

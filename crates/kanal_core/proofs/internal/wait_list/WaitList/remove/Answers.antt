@@ -1,15 +1,34 @@
-use Rattle.std.proofs.Common.{◌≡◌, ap, subst, ℕ, ◌<◌, ◌↔◌, IsSome}
+use Rattle.std.proofs.Common.{◌≡◌, sym, ◌∙◌, subst}
+use Rattle.kanal_core.specs.Links.{IsLinked}
 use Rattle.kanal_core.specs.Waiters.{waiter_of, without}
-use Rattle.kanal_core.proofs.WaiterPlaces.{taken}
+use Rattle.kanal_core.proofs.Finding.{IsNotThere, absent, replaced, found, removed, not_true, not_false}
 use Rattle.kanal_core.proofs.internal.wait_list.WaitList.remove.Goals as goal
 
-both : (g : _) (c : goal.After-remove g) → (c.remove.result ≡ waiter_of c.args.ticket c.self.inside.waiters.items) × (c.remove.new.self.items ≡ without c.args.ticket c.self.inside.waiters.items)
+gone : (g : _) (c : goal.After-from_residual g) → IsNotThere c.args.ticket c.args.self.now
+gone g c = absent c.self.inside.slots.slab _ _ c.args.self.now c.args.ticket (subst (IsLinked c.self.inside.slots.slab c.self.inside.first c.self.inside.last) c.self.view_is c.self.invariant) (sym c.in_err-slot.ensures.value)
+
+pub returns-in_err-slot-clause-value : goal.returns-in_err-slot-clause-value
+returns-in_err-slot-clause-value g c = c.from_residual.ensures ∙ sym (gone g c).nobody
+
+pub returns-in_err-slot-clause-others : goal.returns-in_err-slot-clause-others
+returns-in_err-slot-clause-others g c = sym (gone g c).others
+
+other : (g : _) (c : goal.Then-ne g) → IsNotThere c.args.ticket c.args.self.now
+other g c = replaced c.self.inside.slots.slab _ _ c.args.self.now c.args.ticket c.in_ok-slot.slot.now (subst (IsLinked c.self.inside.slots.slab c.self.inside.first c.self.inside.last) c.self.view_is c.self.invariant) (sym c.in_ok-slot.ensures.value) (not_true _ c.if-ne.ensures)
+
+pub returns-then-ne-clause-value : goal.returns-then-ne-clause-value
+returns-then-ne-clause-value g c = sym (other g c).nobody
+
+pub returns-then-ne-clause-others : goal.returns-then-ne-clause-others
+returns-then-ne-clause-others g c = sym (other g c).others
+
+both : (g : _) (c : goal.After-unlink g) → (c.unlink.result ≡ waiter_of c.args.ticket c.args.self.now) × (c.unlink.new.self ≡ without c.args.ticket c.args.self.now)
 both g c =
-    taken c.args.ticket c.self.inside.waiters.items c.remove.new.self.items c.place-at.result c.remove.result c.place-at.ensures c.remove.ensures.value c.remove.ensures.items (subst (λ (n : ℕ). IsSome c.remove.result ↔ (c.place-at.result < n)) c.self.inside.waiters.ok.0 c.remove.ensures.variant)
-    (λ none. ap (λ q. q.items) (rw none at c.remove.ensures.unchanged))
+    let it = found c.self.inside.slots.slab _ _ c.args.self.now c.args.ticket c.in_ok-slot.slot.now (subst (IsLinked c.self.inside.slots.slab c.self.inside.first c.self.inside.last) c.self.view_is c.self.invariant) (sym c.in_ok-slot.ensures.value) (not_false _ c.if-ne.ensures) in
+    removed c.args.ticket c.args.self.now c.unlink.new.self c.in_ok-slot.slot.now c.unlink.result it c.unlink.ensures.some c.unlink.ensures.none
 
 pub returns-clause-value : goal.returns-clause-value
-returns-clause-value g c = rw (← c.self.view_is) (both g c).0
+returns-clause-value g c = (both g c).0
 
 pub returns-clause-others : goal.returns-clause-others
-returns-clause-others g c = rw (← c.self.view_is) (both g c).1
+returns-clause-others g c = (both g c).1

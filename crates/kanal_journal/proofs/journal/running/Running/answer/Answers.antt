@@ -14,7 +14,7 @@ answer-made-requires-clause-few g c =
 pub answer-made-requires-clause-room : goal.answer-made-requires-clause-room
 answer-made-requires-clause-room g c =
     let now = c.args.self.now in
-    omega (arith, c.requires.within.given, c.requires.room.tickets, numbered-count 0 now.tickets.items now.core.next c.requires.within.numbered, now.tickets.ok.0)
+    omega (arith, c.requires.within.given, c.requires.room.tickets, numbered-count 0 now.tickets.items now.core.next c.requires.within.tickets.numbered, now.tickets.ok.0)
 
 pub answer-made-requires-clause-drains : goal.answer-made-requires-clause-drains
 answer-made-requires-clause-drains g c =
@@ -25,7 +25,7 @@ note-requires-clause-settled g c =
     let now = c.args.self.now in
     let below : tickets (under now.core.capacity (line_of now.core).line) ≡ [] = nobody-below now.core.capacity (line_of now.core).line now.core.buffer _ refl c.holds.ensures.full in
     let counts = answered-counts now.handles (line_of now.core) (line_of c.answer-made.new.core) c.args.event now.drained.items c.answer-made.new.drained.items c.answer-made.result below c.answer-made.ensures.answered in
-    let more = numbered-more now.tickets.items c.answer-made.new.tickets.items now.core.next c.answer-made.new.core.next c.requires.within.numbered c.answer-made.ensures.numbered (omega (arith, c.answer-made.ensures.one, now.tickets.ok.0, c.answer-made.new.tickets.ok.0)) in
+    let more = numbered-more now.tickets.items c.answer-made.new.tickets.items now.core.next c.answer-made.new.core.next c.requires.within.tickets.numbered c.answer-made.ensures.given.numbered (omega (arith, c.answer-made.ensures.one, now.tickets.ok.0, c.answer-made.new.tickets.ok.0)) in
     omega (arith, counts.0, more, c.requires.within.waiting, c.requires.room.settled, now.settled.ok.0)
 
 pub note-requires-clause-cleared : goal.note-requires-clause-cleared
@@ -42,4 +42,4 @@ returns-clause-within g c =
     let below : tickets (under now.core.capacity (line_of now.core).line) ≡ [] = nobody-below now.core.capacity (line_of now.core).line now.core.buffer _ refl c.holds.ensures.full in
     let one : length made.new.tickets.items ≤ length now.tickets.items + 1 = omega (arith, made.ensures.one, now.tickets.ok.0, made.new.tickets.ok.0) in
     let next : Running g.row.T.Denot = record { core = made.new.core; tickets = made.new.tickets; handles = made.new.handles; settled = c.note.new.settlements; drained = made.new.drained; cleared = c.note.new.clearings } in
-    within-next c.args.number now next c.args.event made.result below c.requires.within made.ensures.answered made.ensures.handles made.ensures.numbered one c.note.ensures.settled c.note.ensures.cleared
+    within-next c.args.number now next c.args.event made.result below c.requires.within made.ensures.answered made.ensures.handles made.ensures.given one c.note.ensures.settled c.note.ensures.cleared

@@ -1,5 +1,5 @@
 -- An option to which a message was given back.
-use Rattle.std.proofs.Common.{◌≡◌, Option, Some, None, IsSome, IfSome, Result, Ok, Err, IfErr, ap, sym, subst, ◌∙◌}
+use Rattle.std.proofs.Common.{◌≡◌, Option, Some, None, IsSome, IfSome, Result, Ok, Err, IfErr, ap, sym, ◌∙◌}
 use Rattle.kanal_core.specs.declared.error.SendErrorTimeout.{SendErrorTimeout}
 use Rattle.kanal_shared.specs.Timed.{StartedNoWait, option_after, refusal_of}
 

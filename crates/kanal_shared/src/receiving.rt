@@ -104,6 +104,7 @@ impl<T: Drop> Shared<T> {
     }
 
     /// Receives a message with what a wait needs in hand.
+    #[cold]
     fn recv_waiting<R: Wait>(&self, rt: &R) -> Result<T, ReceiveError> {
         let Some((waiting, seat)) = wait(self.alloc) else {
             return Err(ReceiveError::NoMemory);

@@ -97,6 +97,7 @@ impl<T: Drop> Shared<T> {
     }
 
     /// Sends the message with what a wait needs in hand.
+    #[cold]
     fn send_waiting<R: Wait>(&self, rt: &R, message: T) -> Result<(), SendError> {
         let Some((waiting, seat)) = wait(self.alloc) else {
             return Err(SendError::NoMemory);

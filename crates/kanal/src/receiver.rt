@@ -192,8 +192,8 @@ impl<T: Drop> Receiver<T> {
         self.inner.is_disconnected(rt)
     }
 
-    /// Whether no sender is left and the buffer is empty, so that no message will come. It waits for
-    /// the lock.
+    /// Whether no sender is left and nothing is in the line, waiting senders' messages included, so that
+    /// no message will come. It waits for the lock.
     ///
     /// # Examples
     /// ```text
@@ -283,6 +283,24 @@ impl<T: Drop> Receiver<T> {
     /// ```
     pub fn is_closed<R: Wait>(&self, rt: &R) -> bool {
         self.inner.is_closed(rt)
+    }
+
+    /// Lets the senders be done: nothing more enters, and the receivers take what is left. A receive
+    /// that waits ends with `SendClosed`, and so does each later one once nothing is left; a send that
+    /// waits is still served. Each later send is refused as `Sealed`. It waits for the lock.
+    ///
+    /// `close` throws away what is in the channel, and the last sender's drop needs every clone gone.
+    ///
+    /// # Errors
+    /// `CloseError` where the channel was sealed or closed already, or no sender is left.
+    ///
+    /// # Examples
+    /// ```text
+    /// receiver.seal(&rt)   answers  Ok(())
+    /// receiver.seal(&rt)   answers  Err(CloseError())   after that
+    /// ```
+    pub fn seal<R: Wait>(&self, rt: &R) -> Result<(), CloseError> {
+        self.inner.seal(rt)
     }
 
     /// Closes the channel for both sides: all waits end with `Closed`, and the buffer's messages are

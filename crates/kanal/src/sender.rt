@@ -33,8 +33,8 @@ impl<T: Drop> Sender<T> {
     ///
     /// # Errors
     /// `Closed` where the channel was closed, `ReceiveClosed` where the last receiver was dropped,
-    /// `NoMemory` where memory was refused, and `TooMany` where the tickets are used up. The message
-    /// is dropped then.
+    /// `Sealed` after a `seal`, `NoMemory` where memory was refused, and `TooMany` where the tickets
+    /// are used up. The message is dropped then.
     ///
     /// # Examples
     /// ```text
@@ -103,8 +103,8 @@ impl<T: Drop> Sender<T> {
     /// message was dropped. It waits for the lock.
     ///
     /// # Errors
-    /// `Closed` where the channel was closed, `ReceiveClosed` where the last receiver was dropped, and
-    /// `NoMemory` where memory was refused. The message is dropped then.
+    /// `Closed` where the channel was closed, `ReceiveClosed` where the last receiver was dropped,
+    /// `Sealed` after a `seal`, and `NoMemory` where memory was refused. The message is dropped then.
     ///
     /// # Examples
     /// ```text
@@ -317,6 +317,24 @@ impl<T: Drop> Sender<T> {
     /// ```
     pub fn is_closed<R: Wait>(&self, rt: &R) -> bool {
         self.inner.is_closed(rt)
+    }
+
+    /// Lets the senders be done: nothing more enters, and the receivers take what is left. A receive
+    /// that waits ends with `SendClosed`, and so does each later one once nothing is left; a send that
+    /// waits is still served. Each later send is refused as `Sealed`. It waits for the lock.
+    ///
+    /// `close` throws away what is in the channel, and the last sender's drop needs every clone gone.
+    ///
+    /// # Errors
+    /// `CloseError` where the channel was sealed or closed already, or no sender is left.
+    ///
+    /// # Examples
+    /// ```text
+    /// sender.seal(&rt)   answers  Ok(())
+    /// sender.seal(&rt)   answers  Err(CloseError())   after that
+    /// ```
+    pub fn seal<R: Wait>(&self, rt: &R) -> Result<(), CloseError> {
+        self.inner.seal(rt)
     }
 
     /// Closes the channel for both sides: all waits end with `Closed`, and the buffer's messages are

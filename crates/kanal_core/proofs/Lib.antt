@@ -12,4 +12,5 @@ pub mod LettingIn
 pub mod Emptying
 pub mod Taking
 pub mod Dropping
+pub mod Sealing
 pub mod Draining

@@ -67,8 +67,8 @@ module _ {T W : Type 0} (c : Option ℕ) (s r n : ℕ) where
     handed-place : first.message ≡ None → has_place (line_of (row [] (first ∷ new))) ≡ true
     handed-place e = rw e refl
 
-    pub enters-handed : (r ≡ 0 → ⊥) → first.message ≡ None → AllReceive new → Enters (line_of (row [] (first ∷ new))) m ((first.ticket.number, Given m) ∷ []) (line_of (row [] new))
-    enters-handed some_receiver e a = record { receiver = some_receiver; place = handed-place e; moves = handed-moves e a }
+    pub enters-handed : (r ≡ 0 → ⊥) → (s ≡ 0 → ⊥) → first.message ≡ None → AllReceive new → Enters (line_of (row [] (first ∷ new))) m ((first.ticket.number, Given m) ∷ []) (line_of (row [] new))
+    enters-handed some_receiver some_sender e a = record { receiver = some_receiver; sender = some_sender; place = handed-place e; moves = handed-moves e a }
 
 -- the front is taken, and nobody waits
 pub takes-alone : {T : Type 0} (W : Type 0) (c : Option ℕ) (s r n : ℕ) (m : T) (ms : List T) → (r ≡ 0 → ⊥) → TakesFront (line_of (row {W = W} c s r n (m ∷ ms) [])) m [] (line_of (row {W = W} c s r n ms []))

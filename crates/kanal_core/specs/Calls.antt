@@ -5,7 +5,7 @@ use Rattle.kanal_core.specs.declared.internal.outcome.Settled.{Settled}
 use Rattle.kanal_core.specs.declared.internal.outcome.Ticket.{Ticket}
 use Rattle.kanal_core.specs.declared.internal.outcome.Waiter.{Waiter}
 use Rattle.kanal_core.specs.declared.internal.outcome.Offer.{Offer}
-use Rattle.kanal_core.specs.declared.internal.outcome.Offer.TheVariants.{Entered, Handed, Full, Closed as OfferClosed, ReceiveClosed, NoMemory}
+use Rattle.kanal_core.specs.declared.internal.outcome.Offer.TheVariants.{Entered, Handed, Full, Closed as OfferClosed, ReceiveClosed, Sealed, NoMemory}
 use Rattle.kanal_core.specs.declared.internal.outcome.Take.{Take}
 use Rattle.kanal_core.specs.declared.internal.outcome.Take.TheVariants.{Got, Closed as TakeClosed, SendClosed, Empty}
 use Rattle.kanal_core.specs.Line.{Entry, Line, has_place, has, found}
@@ -24,6 +24,7 @@ MovesTo moved settled new = moved ≡ record { line = new; settled = settled }
 -- the message entered
 pub record Enters {T : Type 0} (old : Line T) (m : T) (settled : List (ℕ × Outcome T)) (new : Line T) : Type 0 where
   pub receiver : old.receivers ≢ 0
+  pub sender : old.senders ≢ 0
   pub place : has_place old ≡ true
   pub moves : MovesTo (enter old m) settled new
 
@@ -46,7 +47,7 @@ StaysGone old new = (old.senders ≡ 0 → new.senders ≡ 0) × (old.receivers 
 
 -- an offer would be answered `Full`
 abbrev pub IsFull : {T : Type 0} → Line T → Type 0
-IsFull old = (old.receivers ≢ 0) × (has_place old ≡ false)
+IsFull old = (old.receivers ≢ 0) × (old.senders ≢ 0) × (has_place old ≡ false)
 
 -- a take would be answered `Empty`
 abbrev pub IsEmpty : {T : Type 0} → Line T → Type 0
@@ -68,10 +69,11 @@ module _ {T W : Type 0} where
   abbrev pub Offers : Line T → T → Offer T W → Line T → Type 0
   Offers old m Entered new = Enters old m [] new
   Offers old m (Handed s) new = Enters old m (settlement s ∷ []) new
-  Offers old m (Full back) new = Stays old new × (has_place old ≡ false) × (back ≡ m)
+  Offers old m (Full back) new = Stays old new × (old.senders ≢ 0) × (has_place old ≡ false) × (back ≡ m)
   Offers old m (OfferClosed back) new = (old.receivers ≡ 0) × (old.senders ≡ 0) × (back ≡ m) × (new ≡ old)
   Offers old m (ReceiveClosed back) new = (old.receivers ≡ 0) × (old.senders ≢ 0) × (back ≡ m) × (new ≡ old)
-  Offers old m (NoMemory back) new = Stays old new × (old.demands ≡ []) × (old.capacity ≡ None) × (back ≡ m)
+  Offers old m (Sealed back) new = Stays old new × (old.senders ≡ 0) × (back ≡ m)
+  Offers old m (NoMemory back) new = Stays old new × (old.senders ≢ 0) × (old.demands ≡ []) × (old.capacity ≡ None) × (back ≡ m)
 
   -- the message is in the line, or a waiting receiver has it
   abbrev pub HasEntered : Offer T W → Type 0
@@ -80,6 +82,7 @@ module _ {T W : Type 0} where
   HasEntered (Full back) = ⊥
   HasEntered (OfferClosed back) = ⊥
   HasEntered (ReceiveClosed back) = ⊥
+  HasEntered (Sealed back) = ⊥
   HasEntered (NoMemory back) = ⊥
 
   -- an unlimited buffer found no memory for the message
@@ -90,6 +93,7 @@ module _ {T W : Type 0} where
   LacksMemory (Full back) = ⊥
   LacksMemory (OfferClosed back) = ⊥
   LacksMemory (ReceiveClosed back) = ⊥
+  LacksMemory (Sealed back) = ⊥
 
   -- a message was asked for
   abbrev pub Takes : Line T → Take T W → Line T → Type 0
@@ -110,6 +114,7 @@ module _ {T W : Type 0} where
   handed (Full back) = None
   handed (OfferClosed back) = None
   handed (ReceiveClosed back) = None
+  handed (Sealed back) = None
   handed (NoMemory back) = None
 
   -- the waiter that a take settled

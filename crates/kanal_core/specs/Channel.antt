@@ -8,7 +8,7 @@ use Rattle.kanal_core.specs.declared.internal.outcome.Outcome.TheVariants.{Taken
 use Rattle.kanal_core.specs.declared.internal.outcome.Settled.{Settled}
 use Rattle.kanal_core.specs.declared.internal.outcome.Waiter.{Waiter}
 use Rattle.kanal_core.specs.Line.{Entry, Line, bare, waiting}
-use Rattle.kanal_core.specs.Waiters.{sender_first}
+use Rattle.kanal_core.specs.Waiters.{receiver_first, sender_first}
 
 -- the buffer from front to back, those that wait from the oldest on, and the counts
 pub record Channel (T W : Type 0) : Type 0 where
@@ -52,6 +52,10 @@ module _ {T W : Type 0} where
   -- a channel with these numbers, in which nothing is and nobody waits
   abbrev pub starting : Option ℕ → ℕ → ℕ → ℕ → Channel T W
   starting capacity first senders receivers = record { buffer = []; waiters = []; capacity = capacity; senders = senders; receivers = receivers; next = first }
+
+  -- a channel that was sealed: no sender is left, and receivers wait no more
+  abbrev pub sealed : Channel T W → Channel T W
+  sealed c = record c { waiters = cond (receiver_first c.waiters) [] c.waiters; senders = 0 }
 
   -- a channel that was closed
   abbrev pub closed : Channel T W → Channel T W

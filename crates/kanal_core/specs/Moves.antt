@@ -98,6 +98,10 @@ module _ {T : Type 0} where
   drop_receiver old =
       cond (old.receivers == 1) (end_all (record old { receivers = 0 }) ReceiveClosed) (quiet (record old { receivers = old.receivers - 1 }))
 
+  -- Sealing: no sender is left, and each demand ends; the line stays.
+  abbrev pub seal : Line T → Moved T
+  seal old = record { line = record old { demands = []; senders = 0 }; settled = map (λ t. (t, Ended SendClosed None)) old.demands }
+
   -- Closing: all that waits ends, and nothing is left.
   abbrev pub close : Line T → Moved T
   close old =

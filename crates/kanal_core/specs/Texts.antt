@@ -5,9 +5,9 @@ use Rattle.kanal_core.specs.declared.error.NewError.TheVariants.{TooLarge, NoMem
 use Rattle.kanal_core.specs.declared.error.CloseError.{CloseError}
 use Rattle.kanal_core.specs.declared.error.TooMany.{TooMany}
 use Rattle.kanal_core.specs.declared.error.SendError.{SendError}
-use Rattle.kanal_core.specs.declared.error.SendError.TheVariants.{Closed as SendClosed, ReceiveClosed as SendReceiveClosed, NoMemory as SendNoMemory, TooMany as SendTooMany, Finished as SendFinished}
+use Rattle.kanal_core.specs.declared.error.SendError.TheVariants.{Closed as SendClosed, ReceiveClosed as SendReceiveClosed, Sealed as SendSealed, NoMemory as SendNoMemory, TooMany as SendTooMany, Finished as SendFinished}
 use Rattle.kanal_core.specs.declared.error.SendErrorTimeout.{SendErrorTimeout}
-use Rattle.kanal_core.specs.declared.error.SendErrorTimeout.TheVariants.{Closed as SendTimedClosed, ReceiveClosed as SendTimedReceiveClosed, Timeout as SendTimedTimeout, NoMemory as SendTimedNoMemory, TooMany as SendTimedTooMany, DeadlineOutOfRange as SendTimedDeadlineOutOfRange}
+use Rattle.kanal_core.specs.declared.error.SendErrorTimeout.TheVariants.{Closed as SendTimedClosed, ReceiveClosed as SendTimedReceiveClosed, Sealed as SendTimedSealed, Timeout as SendTimedTimeout, NoMemory as SendTimedNoMemory, TooMany as SendTimedTooMany, DeadlineOutOfRange as SendTimedDeadlineOutOfRange}
 use Rattle.kanal_core.specs.declared.error.ReceiveError.{ReceiveError}
 use Rattle.kanal_core.specs.declared.error.ReceiveError.TheVariants.{Closed as ReceiveClosed, SendClosed as ReceiveSendClosed, NoMemory as ReceiveNoMemory, TooMany as ReceiveTooMany, Finished as ReceiveFinished}
 use Rattle.kanal_core.specs.declared.error.ReceiveErrorTimeout.{ReceiveErrorTimeout}
@@ -30,6 +30,7 @@ too_many_text e = codes "too many"
 abbrev pub send_error_text : SendError → List ℕ
 send_error_text SendClosed = codes "send to a closed channel"
 send_error_text SendReceiveClosed = codes "send to a half closed channel"
+send_error_text SendSealed = codes "send to a sealed channel"
 send_error_text SendNoMemory = codes "no memory"
 send_error_text SendTooMany = codes "too many"
 send_error_text SendFinished = codes "already finished"
@@ -38,6 +39,7 @@ send_error_text SendFinished = codes "already finished"
 abbrev pub send_error_timeout_text : SendErrorTimeout → List ℕ
 send_error_timeout_text SendTimedClosed = codes "send to a closed channel"
 send_error_timeout_text SendTimedReceiveClosed = codes "send to a half closed channel"
+send_error_timeout_text SendTimedSealed = codes "send to a sealed channel"
 send_error_timeout_text SendTimedTimeout = codes "send timeout"
 send_error_timeout_text SendTimedNoMemory = codes "no memory"
 send_error_timeout_text SendTimedTooMany = codes "too many"

@@ -82,6 +82,8 @@ pub enum SendError {
     Closed,
     /// No receiver is left.
     ReceiveClosed,
+    /// The channel was sealed: what is in it is received, and nothing more enters.
+    Sealed,
     /// A growth was refused: of a buffer without limit, or for a wait.
     NoMemory,
     /// The channel's tickets are used up.
@@ -97,6 +99,7 @@ impl fmt::Display for SendError {
         match self {
             SendError::Closed => write!(f, "send to a closed channel"),
             SendError::ReceiveClosed => write!(f, "send to a half closed channel"),
+            SendError::Sealed => write!(f, "send to a sealed channel"),
             SendError::NoMemory => write!(f, "no memory"),
             SendError::TooMany => write!(f, "too many"),
             SendError::Finished => write!(f, "already finished"),
@@ -113,6 +116,8 @@ pub enum SendErrorTimeout {
     Closed,
     /// No receiver is left.
     ReceiveClosed,
+    /// The channel was sealed: what is in it is received, and nothing more enters.
+    Sealed,
     /// The deadline passed.
     Timeout,
     /// A growth was refused: of a buffer without limit, or for a wait.
@@ -130,6 +135,7 @@ impl fmt::Display for SendErrorTimeout {
         match self {
             SendErrorTimeout::Closed => write!(f, "send to a closed channel"),
             SendErrorTimeout::ReceiveClosed => write!(f, "send to a half closed channel"),
+            SendErrorTimeout::Sealed => write!(f, "send to a sealed channel"),
             SendErrorTimeout::Timeout => write!(f, "send timeout"),
             SendErrorTimeout::NoMemory => write!(f, "no memory"),
             SendErrorTimeout::TooMany => write!(f, "too many"),

@@ -205,8 +205,8 @@ impl<T, W> ChannelInternal<T, W> {
     /// Offers a message, which enters where the buffer has a place.
     ///
     /// `Full` is a bounded channel at its capacity; `ReceiveClosed` comes where no receiver is left,
-    /// and `Closed` where no sender is left either. `NoMemory` comes only without a limit. Each of
-    /// these gives the message back and changes nothing.
+    /// `Closed` where no sender is left either, and `Sealed` where only no sender is. `NoMemory` comes
+    /// only without a limit. Each of these gives the message back and changes nothing.
     ///
     /// # Examples
     /// ```text
@@ -216,10 +216,10 @@ impl<T, W> ChannelInternal<T, W> {
     /// ```
     pub fn offer(&mut self, message: T) -> Offer<T, W>
         ensures step { Offers (line_of self.old) message result (line_of self.new) }
-        ensures entered { HasEntered result → (self.old.receivers ≢ 0)
+        ensures entered { HasEntered result → (self.old.receivers ≢ 0) × (self.old.senders ≢ 0)
             × (has_place (line_of self.old) ≡ true) }
-        ensures enters { self.old.receivers ≢ 0 → has_place (line_of self.old) ≡ true
-            → HasEntered result ⊎ LacksMemory result }
+        ensures enters { self.old.receivers ≢ 0 → self.old.senders ≢ 0
+            → has_place (line_of self.old) ≡ true → HasEntered result ⊎ LacksMemory result }
         ensures waiter { OldestLeft self.old.waiters (handed result) self.new.waiters }
         ensures ticket { self.new.next ≡ self.old.next }
     {
@@ -229,6 +229,9 @@ impl<T, W> ChannelInternal<T, W> {
             } else {
                 Offer::ReceiveClosed(message)
             };
+        }
+        if self.senders == 0 {
+            return Offer::Sealed(message);
         }
         if self.waiters.receiver_first() {
             return Offer::Handed(hand_over(&mut self.waiters, message));

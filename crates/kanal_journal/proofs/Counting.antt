@@ -10,15 +10,15 @@ use Rattle.kanal_core.specs.declared.internal.outcome.Reason.TheVariants.{Closed
 use Rattle.kanal_core.specs.declared.internal.outcome.Outcome.{Outcome}
 use Rattle.kanal_core.specs.declared.internal.outcome.Outcome.TheVariants.{Taken, Ended}
 use Rattle.kanal_core.specs.Line.{Entry, Line, last_word, bare, waiting, tickets, has, under, over, messages, has_place, buffered, holds_ticket, found}
-use Rattle.kanal_core.specs.Moves.{last_count, serve, enter, leave, drain, seated, ended, ended_entry, end_all, close, cleared, wait_send, wait_recv, without_demand, add_sender, add_receiver}
+use Rattle.kanal_core.specs.Moves.{last_count, serve, enter, leave, drain, seated, ended, ended_entry, end_all, close, cleared, wait_send, wait_recv, without_demand, add_sender, add_receiver, seal}
 use Rattle.kanal_journal.specs.declared.journal.handles.Handles.{Handles}
 use Rattle.kanal_journal.specs.declared.journal.event.Event.{Event}
-use Rattle.kanal_journal.specs.declared.journal.event.Event.TheVariants.{Send, TrySend, Recv, RecvLate, TryRecv, Drain, Withdraw, CloneTx, CloneRx, DropTx, DropRx, Close, Ask as Asks, Terminated}
+use Rattle.kanal_journal.specs.declared.journal.event.Event.TheVariants.{Send, TrySend, Recv, RecvLate, TryRecv, Drain, Withdraw, CloneTx, CloneRx, DropTx, DropRx, Seal, Close, Ask as Asks, Terminated}
 use Rattle.kanal_journal.specs.declared.journal.event.Refusal.{Refusal}
-use Rattle.kanal_journal.specs.declared.journal.event.Refusal.TheVariants.{Closed as ByClosed, ReceiveClosed as NoReceiver, SendClosed as NoSender, Timeout, NoMemory, TooMany, CloseError, NoHandle, NotWaiting}
+use Rattle.kanal_journal.specs.declared.journal.event.Refusal.TheVariants.{Closed as ByClosed, ReceiveClosed as NoReceiver, Sealed as BySeal, SendClosed as NoSender, Timeout, NoMemory, TooMany, CloseError, NoHandle, NotWaiting}
 use Rattle.kanal_journal.specs.declared.journal.event.Reply.{Reply}
 use Rattle.kanal_journal.specs.declared.journal.event.Reply.TheVariants.{Sent, Waits, Yes, No, Got, Nothing, Drained, Withdrawn, Done, Cleared, Flag, Refused}
-use Rattle.kanal_journal.specs.Steps.{Told, only, moving, offer, take as take_told, take_front, nothing_there, wait, withdraw, shut, take_line, cloned, answer, message_of, step, refused}
+use Rattle.kanal_journal.specs.Steps.{Told, only, moving, offer, take as take_told, take_front, nothing_there, wait, withdraw, seal_line, shut, take_line, cloned, answer, message_of, step, refused}
 use Rattle.kanal_journal.specs.Runs.{Answers, has_handle}
 use Rattle.kanal_journal.specs.Paired.{withdrawn}
 use Rattle.kanal_journal.specs.Weights.{weigh}
@@ -161,9 +161,13 @@ module _ {T : Type 0} where
           elim (cases_Bool (eqb l.receivers 0)) [
             | inl x ↦ to e (offer l m r otherwise) (only l (Refused (cond (l.senders == 0) ByClosed NoReceiver) (Some m))) (rw x refl) (still e (Refused (cond (l.senders == 0) ByClosed NoReceiver) (Some m)) (w _))
             | inr x ↦
-                elim (cases_Bool (has_place l)) [
-                  | inl y ↦ to e (offer l m r otherwise) (moving (enter l m) r) (rw (x, y) refl) (entered e m r (w r))
-                  | inr y ↦ to e (offer l m r otherwise) otherwise (rw (x, y) refl) k
+                elim (cases_Bool (eqb l.senders 0)) [
+                  | inl s ↦ to e (offer l m r otherwise) (only l (Refused BySeal (Some m))) (rw (x, s) refl) (still e (Refused BySeal (Some m)) (w _))
+                  | inr s ↦
+                      elim (cases_Bool (has_place l)) [
+                        | inl y ↦ to e (offer l m r otherwise) (moving (enter l m) r) (rw (x, s, y) refl) (entered e m r (w r))
+                        | inr y ↦ to e (offer l m r otherwise) otherwise (rw (x, s, y) refl) k
+                      ]
                 ]
           ]
 
@@ -246,6 +250,15 @@ module _ {T : Type 0} where
             left = omega (arith, fewer (λ e. not (holds_ticket t e)) l.line);
           }
 
+      seals : Counts l Seal (seal_line l)
+      seals =
+          elim (cases_Bool (eqb l.senders 0)) [
+            | inl x ↦ to Seal (seal_line l) (only l (Refused CloseError None)) (rw x refl) (still Seal (Refused CloseError None) refl)
+            | inr x ↦
+                to Seal (seal_line l) (moving (seal l) Done) (rw x refl)
+                (record { settled = omega (arith, waits-weigh l, waits-weigh (seal l).line, ap (weigh g) (ended-tickets NoSendersLeft (record l { line = [] }))); left = omega arith })
+          ]
+
       closes : Counts l Close (shut l)
       closes =
           elim (cases_Bool (eqb l.senders 0 && eqb l.receivers 0)) [
@@ -313,9 +326,10 @@ module _ {T : Type 0} where
       step-counts below CloneRx = clones CloneRx l.receivers l.senders (add_receiver l).receivers (λ r. refl)
       step-counts below DropTx = drops_tx below
       step-counts below DropRx = drops_rx below
+      step-counts below Seal = seals
       step-counts below Close = closes
       step-counts below (Asks side ask) = still (Asks side ask) (answer l side ask) refl
-      step-counts below Terminated = still Terminated (Flag ((l.senders == 0) && (buffered l == 0))) refl
+      step-counts below Terminated = still Terminated (Flag ((l.senders == 0) && (length l.line == 0))) refl
 
       refused-none : (e : Event T) (reason : Refusal) → withdrawn e (Refused reason (message_of e)) ≡ []
       refused-none (Withdraw t) reason = refl

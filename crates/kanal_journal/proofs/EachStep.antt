@@ -9,14 +9,15 @@ use Rattle.kanal_core.specs.declared.internal.outcome.Outcome.TheVariants.{Given
 use Rattle.kanal_core.specs.Line.{Entry, Line, last_word, bare, messages, tickets, has, is_below, has_place, buffered, found}
 use Rattle.kanal_core.specs.Moves.{Moved, last_count, raised, enter, leave, drain, end_all, close, cleared, wait_send, wait_recv, without_entry, without_demand}
 use Rattle.kanal_core.proofs.Sided.{serve-nothing}
+use Rattle.kanal_core.proofs.Within.{under-nothing}
 use Rattle.kanal_journal.specs.declared.journal.handles.Handles.{Handles}
 use Rattle.kanal_journal.specs.declared.journal.event.Side.{Side}
 use Rattle.kanal_journal.specs.declared.journal.event.Ask.{Ask}
 use Rattle.kanal_journal.specs.declared.journal.event.Ask.TheVariants.{IsBounded, Len, IsEmpty, IsFull, Capacity, ReceiverCount, SenderCount, IsClosed, IsDisconnected}
 use Rattle.kanal_journal.specs.declared.journal.event.Event.{Event}
-use Rattle.kanal_journal.specs.declared.journal.event.Event.TheVariants.{Send, TrySend, Recv, RecvLate, TryRecv, Drain, Withdraw, CloneTx, CloneRx, DropTx, DropRx, Close, Ask as Asks, Terminated}
+use Rattle.kanal_journal.specs.declared.journal.event.Event.TheVariants.{Send, TrySend, Recv, RecvLate, TryRecv, Drain, Withdraw, CloneTx, CloneRx, DropTx, DropRx, Seal, Close, Ask as Asks, Terminated}
 use Rattle.kanal_journal.specs.declared.journal.event.Refusal.{Refusal}
-use Rattle.kanal_journal.specs.declared.journal.event.Refusal.TheVariants.{Closed as ByClosed, ReceiveClosed as NoReceiver, SendClosed as NoSender, Timeout, NoMemory, TooMany, CloseError, NoHandle, NotWaiting}
+use Rattle.kanal_journal.specs.declared.journal.event.Refusal.TheVariants.{Closed as ByClosed, ReceiveClosed as NoReceiver, Sealed as BySeal, SendClosed as NoSender, Timeout, NoMemory, TooMany, CloseError, NoHandle, NotWaiting}
 use Rattle.kanal_journal.specs.declared.journal.event.Reply.{Reply}
 use Rattle.kanal_journal.specs.declared.journal.event.Reply.TheVariants.{Sent, Waits, Yes, No, Got, Nothing, Drained, Withdrawn, Done, Cleared, Flag, Refused}
 use Rattle.kanal_journal.specs.Steps.{Told, only, moving, take, take_front, nothing_there, wait, withdraw, take_line, cloned, answer, message_of, step, refused}
@@ -139,9 +140,13 @@ module _ {T : Type 0} (h : History T) (l : Line T) (now : Holds h l) (n : ℕ) w
               | inr y ↦ to (Send m) (step l (Send m)) (only l (Refused NoReceiver (Some m))) (rw (x, y) refl) (holds_quiet h l now n (Send m) (Refused NoReceiver (Some m)) refl refl refl refl)
             ]
         | inr x ↦
-            elim (cases_Bool (has_place l)) [
-              | inl y ↦ to (Send m) (step l (Send m)) (moving (enter l m) Sent) (rw (x, y) refl) (enters (Send m) Sent m refl refl refl refl (eqb-false l.receivers 0 x) y l.demands refl)
-              | inr y ↦ to (Send m) (step l (Send m)) (wait l (wait_send l m) (Some m)) (rw (x, y) refl) (waits_send m (eqb-false l.receivers 0 x) y l.demands refl)
+            elim (cases_Bool (eqb l.senders 0)) [
+              | inl s ↦ to (Send m) (step l (Send m)) (only l (Refused BySeal (Some m))) (rw (x, s) refl) (holds_quiet h l now n (Send m) (Refused BySeal (Some m)) refl refl refl refl)
+              | inr s ↦
+                  elim (cases_Bool (has_place l)) [
+                    | inl y ↦ to (Send m) (step l (Send m)) (moving (enter l m) Sent) (rw (x, s, y) refl) (enters (Send m) Sent m refl refl refl refl (eqb-false l.receivers 0 x) y l.demands refl)
+                    | inr y ↦ to (Send m) (step l (Send m)) (wait l (wait_send l m) (Some m)) (rw (x, s, y) refl) (waits_send m (eqb-false l.receivers 0 x) y l.demands refl)
+                  ]
             ]
       ]
 
@@ -154,9 +159,13 @@ module _ {T : Type 0} (h : History T) (l : Line T) (now : Holds h l) (n : ℕ) w
               | inr y ↦ to (TrySend m) (step l (TrySend m)) (only l (Refused NoReceiver (Some m))) (rw (x, y) refl) (holds_quiet h l now n (TrySend m) (Refused NoReceiver (Some m)) refl refl refl refl)
             ]
         | inr x ↦
-            elim (cases_Bool (has_place l)) [
-              | inl y ↦ to (TrySend m) (step l (TrySend m)) (moving (enter l m) Yes) (rw (x, y) refl) (enters (TrySend m) Yes m refl refl refl refl (eqb-false l.receivers 0 x) y l.demands refl)
-              | inr y ↦ to (TrySend m) (step l (TrySend m)) (only l (No m)) (rw (x, y) refl) (holds_quiet h l now n (TrySend m) (No m) refl refl refl refl)
+            elim (cases_Bool (eqb l.senders 0)) [
+              | inl s ↦ to (TrySend m) (step l (TrySend m)) (only l (Refused BySeal (Some m))) (rw (x, s) refl) (holds_quiet h l now n (TrySend m) (Refused BySeal (Some m)) refl refl refl refl)
+              | inr s ↦
+                  elim (cases_Bool (has_place l)) [
+                    | inl y ↦ to (TrySend m) (step l (TrySend m)) (moving (enter l m) Yes) (rw (x, s, y) refl) (enters (TrySend m) Yes m refl refl refl refl (eqb-false l.receivers 0 x) y l.demands refl)
+                    | inr y ↦ to (TrySend m) (step l (TrySend m)) (only l (No m)) (rw (x, s, y) refl) (holds_quiet h l now n (TrySend m) (No m) refl refl refl refl)
+                  ]
             ]
       ]
 
@@ -192,6 +201,22 @@ module _ {T : Type 0} (h : History T) (l : Line T) (now : Holds h l) (n : ℕ) w
       let there : has t (tickets l.line) ≡ true = found-some t l.line m ms is in
       let none : l.demands ≡ [] = elim now.one [ inl k ↦ absurd (false≢true (rw k at there)) | inr k ↦ k ] in
       holds_next h l now (Withdraw t) (Withdrawn (Some m)) [] [] (without_entry l t) (moves_withdraw h l now.same t (Some m) none there) (clean_withdraw_entry l t (Some m) now.apart now.seats none there) refl (waiting-open t (rw (none, append-nil) there))
+
+  -- where the line is empty a seal ends all that waits, and otherwise nobody's demand does
+  seals : After Seal (step l Seal)
+  seals =
+      elim (cases_Bool (eqb l.senders 0)) [
+        | inl x ↦ to Seal (step l Seal) (only l (Refused CloseError None)) (rw x refl) (holds_quiet h l now n Seal (Refused CloseError None) refl refl refl refl)
+        | inr x ↦
+            elim now.one [
+              | inl empty ↦
+                  to Seal (step l Seal) (moving (end_all (record l { senders = 0 }) NoSendersLeft) Done) (rw (x, empty, under-nothing l.capacity) refl)
+                  (holds_end h l now n Seal Done refl refl refl NoSendersLeft 0 l.receivers refl (elim now.shut [ inl z ↦ z | inr z ↦ absurd (eqb-false l.senders 0 x z.0) ]))
+              | inr none ↦
+                  to Seal (step l Seal) (only (record l { senders = 0 }) Done) (rw (x, none) refl)
+                  (holds_counts (longer h Seal Done [] []) l (holds_quiet h l now n Seal Done refl refl refl refl) n 0 l.receivers (λ z. refl) (λ z. z))
+            ]
+      ]
 
   closes : After Close (step l Close)
   closes =
@@ -289,9 +314,10 @@ module _ {T : Type 0} (h : History T) (l : Line T) (now : Holds h l) (n : ℕ) w
   step-holds CloneRx = clones CloneRx l.receivers l.senders (raised l.receivers) refl refl refl (plain CloneRx (Refused TooMany None) (refl, refl, refl, refl)) (λ z. z) (raised-zero l.receivers)
   step-holds DropTx = drops_tx
   step-holds DropRx = drops_rx
+  step-holds Seal = seals
   step-holds Close = closes
   step-holds (Asks side ask) = plain (Asks side ask) (answer l side ask) (answers side ask)
-  step-holds Terminated = plain Terminated (Flag ((l.senders == 0) && (buffered l == 0))) (refl, refl, refl, refl)
+  step-holds Terminated = plain Terminated (Flag ((l.senders == 0) && (length l.line == 0))) (refl, refl, refl, refl)
 
   refused-plain : (e : Event T) (reason : Refusal) (back : Option T) → IsPlain e (Refused reason back)
   refused-plain (Send m) reason back = (refl, refl, refl, refl)
@@ -305,6 +331,7 @@ module _ {T : Type 0} (h : History T) (l : Line T) (now : Holds h l) (n : ℕ) w
   refused-plain CloneRx reason back = (refl, refl, refl, refl)
   refused-plain DropTx reason back = (refl, refl, refl, refl)
   refused-plain DropRx reason back = (refl, refl, refl, refl)
+  refused-plain Seal reason back = (refl, refl, refl, refl)
   refused-plain Close reason back = (refl, refl, refl, refl)
   refused-plain (Asks side ask) reason back = (refl, refl, refl, refl)
   refused-plain Terminated reason back = (refl, refl, refl, refl)

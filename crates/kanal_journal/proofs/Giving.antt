@@ -3,8 +3,8 @@ use Rattle.std.proofs.Common.{◌≡◌, ℕ, ◌+◌, ◌<◌, zero, suc, List,
 use Rattle.std.proofs.lemmas.Bool.{cases_Bool}
 use Rattle.kanal_core.specs.declared.internal.outcome.Ticket.{Ticket}
 use Rattle.kanal_core.specs.declared.internal.outcome.Waiter.{Waiter}
-use Rattle.kanal_core.specs.Channel.{Channel, after_drain}
-use Rattle.kanal_core.specs.Waiters.{IsPlaced, same_ticket, sender_first, without}
+use Rattle.kanal_core.specs.Channel.{Channel, after_drain, sealed}
+use Rattle.kanal_core.specs.Waiters.{IsPlaced, receiver_first, same_ticket, sender_first, without}
 use Rattle.kanal_journal.specs.Given.{AreGiven, AreKept, GivesNone}
 use Rattle.kanal_journal.proofs.Numbering.{numbered-count, numbered-last}
 
@@ -66,6 +66,9 @@ module _ {T W : Type 0} where
 
   pub none-drained : (old new : Channel T W) → new ≡ after_drain old → GivesNone old new
   none-drained old new e = rw e (record { next = refl; kept = λ ts k. kept-drained ts (sender_first old.waiters) old.waiters k })
+
+  pub none-sealed : (old new : Channel T W) → new ≡ sealed old → GivesNone old new
+  none-sealed old new e = rw e (record { next = refl; kept = λ ts k. kept-drained ts (receiver_first old.waiters) old.waiters k })
 
   -- where no ticket is given, those that were are still all
   pub still_given : (ts : List Ticket) (old new : Channel T W) → AreGiven ts old → GivesNone old new → AreGiven ts new

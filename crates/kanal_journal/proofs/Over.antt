@@ -1,34 +1,35 @@
 -- Once a receive was told that nothing will come, each later one is told so.
-use Rattle.std.proofs.Common.{◌≡◌, ℕ, ◌⊎◌, ◌-◌, zero, suc, Bool, true, false, eqb, ◌&&◌, List, [], ◌∷◌, ◌++◌, Option, Some, None, refl, sym, ap, ◌∙◌, subst, inl, inr, append_assoc, append-nil, length}
+use Rattle.std.proofs.Common.{◌≡◌, ℕ, ◌⊎◌, ◌-◌, ◌==◌, zero, suc, Bool, true, false, cond, eqb, ◌&&◌, List, [], ◌∷◌, ◌++◌, Option, Some, None, refl, sym, ap, ◌∙◌, subst, inl, inr, append_assoc, append-nil, length}
 use Rattle.std.proofs.lemmas.Bool.{cases_Bool, false≢true, eqb-true, eqb-false}
-use Rattle.kanal_core.specs.declared.internal.outcome.Reason.TheVariants.{ReceiveClosed as NoReceiversLeft}
+use Rattle.kanal_core.specs.declared.internal.outcome.Reason.TheVariants.{SendClosed as NoSendersLeft, ReceiveClosed as NoReceiversLeft}
 use Rattle.kanal_core.specs.Line.{Entry, Line, last_word, messages, under, has}
-use Rattle.kanal_core.specs.Moves.{last_count, add_receiver, end_all, drain, close, cleared, wait_recv, without_demand}
+use Rattle.kanal_core.specs.Moves.{last_count, add_sender, add_receiver, end_all, drain, close, cleared, wait_send, wait_recv, without_demand, seal}
 use Rattle.kanal_journal.specs.declared.journal.handles.Handles.{Handles}
 use Rattle.kanal_journal.specs.declared.journal.event.Side.TheVariants.{Rx}
 use Rattle.kanal_journal.specs.declared.journal.event.Event.{Event}
-use Rattle.kanal_journal.specs.declared.journal.event.Event.TheVariants.{Send, TrySend, Recv, RecvLate, TryRecv, Drain, Withdraw, CloneTx, CloneRx, DropTx, DropRx, Close, Ask as Asks, Terminated}
-use Rattle.kanal_journal.specs.declared.journal.event.Refusal.TheVariants.{Closed as ByClosed, SendClosed as NoSender, TooMany, CloseError, NotWaiting, Timeout, NoMemory, NoHandle}
+use Rattle.kanal_journal.specs.declared.journal.event.Event.TheVariants.{Send, TrySend, Recv, RecvLate, TryRecv, Drain, Withdraw, CloneTx, CloneRx, DropTx, DropRx, Seal, Close, Ask as Asks, Terminated}
+use Rattle.kanal_journal.specs.declared.journal.event.Refusal.TheVariants.{Closed as ByClosed, ReceiveClosed as NoReceiver, Sealed as BySeal, SendClosed as NoSender, TooMany, CloseError, NotWaiting, Timeout, NoMemory, NoHandle}
 use Rattle.kanal_journal.specs.declared.journal.event.Reply.{Reply}
 use Rattle.kanal_journal.specs.declared.journal.event.Reply.TheVariants.{Sent, Waits, Yes, No, Got, Nothing, Drained, Withdrawn, Done, Cleared, Number, Flag, Refused}
-use Rattle.kanal_journal.specs.Steps.{Told, IsWait, only, moving, take as take_told, take_front, nothing_there, wait, withdraw, take_line, shut, message_of, step, refused}
+use Rattle.kanal_journal.specs.Steps.{Told, IsWait, only, moving, offer, take as take_told, take_front, nothing_there, wait, withdraw, take_line, seal_line, shut, message_of, step, refused}
 use Rattle.kanal_journal.specs.Runs.{Account, Answers, Leads, IsTold, opening, has_handle, has_side, handles_after}
 use Rattle.kanal_journal.specs.Laws.{is_receive, tells_end, tells_end_or_no_handle, AreOver, StaysOver}
-use Rattle.kanal_journal.proofs.Standing.{Match, after-refused, told-keeps}
+use Rattle.kanal_core.proofs.Within.{under-nothing}
+use Rattle.kanal_journal.proofs.Standing.{told-zero}
 
 module _ {T : Type 0} where
-  -- nothing will come: no receiver is left, or no sender, no sender's handle and no message
-  abbrev IsOver : Line T → Handles → Type 0
-  IsOver l hs = (l.receivers ≡ 0) ⊎ ((l.senders ≡ 0) × (hs.tx ≡ 0) × (l.line ≡ []))
+  -- nothing will come: no receiver is left, or no sender and no message
+  abbrev IsOver : Line T → Type 0
+  IsOver l = (l.receivers ≡ 0) ⊎ ((l.senders ≡ 0) × (l.line ≡ []))
 
   module _ (l : Line T) (hs : Handles) where
     -- a receive on a line with nothing in it and no sender
-    take-over : (otherwise : Told T) → IsOver l hs → (told : Told T) → told ≡ take_told l (nothing_there l otherwise) → tells_end_or_no_handle told.reply ≡ true
+    take-over : (otherwise : Told T) → IsOver l → (told : Told T) → told ≡ take_told l (nothing_there l otherwise) → tells_end_or_no_handle told.reply ≡ true
     take-over otherwise (inl none) told is = rw (is, none) refl
     take-over otherwise (inr over) told is =
         elim (cases_Bool (eqb l.receivers 0)) [
           | inl x ↦ rw (is, x) refl
-          | inr x ↦ rw (is, x, over.2, over.0) refl
+          | inr x ↦ rw (is, x, over.1, over.0) refl
         ]
 
     refused-over : (e : Event T) (told : Told T) → told ≡ refused l NoHandle e → tells_end_or_no_handle told.reply ≡ true
@@ -51,7 +52,7 @@ module _ {T : Type 0} where
     waits-on (Refused reason back) w = elim w [ ]
 
     -- each receive is told that nothing will come
-    pub over-told : (e : Event T) (told : Told T) → IsOver l hs → Answers hs l e told → is_receive e ≡ true → tells_end_or_no_handle told.reply ≡ true
+    pub over-told : (e : Event T) (told : Told T) → IsOver l → Answers hs l e told → is_receive e ≡ true → tells_end_or_no_handle told.reply ≡ true
     over-told Recv told over (inl is) p =
         elim (cases_Bool (has_side hs Rx)) [
           | inl x ↦ take-over (wait l (wait_recv l) None) over told (is ∙ rw x refl)
@@ -75,38 +76,26 @@ module _ {T : Type 0} where
     over-told CloneRx told over is p = absurd (false≢true p)
     over-told DropTx told over is p = absurd (false≢true p)
     over-told DropRx told over is p = absurd (false≢true p)
+    over-told Seal told over is p = absurd (false≢true p)
     over-told Close told over is p = absurd (false≢true p)
     over-told (Asks side ask) told over is p = absurd (false≢true p)
     over-told Terminated told over is p = absurd (false≢true p)
 
     -- a receive that is told so finds it so
-    ends-over : (otherwise : Told T) → Match l hs → tells_end otherwise.reply ≡ false → tells_end (take_told l (nothing_there l otherwise)).reply ≡ true → IsOver l hs
-    ends-over otherwise match not_end end =
+    ends-over : (otherwise : Told T) → tells_end otherwise.reply ≡ false → tells_end (take_told l (nothing_there l otherwise)).reply ≡ true → IsOver l
+    ends-over otherwise not_end end =
         elim (cases_Bool (eqb l.receivers 0)) [
           | inl x ↦ inl (eqb-true l.receivers 0 x)
           | inr x ↦ go l.line refl (eqb-false l.receivers 0 x) (rw x at end)
         ]
       where
-        go : (xs : List (Entry T)) → l.line ≡ xs → (l.receivers ≡ 0 → ⊥) → tells_end (take_front l xs (nothing_there l otherwise)).reply ≡ true → IsOver l hs
+        go : (xs : List (Entry T)) → l.line ≡ xs → (l.receivers ≡ 0 → ⊥) → tells_end (take_front l xs (nothing_there l otherwise)).reply ≡ true → IsOver l
         go (x ∷ xs) is some_receiver k = absurd (false≢true k)
         go [] is some_receiver k =
             elim (cases_Bool (eqb l.senders 0)) [
-              | inl y ↦ let none : l.senders ≡ 0 = eqb-true l.senders 0 y in elim match [ inl m ↦ inr (none, sym m.0 ∙ none, is) | inr m ↦ absurd (some_receiver m.1) ]
+              | inl y ↦ inr (eqb-true l.senders 0 y, is)
               | inr y ↦ absurd (false≢true (sym not_end ∙ rw y at k))
             ]
-
-  under-nothing : (c : Option ℕ) → under {X = Entry T} c [] ≡ []
-  under-nothing None = refl
-  under-nothing (Some zero) = refl
-  under-nothing (Some (suc k)) = refl
-
-  -- the events of the senders' side
-  abbrev is_sending : Event T → Bool
-  is_sending (Send m) = true
-  is_sending (TrySend m) = true
-  is_sending CloneTx = true
-  is_sending DropTx = true
-  is_sending event = false
 
   module _ (l : Line T) (empty : l.line ≡ []) (none : l.senders ≡ 0) where
     -- after the event the line is still empty
@@ -133,79 +122,69 @@ module _ {T : Type 0} where
           | inr x ↦ told_to (withdraw l t []) (only l (Refused NotWaiting None)) (rw x refl) empty
         ]
 
-    still-empty : (e : Event T) → is_sending e ≡ false → IsEmptied (step l e)
-    still-empty (Send m) p = absurd (false≢true (sym p))
-    still-empty (TrySend m) p = absurd (false≢true (sym p))
-    still-empty CloneTx p = absurd (false≢true (sym p))
-    still-empty DropTx p = absurd (false≢true (sym p))
-    still-empty Recv p = takes-nothing (nothing_there l (wait l (wait_recv l) None)) (nothing-sent (wait l (wait_recv l) None))
-    still-empty RecvLate p = takes-nothing (only l (Refused Timeout None)) empty
-    still-empty TryRecv p = takes-nothing (nothing_there l (only l Nothing)) (nothing-sent (only l Nothing))
-    still-empty Drain p =
+    offers-nothing : (m : T) (r : Reply T) (otherwise : Told T) → IsEmptied (offer l m r otherwise)
+    offers-nothing m r otherwise =
+        elim (cases_Bool (eqb l.receivers 0)) [
+          | inl x ↦ told_to (offer l m r otherwise) (only l (Refused (cond (l.senders == 0) ByClosed NoReceiver) (Some m))) (rw x refl) empty
+          | inr x ↦ told_to (offer l m r otherwise) (only l (Refused BySeal (Some m))) (rw (x, none) refl) empty
+        ]
+
+    still-empty : (e : Event T) → IsEmptied (step l e)
+    still-empty (Send m) = offers-nothing m Sent (wait l (wait_send l m) (Some m))
+    still-empty (TrySend m) = offers-nothing m Yes (only l (No m))
+    still-empty CloneTx =
+        elim (cases_Bool (eqb l.senders last_count)) [
+          | inl x ↦ told_to (step l CloneTx) (only l (Refused TooMany None)) (rw x refl) empty
+          | inr x ↦ told_to (step l CloneTx) (only (add_sender l) Done) (rw x refl) empty
+        ]
+    still-empty DropTx =
+        elim (cases_Bool (eqb l.senders 1)) [
+          | inl x ↦ told_to (step l DropTx) (moving (end_all (record l { senders = 0 }) NoSendersLeft) Done) (rw x refl) (ap (under l.capacity) empty ∙ under-nothing l.capacity)
+          | inr x ↦ told_to (step l DropTx) (only (record l { senders = l.senders - 1 }) Done) (rw x refl) empty
+        ]
+    still-empty Recv = takes-nothing (nothing_there l (wait l (wait_recv l) None)) (nothing-sent (wait l (wait_recv l) None))
+    still-empty RecvLate = takes-nothing (only l (Refused Timeout None)) empty
+    still-empty TryRecv = takes-nothing (nothing_there l (only l Nothing)) (nothing-sent (only l Nothing))
+    still-empty Drain =
         elim (cases_Bool (eqb l.receivers 0)) [
           | inl x ↦ told_to (take_line l) (only l (Refused ByClosed None)) (rw x refl) empty
           | inr x ↦ told_to (take_line l) (record (moving (drain l) (Drained (length l.line))) { drained = messages l.line }) (rw x refl) refl
         ]
-    still-empty (Withdraw t) p = told_to (step l (Withdraw t)) (withdraw l t []) (rw empty refl) (withdraws-nothing t)
-    still-empty CloneRx p =
+    still-empty (Withdraw t) = told_to (step l (Withdraw t)) (withdraw l t []) (rw empty refl) (withdraws-nothing t)
+    still-empty CloneRx =
         elim (cases_Bool (eqb l.receivers last_count)) [
           | inl x ↦ told_to (step l CloneRx) (only l (Refused TooMany None)) (rw x refl) empty
           | inr x ↦ told_to (step l CloneRx) (only (add_receiver l) Done) (rw x refl) empty
         ]
-    still-empty DropRx p =
+    still-empty DropRx =
         elim (cases_Bool (eqb l.receivers 1)) [
           | inl x ↦ told_to (step l DropRx) (moving (end_all (record l { receivers = 0 }) NoReceiversLeft) Done) (rw x refl) (ap (under l.capacity) empty ∙ under-nothing l.capacity)
           | inr x ↦ told_to (step l DropRx) (only (record l { receivers = l.receivers - 1 }) Done) (rw x refl) empty
         ]
-    still-empty Close p =
+    still-empty Seal =
+        elim (cases_Bool (eqb l.senders 0)) [
+          | inl x ↦ told_to (seal_line l) (only l (Refused CloseError None)) (rw x refl) empty
+          | inr x ↦ told_to (seal_line l) (moving (seal l) Done) (rw x refl) empty
+        ]
+    still-empty Close =
         elim (cases_Bool (eqb l.senders 0 && eqb l.receivers 0)) [
           | inl x ↦ told_to (shut l) (only l (Refused CloseError None)) (rw x refl) empty
           | inr x ↦ told_to (shut l) (record (moving (close l) (Cleared (length (cleared l)))) { cleared = cleared l }) (rw x refl) refl
         ]
-    still-empty (Asks side ask) p = empty
-    still-empty Terminated p = empty
-
-  -- the senders' side has no live handle
-  no-sending : (hs : Handles) (e : Event T) → hs.tx ≡ 0 → has_handle hs e ≡ true → is_sending e ≡ false
-  no-sending hs (Send m) z live = absurd (false≢true (rw z at live))
-  no-sending hs (TrySend m) z live = absurd (false≢true (rw z at live))
-  no-sending hs CloneTx z live = absurd (false≢true (rw z at live))
-  no-sending hs DropTx z live = absurd (false≢true (rw z at live))
-  no-sending hs Recv z live = refl
-  no-sending hs RecvLate z live = refl
-  no-sending hs TryRecv z live = refl
-  no-sending hs Drain z live = refl
-  no-sending hs (Withdraw t) z live = refl
-  no-sending hs CloneRx z live = refl
-  no-sending hs DropRx z live = refl
-  no-sending hs Close z live = refl
-  no-sending hs (Asks side ask) z live = refl
-  no-sending hs Terminated z live = refl
-
-  -- an event of the other side leaves the senders' handles
-  tx-stays : (hs : Handles) (e : Event T) (r : Reply T) → is_sending e ≡ false → (handles_after hs e r).tx ≡ hs.tx
-  tx-stays hs (Send m) r p = refl
-  tx-stays hs (TrySend m) r p = refl
-  tx-stays hs CloneTx r p = absurd (false≢true (sym p))
-  tx-stays hs DropTx r p = absurd (false≢true (sym p))
-  tx-stays hs CloneRx Done p = refl
-  tx-stays hs DropRx Done p = refl
-  tx-stays hs e r p = refl
+    still-empty (Asks side ask) = empty
+    still-empty Terminated = empty
 
   -- what is over stays so
-  over-next : (l : Line T) (hs : Handles) (e : Event T) (told : Told T) → IsOver l hs → Answers hs l e told → IsOver told.line (handles_after hs e told.reply)
-  over-next l hs e told (inl none) is = inl ((told-keeps l hs e told is).zero.1 none)
+  over-next : (l : Line T) (hs : Handles) (e : Event T) (told : Told T) → IsOver l → Answers hs l e told → IsOver told.line
+  over-next l hs e told (inl none) is = inl ((told-zero l hs e told is).1 none)
   over-next l hs e told (inr over) (inl is) =
       elim (cases_Bool (has_handle hs e)) [
         | inl x ↦
-            let p = no-sending hs e over.1 x in
             let same : told ≡ step l e = is ∙ rw x refl in
-            inr ((told-keeps l hs e told (inl is)).zero.0 over.0, tx-stays hs e told.reply p ∙ over.1, ap (λ (t : Told T). t.line.line) same ∙ still-empty l over.2 over.0 e p)
-        | inr x ↦
-            let same : told ≡ refused l NoHandle e = is ∙ rw x refl in
-            rw (same, after-refused hs e NoHandle (message_of e)) (inr over)
+            inr ((told-zero l hs e told (inl is)).0 over.0, ap (λ (t : Told T). t.line.line) same ∙ still-empty l over.1 over.0 e)
+        | inr x ↦ let same : told ≡ refused l NoHandle e = is ∙ rw x refl in rw same (inr over)
       ]
-  over-next l hs e told (inr over) (inr is) = rw (is.2, after-refused hs e NoMemory (message_of e)) (inr over)
+  over-next l hs e told (inr over) (inr is) = rw is.2 (inr over)
 
   -- the replies that come to these
   record Told_over (a b : Account T) (events : List (Event T)) : Type 0 where
@@ -216,18 +195,18 @@ module _ {T : Type 0} where
   more-replies : (a b : Account T) (e : Event T) (t : IsTold a e b) (rs all : List (Reply T)) → all ≡ b.replies ++ rs → all ≡ a.replies ++ (t.0.reply ∷ rs)
   more-replies a b e t rs all is = is ∙ (ap (λ x. x.replies ++ rs) t.2 ∙ append_assoc a.replies (t.0.reply ∷ []) rs)
 
-  over-along : (a b : Account T) (events : List (Event T)) → IsOver a.line a.handles → Leads a events b → Told_over a b events
+  over-along : (a b : Account T) (events : List (Event T)) → IsOver a.line → Leads a events b → Told_over a b events
   over-along a b [] over l = record { replies = []; is = ap (λ x. x.replies) l ∙ sym (append-nil a.replies); over = tt }
   over-along a b (e ∷ es) over l =
       let told = l.1.0 in
-      let P : Account T → Type 0 = λ x. IsOver x.line x.handles in
+      let P : Account T → Type 0 = λ x. IsOver x.line in
       let rest = over-along l.0 b es (subst P (sym l.1.2) (over-next a.line a.handles e told over l.1.1)) l.2 in
       record { replies = told.reply ∷ rest.replies; is = more-replies a l.0 e l.1 rest.replies b.replies rest.is; over = (over-told a.line a.handles e told over l.1.1, rest.over) }
 
   -- a receive that is told of an end finds that nothing will come
-  end-over : (l : Line T) (hs : Handles) (e : Event T) (told : Told T) → Match l hs → Answers hs l e told → is_receive e ≡ true → tells_end told.reply ≡ true → IsOver l hs
-  end-over l hs e told match (inr is) p end = absurd (false≢true (rw is.2 at end))
-  end-over l hs e told match (inl is) p end =
+  end-over : (l : Line T) (hs : Handles) (e : Event T) (told : Told T) → Answers hs l e told → is_receive e ≡ true → tells_end told.reply ≡ true → IsOver l
+  end-over l hs e told (inr is) p end = absurd (false≢true (rw is.2 at end))
+  end-over l hs e told (inl is) p end =
       elim (cases_Bool (has_handle hs e)) [
         | inr x ↦ let same : told ≡ refused l NoHandle e = is ∙ rw x refl in absurd (false≢true (rw same at end))
         | inl x ↦ let same : told ≡ step l e = is ∙ rw x refl in of-step e p (rw same at end)
@@ -236,9 +215,9 @@ module _ {T : Type 0} where
       wait-no-end : tells_end (wait l (wait_recv l) None).reply ≡ false
       wait-no-end = elim (cases_Bool (eqb l.next last_word)) [ inl x ↦ rw x refl | inr x ↦ rw x refl ]
 
-      of-step : (e : Event T) → is_receive e ≡ true → tells_end (step l e).reply ≡ true → IsOver l hs
-      of-step Recv p end = ends-over l hs (wait l (wait_recv l) None) match wait-no-end end
-      of-step TryRecv p end = ends-over l hs (only l Nothing) match refl end
+      of-step : (e : Event T) → is_receive e ≡ true → tells_end (step l e).reply ≡ true → IsOver l
+      of-step Recv p end = ends-over l hs (wait l (wait_recv l) None) wait-no-end end
+      of-step TryRecv p end = ends-over l hs (only l Nothing) refl end
       of-step (Send m) p end = absurd (false≢true p)
       of-step (TrySend m) p end = absurd (false≢true p)
       of-step RecvLate p end = absurd (false≢true p)
@@ -248,6 +227,7 @@ module _ {T : Type 0} where
       of-step CloneRx p end = absurd (false≢true p)
       of-step DropTx p end = absurd (false≢true p)
       of-step DropRx p end = absurd (false≢true p)
+      of-step Seal p end = absurd (false≢true p)
       of-step Close p end = absurd (false≢true p)
       of-step (Asks side ask) p end = absurd (false≢true p)
       of-step Terminated p end = absurd (false≢true p)
@@ -258,19 +238,18 @@ module _ {T : Type 0} where
     final : StaysOver events replies
 
   -- the end is final along every list of events
-  final-along : (a b : Account T) (events : List (Event T)) → Match a.line a.handles → Leads a events b → Told_final a b events
-  final-along a b [] match l = record { replies = []; is = ap (λ x. x.replies) l ∙ sym (append-nil a.replies); final = tt }
-  final-along a b (e ∷ es) match l =
+  final-along : (a b : Account T) (events : List (Event T)) → Leads a events b → Told_final a b events
+  final-along a b [] l = record { replies = []; is = ap (λ x. x.replies) l ∙ sym (append-nil a.replies); final = tt }
+  final-along a b (e ∷ es) l =
       let told = l.1.0 in
-      let P : Account T → Type 0 = λ x. Match x.line x.handles in
-      let Q : Account T → Type 0 = λ x. IsOver x.line x.handles in
-      let rest = final-along l.0 b es (subst P (sym l.1.2) ((told-keeps a.line a.handles e told l.1.1).match match)) l.2 in
+      let Q : Account T → Type 0 = λ x. IsOver x.line in
+      let rest = final-along l.0 b es l.2 in
       record {
         replies = told.reply ∷ rest.replies;
         is = more-replies a l.0 e l.1 rest.replies b.replies rest.is;
         final = (
           λ p end.
-              let over = over-along l.0 b es (subst Q (sym l.1.2) (over-next a.line a.handles e told (end-over a.line a.handles e told match l.1.1 p end) l.1.1)) l.2 in
+              let over = over-along l.0 b es (subst Q (sym l.1.2) (over-next a.line a.handles e told (end-over a.line a.handles e told l.1.1 p end) l.1.1)) l.2 in
               subst (AreOver es) (same-rest l.0.replies over.replies rest.replies (sym over.is ∙ rest.is)) over.over,
           rest.final,
         );
@@ -281,4 +260,4 @@ module _ {T : Type 0} where
       same-rest (x ∷ xs) ys zs h = same-rest xs ys zs (cc)
 
   pub final-after : (capacity : Option ℕ) (events : List (Event T)) (a : Account T) → Leads (opening capacity) events a → StaysOver events a.replies
-  final-after capacity events a l = let k = final-along (opening capacity) a events (inl (refl, refl)) l in subst (StaysOver events) (sym k.is) k.final
+  final-after capacity events a l = let k = final-along (opening capacity) a events l in subst (StaysOver events) (sym k.is) k.final

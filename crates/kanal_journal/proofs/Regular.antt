@@ -2,18 +2,18 @@
 use Rattle.std.proofs.Common.{◌≡◌, ℕ, ◌+◌, ◌-◌, ◌≤◌, length, false, cond, eqb, ◌==◌, ◌&&◌, List, [], ◌∷◌, ◌++◌, Option, Some, None, refl, sym, ◌∙◌, subst, inl, inr, arith}
 use Rattle.std.proofs.lemmas.Bool.{cases_Bool}
 use Rattle.kanal_core.specs.Line.{Entry, Line, last_word, bare, has, has_place, buffered, found, messages}
-use Rattle.kanal_core.specs.Moves.{Moved, last_count, serve, enter, leave, drain, end_all, close, cleared, wait_send, wait_recv, without_demand, without_entry, add_sender, add_receiver}
+use Rattle.kanal_core.specs.Moves.{Moved, last_count, serve, enter, leave, drain, end_all, close, cleared, wait_send, wait_recv, without_demand, without_entry, add_sender, add_receiver, seal}
 use Rattle.kanal_core.specs.declared.internal.outcome.Reason.TheVariants.{SendClosed as NoSendersLeft, ReceiveClosed as NoReceiversLeft}
 use Rattle.kanal_journal.specs.declared.journal.handles.Handles.{Handles}
 use Rattle.kanal_journal.specs.declared.journal.event.Side.{Side}
 use Rattle.kanal_journal.specs.declared.journal.event.Ask.{Ask}
 use Rattle.kanal_journal.specs.declared.journal.event.Ask.TheVariants.{IsBounded, Len, IsEmpty, IsFull, Capacity, ReceiverCount, SenderCount, IsClosed, IsDisconnected}
 use Rattle.kanal_journal.specs.declared.journal.event.Event.{Event}
-use Rattle.kanal_journal.specs.declared.journal.event.Event.TheVariants.{Send, TrySend, Recv, RecvLate, TryRecv, Drain, Withdraw, CloneTx, CloneRx, DropTx, DropRx, Close, Ask as Asks, Terminated}
-use Rattle.kanal_journal.specs.declared.journal.event.Refusal.TheVariants.{Closed as ByClosed, ReceiveClosed as NoReceiver, SendClosed as NoSender, Timeout, TooMany, CloseError, NoHandle, NotWaiting}
+use Rattle.kanal_journal.specs.declared.journal.event.Event.TheVariants.{Send, TrySend, Recv, RecvLate, TryRecv, Drain, Withdraw, CloneTx, CloneRx, DropTx, DropRx, Seal, Close, Ask as Asks, Terminated}
+use Rattle.kanal_journal.specs.declared.journal.event.Refusal.TheVariants.{Closed as ByClosed, ReceiveClosed as NoReceiver, Sealed as BySeal, SendClosed as NoSender, Timeout, TooMany, CloseError, NoHandle, NotWaiting}
 use Rattle.kanal_journal.specs.declared.journal.event.Reply.{Reply}
 use Rattle.kanal_journal.specs.declared.journal.event.Reply.TheVariants.{Sent, Waits, Yes, No, Got, Nothing, Drained, Withdrawn, Done, Cleared, Flag, Refused}
-use Rattle.kanal_journal.specs.Steps.{Told, only, moving, offer, take as take_told, take_front, nothing_there, wait, withdraw, shut, take_line, cloned, answer, message_of, step, refused}
+use Rattle.kanal_journal.specs.Steps.{Told, only, moving, offer, take as take_told, take_front, nothing_there, wait, withdraw, seal_line, shut, take_line, cloned, answer, message_of, step, refused}
 use Rattle.kanal_journal.specs.Runs.{made, has_handle}
 use Rattle.kanal_journal.specs.Replays.{is_no_memory}
 
@@ -52,9 +52,13 @@ module _ {T : Type 0} where
         elim (cases_Bool (eqb l.receivers 0)) [
           | inl x ↦ to (offer l m r otherwise) (only l (Refused (cond (l.senders == 0) ByClosed NoReceiver) (Some m))) (rw x refl) (still (Refused (cond (l.senders == 0) ByClosed NoReceiver) (Some m)) (closed m))
           | inr x ↦
-              elim (cases_Bool (has_place l)) [
-                | inl y ↦ to (offer l m r otherwise) (moving (enter l m) r) (rw (x, y) refl) (leaves (moving (enter l m) r) (serve-capacity l (l.line ++ bare m ∷ []) l.demands) (serve-next l (l.line ++ bare m ∷ []) l.demands) q)
-                | inr y ↦ to (offer l m r otherwise) otherwise (rw (x, y) refl) k
+              elim (cases_Bool (eqb l.senders 0)) [
+                | inl s ↦ to (offer l m r otherwise) (only l (Refused BySeal (Some m))) (rw (x, s) refl) (still (Refused BySeal (Some m)) refl)
+                | inr s ↦
+                    elim (cases_Bool (has_place l)) [
+                      | inl y ↦ to (offer l m r otherwise) (moving (enter l m) r) (rw (x, s, y) refl) (leaves (moving (enter l m) r) (serve-capacity l (l.line ++ bare m ∷ []) l.demands) (serve-next l (l.line ++ bare m ∷ []) l.demands) q)
+                      | inr y ↦ to (offer l m r otherwise) otherwise (rw (x, s, y) refl) k
+                    ]
               ]
         ]
 
@@ -90,6 +94,13 @@ module _ {T : Type 0} where
           | inr x ↦ to (withdraw l t []) (only l (Refused NotWaiting None)) (rw x refl) (still (Refused NotWaiting None) refl)
         ]
     withdraws t (m ∷ ms) = leaves (only (without_entry l t) (Withdrawn (Some m))) refl refl refl
+
+    seals : Regular l (seal_line l)
+    seals =
+        elim (cases_Bool (eqb l.senders 0)) [
+          | inl x ↦ to (seal_line l) (only l (Refused CloseError None)) (rw x refl) (still (Refused CloseError None) refl)
+          | inr x ↦ to (seal_line l) (moving (seal l) Done) (rw x refl) (leaves (moving (seal l) Done) refl refl refl)
+        ]
 
     closes : Regular l (shut l)
     closes =
@@ -147,9 +158,10 @@ module _ {T : Type 0} where
     step-regular CloneRx = clones l.receivers (add_receiver l) refl refl
     step-regular DropTx = drops DropTx l.senders (end_all (record l { senders = 0 }) NoSendersLeft) (record { line = record l { senders = l.senders - 1 }; settled = [] }) refl refl refl refl refl
     step-regular DropRx = drops DropRx l.receivers (end_all (record l { receivers = 0 }) NoReceiversLeft) (record { line = record l { receivers = l.receivers - 1 }; settled = [] }) refl refl refl refl refl
+    step-regular Seal = seals
     step-regular Close = closes
     step-regular (Asks side ask) = still (answer l side ask) (answers side ask)
-    step-regular Terminated = still (Flag ((l.senders == 0) && (buffered l == 0))) refl
+    step-regular Terminated = still (Flag ((l.senders == 0) && (length l.line == 0))) refl
 
     pub made-regular : (handles : Handles) (e : Event T) → Regular l (made handles l e)
     made-regular handles e =

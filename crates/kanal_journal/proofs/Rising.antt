@@ -7,15 +7,15 @@ use Rattle.kanal_core.specs.declared.internal.outcome.Outcome.{Outcome}
 use Rattle.kanal_core.specs.declared.internal.outcome.Reason.{Reason}
 use Rattle.kanal_core.specs.declared.internal.outcome.Reason.TheVariants.{Closed as ByClose, SendClosed as NoSendersLeft, ReceiveClosed as NoReceiversLeft}
 use Rattle.kanal_core.specs.Line.{Entry, Line, IsWithin, last_word, bare, waiting, tickets, has, under, over, messages, has_place, is_below, is_empty, buffered, found}
-use Rattle.kanal_core.specs.Moves.{last_count, serve, enter, leave, drain, end_all, close, cleared, wait_send, wait_recv, without_demand, add_sender, add_receiver}
+use Rattle.kanal_core.specs.Moves.{last_count, serve, enter, leave, drain, end_all, close, cleared, wait_send, wait_recv, without_demand, add_sender, add_receiver, seal}
 use Rattle.kanal_journal.specs.declared.journal.handles.Handles.{Handles}
 use Rattle.kanal_journal.specs.declared.journal.event.Event.{Event}
-use Rattle.kanal_journal.specs.declared.journal.event.Event.TheVariants.{Send, TrySend, Recv, RecvLate, TryRecv, Drain, Withdraw, CloneTx, CloneRx, DropTx, DropRx, Close, Ask as Asks, Terminated}
-use Rattle.kanal_journal.specs.declared.journal.event.Refusal.TheVariants.{Closed as ByClosed, ReceiveClosed as NoReceiver, SendClosed as NoSender, Timeout, NoMemory, TooMany, CloseError, NoHandle, NotWaiting}
+use Rattle.kanal_journal.specs.declared.journal.event.Event.TheVariants.{Send, TrySend, Recv, RecvLate, TryRecv, Drain, Withdraw, CloneTx, CloneRx, DropTx, DropRx, Seal, Close, Ask as Asks, Terminated}
+use Rattle.kanal_journal.specs.declared.journal.event.Refusal.TheVariants.{Closed as ByClosed, ReceiveClosed as NoReceiver, Sealed as BySeal, SendClosed as NoSender, Timeout, NoMemory, TooMany, CloseError, NoHandle, NotWaiting}
 use Rattle.kanal_journal.specs.declared.journal.event.Reply.{Reply}
 use Rattle.kanal_journal.specs.declared.journal.event.Reply.TheVariants.{Sent, Waits, Yes, No, Got, Nothing, Drained, Withdrawn, Done, Cleared, Flag, Refused}
 use Rattle.kanal_journal.specs.declared.journal.event.Settlement.{Settlement}
-use Rattle.kanal_journal.specs.Steps.{Told, only, moving, offer, take as take_told, take_front, nothing_there, wait, withdraw, shut, take_line, cloned, answer, message_of, step, refused}
+use Rattle.kanal_journal.specs.Steps.{Told, only, moving, offer, take as take_told, take_front, nothing_there, wait, withdraw, seal_line, shut, take_line, cloned, answer, message_of, step, refused}
 use Rattle.kanal_journal.specs.Runs.{Account, Answers, Leads, opening, has_handle, numbered}
 use Rattle.kanal_journal.specs.Laws.{AreRising, WaitByPlace, without_ticket, settled_at, told_history}
 use Rattle.kanal_journal.proofs.Settling.{AllBare, AllWait, IsSeated, under-over}
@@ -111,9 +111,13 @@ module _ {T : Type 0} where
         elim (cases_Bool (eqb l.receivers 0)) [
           | inl x ↦ to (offer l m r otherwise) (only l (Refused (cond (l.senders == 0) ByClosed NoReceiver) (Some m))) (rw x refl) (still (Refused (cond (l.senders == 0) ByClosed NoReceiver) (Some m)))
           | inr x ↦
-              elim (cases_Bool (has_place l)) [
-                | inl y ↦ to (offer l m r otherwise) (moving (enter l m) r) (rw (x, y) refl) (serve-order l m l.line l.demands one now r)
-                | inr y ↦ to (offer l m r otherwise) otherwise (rw (x, y) refl) (k (empty-is (is_below (length l.line) l.capacity) l.demands y))
+              elim (cases_Bool (eqb l.senders 0)) [
+                | inl s ↦ to (offer l m r otherwise) (only l (Refused BySeal (Some m))) (rw (x, s) refl) (still (Refused BySeal (Some m)))
+                | inr s ↦
+                    elim (cases_Bool (has_place l)) [
+                      | inl y ↦ to (offer l m r otherwise) (moving (enter l m) r) (rw (x, s, y) refl) (serve-order l m l.line l.demands one now r)
+                      | inr y ↦ to (offer l m r otherwise) otherwise (rw (x, s, y) refl) (k (empty-is (is_below (length l.line) l.capacity) l.demands y))
+                    ]
               ]
         ]
 
@@ -183,6 +187,20 @@ module _ {T : Type 0} where
     ends-settled : (reason : Reason) → AreRising 0 (tickets_of (end_all l reason).settled) l.next
     ends-settled reason = let P : List ℕ → Type 0 = λ ts. AreRising 0 ts l.next in subst P (sym (ended-tickets reason l)) now
 
+    seals : KeepsOrder l (seal_line l)
+    seals =
+        let P : List ℕ → Type 0 = λ ts. AreRising 0 ts l.next in
+        elim (cases_Bool (eqb l.senders 0)) [
+          | inl x ↦ to (seal_line l) (only l (Refused CloseError None)) (rw x refl) (still (Refused CloseError None))
+          | inr x ↦
+              to (seal_line l) (moving (seal l) Done) (rw x refl)
+              (record {
+                waits = subst P (sym (append-nil (tickets l.line))) (rise-first 0 (tickets l.line) l.demands l.next now);
+                settled = subst P (sym (ended-tickets NoSendersLeft (record l { line = [] }))) (rise-last 0 (tickets l.line) l.demands l.next now);
+                grows = omega arith;
+              })
+        ]
+
     closes : KeepsOrder l (shut l)
     closes =
         elim (cases_Bool (eqb l.senders 0 && eqb l.receivers 0)) [
@@ -248,9 +266,10 @@ module _ {T : Type 0} where
     step-order CloneRx = clones l.receivers l.senders (add_receiver l).receivers
     step-order DropTx = drops_tx
     step-order DropRx = drops_rx
+    step-order Seal = seals
     step-order Close = closes
     step-order (Asks side ask) = still (answer l side ask)
-    step-order Terminated = still (Flag ((l.senders == 0) && (buffered l == 0)))
+    step-order Terminated = still (Flag ((l.senders == 0) && (length l.line == 0)))
 
     pub told-order : (handles : Handles) (e : Event T) (told : Told T) → Answers handles l e told → KeepsOrder l told
     told-order handles e told (inl is) =

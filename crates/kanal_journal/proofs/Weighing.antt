@@ -9,18 +9,18 @@ use Rattle.kanal_core.specs.declared.internal.outcome.Reason.TheVariants.{Closed
 use Rattle.kanal_core.specs.declared.internal.outcome.Outcome.{Outcome}
 use Rattle.kanal_core.specs.declared.internal.outcome.Outcome.TheVariants.{Taken, Ended}
 use Rattle.kanal_core.specs.Line.{Entry, Line, last_word, bare, waiting, messages, tickets, has, under, over, has_place, buffered, is_ticket, holds_ticket, found}
-use Rattle.kanal_core.specs.Moves.{last_count, serve, enter, drain, seated, ended, ended_entry, end_all, close, cleared, wait_send, wait_recv, without_demand, add_sender, add_receiver}
+use Rattle.kanal_core.specs.Moves.{last_count, serve, enter, drain, seated, ended, ended_entry, end_all, close, cleared, wait_send, wait_recv, without_demand, add_sender, add_receiver, seal}
 use Rattle.kanal_journal.specs.declared.journal.handles.Handles.{Handles}
 use Rattle.kanal_journal.specs.declared.journal.event.Side.{Side}
 use Rattle.kanal_journal.specs.declared.journal.event.Ask.{Ask}
 use Rattle.kanal_journal.specs.declared.journal.event.Ask.TheVariants.{IsBounded, Len, IsEmpty, IsFull, Capacity, ReceiverCount, SenderCount, IsClosed, IsDisconnected}
 use Rattle.kanal_journal.specs.declared.journal.event.Event.{Event}
-use Rattle.kanal_journal.specs.declared.journal.event.Event.TheVariants.{Send, TrySend, Recv, RecvLate, TryRecv, Drain, Withdraw, CloneTx, CloneRx, DropTx, DropRx, Close, Ask as Asks, Terminated}
+use Rattle.kanal_journal.specs.declared.journal.event.Event.TheVariants.{Send, TrySend, Recv, RecvLate, TryRecv, Drain, Withdraw, CloneTx, CloneRx, DropTx, DropRx, Seal, Close, Ask as Asks, Terminated}
 use Rattle.kanal_journal.specs.declared.journal.event.Refusal.{Refusal}
-use Rattle.kanal_journal.specs.declared.journal.event.Refusal.TheVariants.{Closed as ByClosed, ReceiveClosed as NoReceiver, SendClosed as NoSender, Timeout, NoMemory, TooMany, CloseError, NoHandle, NotWaiting}
+use Rattle.kanal_journal.specs.declared.journal.event.Refusal.TheVariants.{Closed as ByClosed, ReceiveClosed as NoReceiver, Sealed as BySeal, SendClosed as NoSender, Timeout, NoMemory, TooMany, CloseError, NoHandle, NotWaiting}
 use Rattle.kanal_journal.specs.declared.journal.event.Reply.{Reply}
 use Rattle.kanal_journal.specs.declared.journal.event.Reply.TheVariants.{Sent, Waits, Yes, No, Nothing, Drained, Withdrawn, Done, Cleared, Flag, Refused}
-use Rattle.kanal_journal.specs.Steps.{Told, only, moving, offer, take as take_told, take_front, nothing_there, wait, withdraw, shut, take_line, cloned, answer, step, refused}
+use Rattle.kanal_journal.specs.Steps.{Told, only, moving, offer, take as take_told, take_front, nothing_there, wait, withdraw, seal_line, shut, take_line, cloned, answer, step, refused}
 use Rattle.kanal_journal.specs.Runs.{Account, Leads, Answers, added, has_handle, numbered}
 use Rattle.kanal_journal.specs.Weights.{weigh, event_weight, reply_weight, outcome_weight, settlement_weight}
 use Rattle.kanal_journal.proofs.Settling.{AreApart, AllBare, AllWait, IsSeated, under-over}
@@ -137,9 +137,13 @@ module _ {T : Type 0} (h : T → ℕ) where
         elim (cases_Bool (eqb l.receivers 0)) [
           | inl x ↦ to e (offer l m r otherwise) (only l (Refused (cond (l.senders == 0) ByClosed NoReceiver) (Some m))) (rw x refl) (omega (arith, k))
           | inr x ↦
-              elim (cases_Bool (has_place l)) [
-                | inl y ↦ to e (offer l m r otherwise) (moving (enter l m) r) (rw (x, y) refl) (omega (arith, k, z, weigh-serve l (l.line ++ bare m ∷ []) l.demands, entering l m (messages (l.line ++ bare m ∷ [])) refl))
-                | inr y ↦ to e (offer l m r otherwise) otherwise (rw (x, y) refl) w
+              elim (cases_Bool (eqb l.senders 0)) [
+                | inl s ↦ to e (offer l m r otherwise) (only l (Refused BySeal (Some m))) (rw (x, s) refl) (omega (arith, k))
+                | inr s ↦
+                    elim (cases_Bool (has_place l)) [
+                      | inl y ↦ to e (offer l m r otherwise) (moving (enter l m) r) (rw (x, s, y) refl) (omega (arith, k, z, weigh-serve l (l.line ++ bare m ∷ []) l.demands, entering l m (messages (l.line ++ bare m ∷ [])) refl))
+                      | inr y ↦ to e (offer l m r otherwise) otherwise (rw (x, s, y) refl) w
+                    ]
               ]
         ]
 
@@ -185,6 +189,13 @@ module _ {T : Type 0} (h : T → ℕ) where
     withdraws t (m ∷ ms) is =
         let none = found-one t l.line m ms apart is in
         omega (arith, weigh-split t l.line, ap (weigh h) is, ap (weigh h) none)
+
+    seals : Weighs Seal (seal_line l)
+    seals =
+        elim (cases_Bool (eqb l.senders 0)) [
+          | inl x ↦ to Seal (seal_line l) (only l (Refused CloseError None)) (rw x refl) (omega arith)
+          | inr x ↦ to Seal (seal_line l) (moving (seal l) Done) (rw x refl) (omega (arith, ended-demands NoSendersLeft l.demands))
+        ]
 
     closes : Weighs Close (shut l)
     closes =
@@ -244,9 +255,10 @@ module _ {T : Type 0} (h : T → ℕ) where
     step-weighs CloneRx = clones CloneRx l.receivers (add_receiver l) refl refl
     step-weighs DropTx = drops_tx
     step-weighs DropRx = drops_rx
+    step-weighs Seal = seals
     step-weighs Close = closes
     step-weighs (Asks side ask) = still (Asks side ask) (answer l side ask) (sym (answer-nothing side ask))
-    step-weighs Terminated = still Terminated (Flag ((l.senders == 0) && (buffered l == 0))) refl
+    step-weighs Terminated = still Terminated (Flag ((l.senders == 0) && (length l.line == 0))) refl
 
     refused-weighs : (e : Event T) (reason : Refusal) → Weighs e (refused l reason e)
     refused-weighs (Send m) reason = still (Send m) (Refused reason (Some m)) refl

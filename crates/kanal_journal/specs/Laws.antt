@@ -104,10 +104,10 @@ module _ {T : Type 0} where
   abbrev pub WaitsWhenFull : Line T → Type 0
   WaitsWhenFull l = tickets l.line ≢ [] → is_at (buffered l) l.capacity ≡ true
 
-  -- a `TrySend` through a live handle, with a receiver left, enters exactly where there is a place, unless it is refused for memory
+  -- a `TrySend` through a live handle, with a sender and a receiver left, enters exactly where there is a place, unless it is refused for memory
   abbrev pub EntersByPlace : Handles → Line T → Type 0
   EntersByPlace handles l =
-      (m : T) (told : Told T) → Answers handles l (TrySend m) told → has_side handles Tx ≡ true → l.receivers ≢ 0
+      (m : T) (told : Told T) → Answers handles l (TrySend m) told → has_side handles Tx ≡ true → l.receivers ≢ 0 → l.senders ≢ 0
       → told.reply ≢ Refused NoMemory (Some m) → told.reply ≡ Yes ↔ (has_place l ≡ true)
 
   -- where the events led to a line on which this count is 0, it is 0 after all later events, too

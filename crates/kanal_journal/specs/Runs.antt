@@ -6,7 +6,7 @@ use Rattle.kanal_journal.specs.declared.journal.handles.Handles.{Handles}
 use Rattle.kanal_journal.specs.declared.journal.event.Side.{Side}
 use Rattle.kanal_journal.specs.declared.journal.event.Side.TheVariants.{Tx, Rx}
 use Rattle.kanal_journal.specs.declared.journal.event.Event.{Event}
-use Rattle.kanal_journal.specs.declared.journal.event.Event.TheVariants.{Send, TrySend, Withdraw, CloneTx, CloneRx, DropTx, DropRx, Close, Ask as Asks}
+use Rattle.kanal_journal.specs.declared.journal.event.Event.TheVariants.{Send, TrySend, Withdraw, CloneTx, CloneRx, DropTx, DropRx, Seal, Close, Ask as Asks}
 use Rattle.kanal_journal.specs.declared.journal.event.Refusal.TheVariants.{NoMemory, NoHandle}
 use Rattle.kanal_journal.specs.declared.journal.event.Reply.{Reply}
 use Rattle.kanal_journal.specs.declared.journal.event.Reply.TheVariants.{Done}
@@ -33,13 +33,14 @@ module _ {T : Type 0} where
   abbrev pub numbered : ℕ → List (ℕ × Outcome T) → List (Settlement T)
   numbered n settled = map (λ s. record { step = n; ticket = s.0; outcome = s.1 }) settled
 
-  -- the event's side has a live handle; a withdrawal needs none, and a close one of either side
+  -- the event's side has a live handle; a withdrawal needs none, and a seal or a close one of either side
   abbrev pub has_handle : Handles → Event T → Bool
   has_handle handles (Send m) = has_side handles Tx
   has_handle handles (TrySend m) = has_side handles Tx
   has_handle handles (Withdraw t) = true
   has_handle handles CloneTx = has_side handles Tx
   has_handle handles DropTx = has_side handles Tx
+  has_handle handles Seal = has_side handles Tx || has_side handles Rx
   has_handle handles Close = has_side handles Tx || has_side handles Rx
   has_handle handles (Asks side ask) = has_side handles side
   has_handle handles event = has_side handles Rx

@@ -2,15 +2,15 @@
 use Rattle.std.specs.Prelude.{◌≡◌, ◌≢◌, ℕ, ◌==◌, Bool, ◌&&◌, cond, List, [], ◌∷◌, length, Option, Some, None, ◌⊎◌}
 use Rattle.kanal_core.specs.declared.internal.outcome.Outcome.{Outcome}
 use Rattle.kanal_core.specs.Line.{Entry, Line, last_word, is_at, is_bounded, capacity_word, messages, has_place, buffered, has, found}
-use Rattle.kanal_core.specs.Moves.{Moved, last_count, enter, leave, drain, close, cleared, wait_send, wait_recv, without_entry, without_demand, add_sender, add_receiver, drop_sender, drop_receiver}
+use Rattle.kanal_core.specs.Moves.{Moved, last_count, enter, leave, drain, close, cleared, wait_send, wait_recv, without_entry, without_demand, add_sender, add_receiver, drop_sender, drop_receiver, seal}
 use Rattle.kanal_journal.specs.declared.journal.event.Side.{Side}
 use Rattle.kanal_journal.specs.declared.journal.event.Side.TheVariants.{Tx, Rx}
 use Rattle.kanal_journal.specs.declared.journal.event.Ask.{Ask}
 use Rattle.kanal_journal.specs.declared.journal.event.Ask.TheVariants.{IsBounded, Len, IsEmpty, IsFull, Capacity, ReceiverCount, SenderCount, IsClosed, IsDisconnected}
 use Rattle.kanal_journal.specs.declared.journal.event.Event.{Event}
-use Rattle.kanal_journal.specs.declared.journal.event.Event.TheVariants.{Send, TrySend, Recv, RecvLate, TryRecv, Drain, Withdraw, CloneTx, CloneRx, DropTx, DropRx, Close, Ask as Asks, Terminated}
+use Rattle.kanal_journal.specs.declared.journal.event.Event.TheVariants.{Send, TrySend, Recv, RecvLate, TryRecv, Drain, Withdraw, CloneTx, CloneRx, DropTx, DropRx, Seal, Close, Ask as Asks, Terminated}
 use Rattle.kanal_journal.specs.declared.journal.event.Refusal.{Refusal}
-use Rattle.kanal_journal.specs.declared.journal.event.Refusal.TheVariants.{Closed, ReceiveClosed, SendClosed, Timeout, NoMemory, TooMany, CloseError, NotWaiting}
+use Rattle.kanal_journal.specs.declared.journal.event.Refusal.TheVariants.{Closed, ReceiveClosed, Sealed, SendClosed, Timeout, NoMemory, TooMany, CloseError, NotWaiting}
 use Rattle.kanal_journal.specs.declared.journal.event.Reply.{Reply}
 use Rattle.kanal_journal.specs.declared.journal.event.Reply.TheVariants.{Sent, Waits, Yes, No, Got, Nothing, Drained, Withdrawn, Done, Cleared, Number, Flag, Refused}
 
@@ -36,7 +36,11 @@ module _ {T : Type 0} where
   offer old m entered otherwise =
       cond (old.receivers == 0)
       (only old (Refused (cond (old.senders == 0) Closed ReceiveClosed) (Some m)))
+      (
+      cond (old.senders == 0)
+      (only old (Refused Sealed (Some m)))
       (cond (has_place old) (moving (enter old m) entered) otherwise)
+      )
 
   -- the front is taken if there is one, or the call goes on in its own way
   abbrev pub take_front : Line T → List (Entry T) → Told T → Told T
@@ -63,6 +67,10 @@ module _ {T : Type 0} where
   -- both sides are gone
   abbrev pub is_closed : Line T → Bool
   is_closed old = (old.senders == 0) && (old.receivers == 0)
+
+  -- the channel is sealed, if a sender is left: the receives that wait end
+  abbrev pub seal_line : Line T → Told T
+  seal_line old = cond (old.senders == 0) (only old (Refused CloseError None)) (moving (seal old) Done)
 
   -- the channel is closed: all waits end, and the buffer is cleared
   abbrev pub shut : Line T → Told T
@@ -112,9 +120,10 @@ module _ {T : Type 0} where
   step old CloneRx = cloned old old.receivers (add_receiver old)
   step old DropTx = moving (drop_sender old) Done
   step old DropRx = moving (drop_receiver old) Done
+  step old Seal = seal_line old
   step old Close = shut old
   step old (Asks side ask) = only old (answer old side ask)
-  step old Terminated = only old (Flag ((old.senders == 0) && (buffered old == 0)))
+  step old Terminated = only old (Flag ((old.senders == 0) && (length old.line == 0)))
 
   -- the message of an event, which a refusal gives back
   abbrev pub message_of : Event T → Option T

@@ -52,8 +52,8 @@ pub fn tickets_follow_places<T>(capacity: Option<usize>, events: &[Event<T>])
     let _ = events;
 }
 
-/// A `TrySend` through a live handle, with a receiver left, enters exactly if a demand waits or the
-/// line is shorter than the capacity, unless it is refused for memory.
+/// A `TrySend` through a live handle, with a sender and a receiver left, enters exactly if a demand
+/// waits or the line is shorter than the capacity, unless it is refused for memory.
 pub fn try_send_enters<T>(capacity: Option<usize>, events: &[Event<T>])
     ensures law { EachAccount capacity events.now (λ a. EntersByPlace a.handles a.line) }
 {

@@ -93,7 +93,7 @@ impl<T: Copy> Pass<T> {
     ///
     /// `Sent` where it entered, `Waits` with the ticket where it waits. `Refused` gives the message back:
     /// `NoHandle` where no live sender is left, `Closed` where both counts are 0, `ReceiveClosed` where
-    /// the receivers' alone is, `TooMany` where the tickets are used up, `NoMemory` where memory was
+    /// the receivers' alone is, `Sealed` where the senders' alone is, `TooMany` where the tickets are used up, `NoMemory` where memory was
     /// refused.
     ///
     /// # Examples
@@ -110,7 +110,7 @@ impl<T: Copy> Pass<T> {
     ///
     /// `Yes` where it entered, `No` with the message where there is no place. `Refused` gives the message
     /// back: `NoHandle` where no live sender is left, `Closed` where both counts are 0, `ReceiveClosed`
-    /// where the receivers' alone is, `NoMemory` where memory was refused.
+    /// where the receivers' alone is, `Sealed` where the senders' alone is, `NoMemory` where memory was refused.
     ///
     /// # Examples
     /// ```text
@@ -260,6 +260,22 @@ impl<T: Copy> Pass<T> {
         ensures { Notes self.old Event.DropRx result self.new }
     {
         self.call(rt, channel, Event::DropRx)
+    }
+
+    /// Lets the senders be done: the receives that wait end, and what is there is still received. It waits
+    /// for the lock alone.
+    ///
+    /// `Done`. `Refused` otherwise, and nothing is sealed: `NoHandle` where neither side has a live handle,
+    /// `CloseError` where the senders' count is 0, `NoMemory` where memory was refused.
+    ///
+    /// # Examples
+    /// ```text
+    /// pass.seal(rt, &channel)   answers  Done
+    /// ```
+    pub fn seal<R: Wait>(&mut self, rt: &R, channel: &Recorded<T>) -> Reply<T>
+        ensures { Notes self.old Event.Seal result self.new }
+    {
+        self.call(rt, channel, Event::Seal)
     }
 
     /// Closes both sides, ends all waits and clears the buffer; the recorded channel keeps the messages. It

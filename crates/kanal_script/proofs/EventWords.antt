@@ -1,7 +1,7 @@
 -- An event's words: its name, and what stands behind it.
 use Rattle.std.proofs.Common.{◌≡◌, ◌≢◌, ℕ, List, [], ◌∷◌, ◌++◌, refl, inl, codes, decimal}
 use Rattle.kanal_journal.specs.declared.journal.event.Event.{Event}
-use Rattle.kanal_journal.specs.declared.journal.event.Event.TheVariants.{Send, TrySend, Recv, RecvLate, TryRecv, Drain, Withdraw, CloneTx, CloneRx, DropTx, DropRx, Close, Ask as Asks, Terminated}
+use Rattle.kanal_journal.specs.declared.journal.event.Event.TheVariants.{Send, TrySend, Recv, RecvLate, TryRecv, Drain, Withdraw, CloneTx, CloneRx, DropTx, DropRx, Seal, Close, Ask as Asks, Terminated}
 use Rattle.kanal_script.specs.Script.{event_words, side_word, ask_word}
 use Rattle.kanal_script.specs.Words.{IsWord, EndsWord}
 use Rattle.kanal_script.proofs.Words.{letters}
@@ -19,6 +19,7 @@ name CloneTx = codes "clone_tx"
 name CloneRx = codes "clone_rx"
 name DropTx = codes "drop_tx"
 name DropRx = codes "drop_rx"
+name Seal = codes "seal"
 name Close = codes "close"
 name (Asks side ask) = codes "ask"
 name Terminated = codes "terminated"
@@ -36,6 +37,7 @@ behind CloneTx = []
 behind CloneRx = []
 behind DropTx = []
 behind DropRx = []
+behind Seal = []
 behind Close = []
 behind (Asks side ask) = 32 ∷ (side_word side ++ (32 ∷ ask_word ask))
 behind Terminated = []
@@ -52,6 +54,7 @@ words_cut CloneTx s = refl
 words_cut CloneRx s = refl
 words_cut DropTx s = refl
 words_cut DropRx s = refl
+words_cut Seal s = refl
 words_cut Close s = refl
 words_cut (Asks side ask) s = refl
 words_cut Terminated s = refl
@@ -68,6 +71,7 @@ name_word CloneTx = letters (codes "clone_tx") refl
 name_word CloneRx = letters (codes "clone_rx") refl
 name_word DropTx = letters (codes "drop_tx") refl
 name_word DropRx = letters (codes "drop_rx") refl
+name_word Seal = letters (codes "seal") refl
 name_word Close = letters (codes "close") refl
 name_word (Asks side ask) = letters (codes "ask") refl
 name_word Terminated = letters (codes "terminated") refl
@@ -84,6 +88,7 @@ behind_end CloneTx s end = end
 behind_end CloneRx s end = end
 behind_end DropTx s end = end
 behind_end DropRx s end = end
+behind_end Seal s end = end
 behind_end Close s end = end
 behind_end (Asks side ask) s end = inl refl
 behind_end Terminated s end = end
@@ -101,6 +106,7 @@ pub record IsNoName (w : List ℕ) : Type 0 where
   pub not_clone_rx : w ≢ codes "clone_rx"
   pub not_drop_tx : w ≢ codes "drop_tx"
   pub not_drop_rx : w ≢ codes "drop_rx"
+  pub not_seal : w ≢ codes "seal"
   pub not_close : w ≢ codes "close"
   pub not_ask : w ≢ codes "ask"
   pub not_terminated : w ≢ codes "terminated"
@@ -117,6 +123,7 @@ no_name w CloneTx none is = none.not_clone_tx is
 no_name w CloneRx none is = none.not_clone_rx is
 no_name w DropTx none is = none.not_drop_tx is
 no_name w DropRx none is = none.not_drop_rx is
+no_name w Seal none is = none.not_seal is
 no_name w Close none is = none.not_close is
 no_name w (Asks side ask) none is = none.not_ask is
 no_name w Terminated none is = none.not_terminated is

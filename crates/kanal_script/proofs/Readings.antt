@@ -2,7 +2,7 @@
 use Rattle.std.proofs.Common.{◌≡◌, ◌≢◌, ◌⊎◌, ℕ, ◌+◌, ◌<◌, List, [], ◌∷◌, ◌++◌, length, get_or, drop, Option, Some, None, refl, sym, ap, ◌∙◌, inl, inr, append_assoc, append-nil, codes, decimal, arith}
 use Rattle.std.proofs.lemmas.Bool.{cases_lt}
 use Rattle.kanal_journal.specs.declared.journal.event.Event.{Event}
-use Rattle.kanal_journal.specs.declared.journal.event.Event.TheVariants.{Send, TrySend, Recv, RecvLate, TryRecv, Drain, Withdraw, CloneTx, CloneRx, DropTx, DropRx, Close, Ask as Asks, Terminated}
+use Rattle.kanal_journal.specs.declared.journal.event.Event.TheVariants.{Send, TrySend, Recv, RecvLate, TryRecv, Drain, Withdraw, CloneTx, CloneRx, DropTx, DropRx, Seal, Close, Ask as Asks, Terminated}
 use Rattle.kanal_journal.specs.declared.journal.event.Side.{Side}
 use Rattle.kanal_journal.specs.declared.journal.event.Side.TheVariants.{Tx, Rx}
 use Rattle.kanal_journal.specs.declared.journal.event.Ask.{Ask}
@@ -57,6 +57,7 @@ event_no_feed CloneTx fits = word_no_feed (codes "clone_tx") (name_word CloneTx)
 event_no_feed CloneRx fits = word_no_feed (codes "clone_rx") (name_word CloneRx)
 event_no_feed DropTx fits = word_no_feed (codes "drop_tx") (name_word DropTx)
 event_no_feed DropRx fits = word_no_feed (codes "drop_rx") (name_word DropRx)
+event_no_feed Seal fits = word_no_feed (codes "seal") (name_word Seal)
 event_no_feed Close fits = word_no_feed (codes "close") (name_word Close)
 event_no_feed (Asks side ask) fits = spaced (codes "ask") (side_word side ++ (32 ∷ ask_word ask)) (name_word (Asks side ask)) (spaced (side_word side) (ask_word ask) (side_is_word side) (word_no_feed (ask_word ask) (ask_is_word ask)))
 event_no_feed Terminated fits = word_no_feed (codes "terminated") (name_word Terminated)

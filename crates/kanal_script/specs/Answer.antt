@@ -6,7 +6,7 @@ use Rattle.kanal_core.specs.declared.internal.outcome.Reason.TheVariants.{Closed
 use Rattle.kanal_core.specs.declared.internal.outcome.Outcome.{Outcome}
 use Rattle.kanal_core.specs.declared.internal.outcome.Outcome.TheVariants.{Taken, Given, Ended}
 use Rattle.kanal_journal.specs.declared.journal.event.Refusal.{Refusal}
-use Rattle.kanal_journal.specs.declared.journal.event.Refusal.TheVariants.{Closed, ReceiveClosed, SendClosed, Timeout, NoMemory, TooMany, CloseError, NoHandle, NotWaiting}
+use Rattle.kanal_journal.specs.declared.journal.event.Refusal.TheVariants.{Closed, ReceiveClosed, Sealed, SendClosed, Timeout, NoMemory, TooMany, CloseError, NoHandle, NotWaiting}
 use Rattle.kanal_journal.specs.declared.journal.event.Reply.{Reply}
 use Rattle.kanal_journal.specs.declared.journal.event.Reply.TheVariants.{Sent, Waits, Yes, No, Got, Nothing, Drained, Withdrawn, Done, Cleared, Number, Flag, Refused}
 use Rattle.kanal_journal.specs.declared.journal.event.Settlement.{Settlement}
@@ -17,6 +17,7 @@ use Rattle.kanal_script.specs.Script.{line}
 abbrev pub refusal_name : Refusal → List ℕ
 refusal_name Closed = codes "Closed"
 refusal_name ReceiveClosed = codes "ReceiveClosed"
+refusal_name Sealed = codes "Sealed"
 refusal_name SendClosed = codes "SendClosed"
 refusal_name Timeout = codes "Timeout"
 refusal_name NoMemory = codes "NoMemory"

@@ -5,7 +5,7 @@ use Rattle.kanal_journal.specs.declared.journal.event.Side.TheVariants.{Tx, Rx}
 use Rattle.kanal_journal.specs.declared.journal.event.Ask.{Ask}
 use Rattle.kanal_journal.specs.declared.journal.event.Ask.TheVariants.{IsBounded, Len, IsEmpty, IsFull, Capacity, ReceiverCount, SenderCount, IsClosed, IsDisconnected}
 use Rattle.kanal_journal.specs.declared.journal.event.Event.{Event}
-use Rattle.kanal_journal.specs.declared.journal.event.Event.TheVariants.{Send, TrySend, Recv, RecvLate, TryRecv, Drain, Withdraw, CloneTx, CloneRx, DropTx, DropRx, Close, Ask as Asks, Terminated}
+use Rattle.kanal_journal.specs.declared.journal.event.Event.TheVariants.{Send, TrySend, Recv, RecvLate, TryRecv, Drain, Withdraw, CloneTx, CloneRx, DropTx, DropRx, Seal, Close, Ask as Asks, Terminated}
 
 -- a line: its words, and a line feed
 abbrev pub line : List ℕ → List ℕ
@@ -46,6 +46,7 @@ event_words CloneTx = codes "clone_tx"
 event_words CloneRx = codes "clone_rx"
 event_words DropTx = codes "drop_tx"
 event_words DropRx = codes "drop_rx"
+event_words Seal = codes "seal"
 event_words Close = codes "close"
 event_words (Asks side ask) = codes "ask " ++ (side_word side ++ (32 ∷ ask_word ask))
 event_words Terminated = codes "terminated"

@@ -1,7 +1,7 @@
 -- How a line is cut into words.
 use Rattle.std.specs.Prelude.{◌≡◌, ◌≢◌, ◌⊎◌, ◌<◌, ◌==◌, ◌||◌, ◌^◌, ℕ, Bool, cond, List, [], ◌∷◌, Option, Some, None, codes, decimal}
 use Rattle.kanal_journal.specs.declared.journal.event.Event.{Event}
-use Rattle.kanal_journal.specs.declared.journal.event.Event.TheVariants.{Send, TrySend, Recv, RecvLate, TryRecv, Drain, Withdraw, CloneTx, CloneRx, DropTx, DropRx, Close, Ask as Asks, Terminated}
+use Rattle.kanal_journal.specs.declared.journal.event.Event.TheVariants.{Send, TrySend, Recv, RecvLate, TryRecv, Drain, Withdraw, CloneTx, CloneRx, DropTx, DropRx, Seal, Close, Ask as Asks, Terminated}
 
 -- a space or a line feed
 abbrev pub is_separator : ℕ → Bool
@@ -55,6 +55,7 @@ EventFits CloneTx = Unit {0}
 EventFits CloneRx = Unit {0}
 EventFits DropTx = Unit {0}
 EventFits DropRx = Unit {0}
+EventFits Seal = Unit {0}
 EventFits Close = Unit {0}
 EventFits (Asks side ask) = Unit {0}
 EventFits Terminated = Unit {0}

@@ -159,6 +159,7 @@ impl<'a> Parser<'a> {
             "clone_rx" => Some(Event::CloneRx),
             "drop_tx" => Some(Event::DropTx),
             "drop_rx" => Some(Event::DropRx),
+            "seal" => Some(Event::Seal),
             "close" => Some(Event::Close),
             "ask" => {
                 let side = self.side()?;

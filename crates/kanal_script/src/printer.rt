@@ -19,6 +19,7 @@ fn refusal_name(refusal: Refusal) -> &'static str
     match refusal {
         Refusal::Closed => "Closed",
         Refusal::ReceiveClosed => "ReceiveClosed",
+        Refusal::Sealed => "Sealed",
         Refusal::SendClosed => "SendClosed",
         Refusal::Timeout => "Timeout",
         Refusal::NoMemory => "NoMemory",

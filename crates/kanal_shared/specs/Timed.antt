@@ -1,12 +1,13 @@
 -- What a timed send tells of its message.
 use Rattle.std.specs.Prelude.{Option, Result, Ok, Err}
 use Rattle.kanal_core.specs.declared.error.SendErrorTimeout.{SendErrorTimeout}
-use Rattle.kanal_core.specs.declared.error.SendErrorTimeout.TheVariants.{Closed, ReceiveClosed, Timeout, NoMemory, TooMany, DeadlineOutOfRange}
+use Rattle.kanal_core.specs.declared.error.SendErrorTimeout.TheVariants.{Closed, ReceiveClosed, Sealed, Timeout, NoMemory, TooMany, DeadlineOutOfRange}
 
 -- a refusal that comes only where no wait was started
 abbrev pub StartedNoWait : SendErrorTimeout → Type 0
 StartedNoWait Closed = ⊥
 StartedNoWait ReceiveClosed = ⊥
+StartedNoWait Sealed = Unit
 StartedNoWait Timeout = ⊥
 StartedNoWait NoMemory = Unit
 StartedNoWait TooMany = Unit

@@ -47,7 +47,7 @@ impl<T: Drop> Shared<T> {
         self.ask(rt, |core| core.is_closed())
     }
 
-    /// Whether no sender is left and the buffer is empty. It waits for the lock.
+    /// Whether no sender is left and nothing is in the line. It waits for the lock.
     pub fn is_terminated<R: Wait>(&self, rt: &R) -> bool {
         self.ask(rt, |core| core.is_terminated())
     }
@@ -66,6 +66,18 @@ impl<T: Drop> Shared<T> {
     /// `TooMany` where there are `u32::MAX` receivers.
     pub fn add_receiver<R: Wait>(&self, rt: &R) -> Result<(), TooMany> {
         self.ask(rt, |core| core.add_receiver())
+    }
+
+    /// Lets the senders be done: nothing more enters, and the receivers take what is left. The receives
+    /// that wait are told after the release. It waits for the lock.
+    ///
+    /// # Errors
+    /// `CloseError` where no sender was left already.
+    pub fn seal<R: Wait>(&self, rt: &R) -> Result<(), CloseError> {
+        let mut locked = self.hold(rt);
+        let (sealed, owed) = steps::seal(&mut locked.core);
+        locked.give_back(owed);
+        sealed
     }
 
     /// Closes both sides; what that ended and cleared is settled and dropped after the release. It

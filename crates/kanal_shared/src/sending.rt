@@ -46,8 +46,8 @@ impl<T: Drop> Shared<T> {
     /// Offers the message: it enters where there is a place for it, and comes back otherwise. It waits
     /// for the lock.
     ///
-    /// It is refused as `Closed` or `ReceiveClosed` where no receiver is left, and as `NoMemory` where
-    /// memory was refused.
+    /// It is refused as `Closed` or `ReceiveClosed` where no receiver is left, as `Sealed` where only no
+    /// sender is, and as `NoMemory` where memory was refused.
     ///
     /// # Examples
     /// ```text

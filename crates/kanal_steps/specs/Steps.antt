@@ -5,7 +5,7 @@ use Rattle.kanal_core.specs.declared.internal.outcome.Settled.{Settled}
 use Rattle.kanal_core.specs.declared.internal.outcome.Ticket.{Ticket}
 use Rattle.kanal_core.specs.declared.internal.outcome.Waiter.{Waiter}
 use Rattle.kanal_core.specs.declared.error.SendError.{SendError}
-use Rattle.kanal_core.specs.declared.error.SendError.TheVariants.{Closed as SendToClosed, ReceiveClosed, NoMemory as SendNoMemory, TooMany as SendTooMany, Finished as SendFinished}
+use Rattle.kanal_core.specs.declared.error.SendError.TheVariants.{Closed as SendToClosed, ReceiveClosed, Sealed, NoMemory as SendNoMemory, TooMany as SendTooMany, Finished as SendFinished}
 use Rattle.kanal_core.specs.declared.error.ReceiveError.{ReceiveError}
 use Rattle.kanal_core.specs.declared.error.ReceiveError.TheVariants.{Closed as ReceiveFromClosed, SendClosed, NoMemory as ReceiveNoMemory, TooMany as ReceiveTooMany, Finished as ReceiveFinished}
 use Rattle.kanal_core.specs.declared.error.ReceiveErrorTimeout.{ReceiveErrorTimeout}
@@ -32,7 +32,8 @@ MayNotGrow old = (old.demands ≡ []) × (old.capacity ≡ None)
 abbrev pub RefusesOffer : {T : Type 0} → Line T → SendError → Type 0
 RefusesOffer old SendToClosed = (old.receivers ≡ 0) × (old.senders ≡ 0)
 RefusesOffer old ReceiveClosed = (old.receivers ≡ 0) × (old.senders ≢ 0)
-RefusesOffer old SendNoMemory = (old.receivers ≢ 0) × MayNotGrow old
+RefusesOffer old Sealed = (old.receivers ≢ 0) × (old.senders ≡ 0)
+RefusesOffer old SendNoMemory = (old.receivers ≢ 0) × (old.senders ≢ 0) × MayNotGrow old
 RefusesOffer old SendTooMany = ⊥
 RefusesOffer old SendFinished = ⊥
 
@@ -42,6 +43,7 @@ RefusesWaitingSend old SendNoMemory = old.next ≢ last_word
 RefusesWaitingSend old SendTooMany = old.next ≡ last_word
 RefusesWaitingSend old SendToClosed = ⊥
 RefusesWaitingSend old ReceiveClosed = ⊥
+RefusesWaitingSend old Sealed = ⊥
 RefusesWaitingSend old SendFinished = ⊥
 
 -- why a send that may wait is refused: as one that doesn't, or its wait is
@@ -111,7 +113,7 @@ module _ {T : Type 0} where
   -- a message was offered by a call that doesn't wait: it entered, there was no place, or it was refused and came back
   abbrev pub TriesToSend : Line T → T → Offered T → List (ℕ × Outcome T) → Line T → Type 0
   TriesToSend old m OfferEntered settled new = Enters old m settled new
-  TriesToSend old m (OfferFull back) settled new = Stays old new × (has_place old ≡ false) × (back ≡ m) × (settled ≡ [])
+  TriesToSend old m (OfferFull back) settled new = Stays old new × (old.senders ≢ 0) × (has_place old ≡ false) × (back ≡ m) × (settled ≡ [])
   TriesToSend old m (OfferRefused reason back) settled new = RefusesOffer old reason × (back ≡ m) × (new ≡ old) × (settled ≡ [])
 
   -- the message that comes back from an offer, if it does

@@ -8,9 +8,9 @@ ghost use Rattle.std.specs.Prelude.{◌≡◌, ◌⊎◌, ◌↔◌, ◌+◌, �
 ghost use Rattle.std.specs.Option.{option_map};
 ghost use Rattle.std.specs.Vec.{vec_capacity, vec_len};
 ghost use Rattle.kanal_core.specs.Line.{messages};
-ghost use Rattle.kanal_core.specs.Moves.{cleared, close, drain, drop_receiver, drop_sender};
-ghost use Rattle.kanal_core.specs.Channel.{closed, after_drain, ended_by, line_of, taken_by};
-ghost use Rattle.kanal_core.specs.Waiters.{IsPlaced, sender_first, waiter_of, without};
+ghost use Rattle.kanal_core.specs.Moves.{cleared, close, drain, drop_receiver, drop_sender, seal};
+ghost use Rattle.kanal_core.specs.Channel.{closed, after_drain, ended_by, line_of, sealed, taken_by};
+ghost use Rattle.kanal_core.specs.Waiters.{IsPlaced, receiver_first, sender_first, waiter_of, without};
 ghost use Rattle.kanal_core.specs.Calls.{IsFull, IsEmpty, MovesTo, OldestLeft, Withdraws};
 ghost use Rattle.kanal_core.specs.declared.internal.outcome.Waiter.{Waiter};
 ghost use Rattle.kanal_steps.specs.Leaving.{LeaveInTurn, kept_of, kept_by};
@@ -66,8 +66,8 @@ pub enum Received<T> {
 
 /// Offers the message: it enters where there is a place for it, and comes back otherwise.
 ///
-/// It is refused as `Closed` or `ReceiveClosed` where no receiver is left, and as `NoMemory` where a
-/// buffer without limit can't grow. The core is as it was then.
+/// It is refused as `Closed` or `ReceiveClosed` where no receiver is left, as `Sealed` where only no
+/// sender is, and as `NoMemory` where a buffer without limit can't grow. The core is as it was then.
 ///
 /// # Examples
 /// ```text
@@ -85,6 +85,7 @@ pub fn try_send<T: Drop>(core: &mut Core<T>, message: T) -> (Offered<T>, Owed<T>
         Offer::Full(back) => Offered::Full(back),
         Offer::Closed(back) => Offered::Refused(SendError::Closed, back),
         Offer::ReceiveClosed(back) => Offered::Refused(SendError::ReceiveClosed, back),
+        Offer::Sealed(back) => Offered::Refused(SendError::Sealed, back),
         Offer::NoMemory(back) => Offered::Refused(SendError::NoMemory, back),
     };
     (offered, Owed::nothing())
@@ -299,6 +300,33 @@ pub fn drain<T: Drop>(
         Err(DrainError::NoMemory) => ReceiveError::NoMemory,
     };
     (Err(error), Owed::nothing())
+}
+
+/// Seals the channel: no sender is left, and nothing more enters. What it owes are the receives that
+/// wait.
+///
+/// # Errors
+/// `CloseError` where no sender was left already, and nothing changes.
+///
+/// # Examples
+/// ```text
+/// seal(&mut core)   answers  Ok(())            in a new core
+/// seal(&mut core)   answers  Err(CloseError)   after that
+/// ```
+pub fn seal<T: Drop>(core: &mut Core<T>) -> (Result<(), CloseError>, Owed<T>)
+    ensures step { IfOk result.0 (λ _.
+        MovesTo (seal (line_of core.old)) (settled_in result.1) (line_of core.new)) }
+    ensures ended { IfOk result.0 (λ _. waits_in result.1
+        ≡ cond (receiver_first core.old.waiters)
+        (map (ended_by Reason.SendClosed) core.old.waiters) []) }
+    ensures after { IfOk result.0 (λ _. core.new ≡ sealed core.old) }
+    ensures refused { IfErr result.0 (λ _. (core.new ≡ core.old) × (waits_in result.1 ≡ [])) }
+    ensures shut { IsErr result.0 ↔ (core.old.senders ≡ 0) }
+{
+    match core.seal() {
+        Ok(ended) => (Ok(()), Owed::all(ended)),
+        Err(error) => (Err(error), Owed::nothing()),
+    }
 }
 
 /// Closes the channel for both sides, and hands out the messages of its buffer. What it owes are all

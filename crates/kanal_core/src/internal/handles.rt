@@ -2,9 +2,10 @@
 //!
 //! Stands on the core's fields. A count that is 0 stays 0, so a side that is gone never comes back.
 ghost use Rattle.std.specs.Prelude.{◌≡◌, ◌↔◌, ◌==◌, cond, [], map, IfErr, IfOk, IsErr, OnOk};
-ghost use Rattle.kanal_core.specs.Moves.{cleared, close, drop_receiver, drop_sender, last_count, raised};
-ghost use Rattle.kanal_core.specs.Channel.{closed, ended_by, line_of, receiver_dropped, sender_dropped, settlement};
+ghost use Rattle.kanal_core.specs.Moves.{cleared, close, drop_receiver, drop_sender, last_count, raised, seal};
+ghost use Rattle.kanal_core.specs.Channel.{closed, ended_by, line_of, receiver_dropped, sealed, sender_dropped, settlement};
 ghost use Rattle.kanal_core.specs.Calls.{MovesTo, StaysGone};
+ghost use Rattle.kanal_core.specs.Waiters.{receiver_first};
 
 use super::ChannelInternal;
 use super::leaving::{Cleared, Closing, Ended};
@@ -120,6 +121,40 @@ impl<T, W> ChannelInternal<T, W> {
         }
         self.receivers = self.receivers.saturating_sub(1);
         Ended::nobody(self.alloc)
+    }
+
+    /// Seals the channel: the senders are done, and the receivers take what is left. The count of
+    /// senders becomes 0, each waiting receiver ends with the reason `SendClosed`, and nothing more
+    /// enters; the buffer, the senders that wait and the count of receivers stay. It takes no memory.
+    ///
+    /// # Errors
+    /// `CloseError` where no sender was left already, and nothing changes.
+    ///
+    /// # Examples
+    /// ```text
+    /// let ended = core.seal()?;   while 1 is in the buffer
+    /// core.offer(2)   answers  Sealed(2)
+    /// core.take()     answers  Got(1, None)
+    /// core.take()     answers  SendClosed
+    /// ```
+    pub fn seal(&mut self) -> Result<Ended<T, W>, CloseError>
+        ensures step { IfOk result (λ ended. MovesTo (seal (line_of self.old)) (map settlement ended)
+            (line_of self.new)) }
+        ensures ended { IfOk result (λ ended. ended ≡ cond (receiver_first self.old.waiters)
+            (map (ended_by Reason.SendClosed) self.old.waiters) []) }
+        ensures after { IfOk result (λ _. self.new ≡ sealed self.old) }
+        ensures refused { IfErr result (λ _. self.new ≡ self.old) }
+        ensures sealed { IsErr result ↔ (self.old.senders ≡ 0) }
+        ensures gone { StaysGone self.old self.new }
+    {
+        if self.senders == 0 {
+            return Err(CloseError());
+        }
+        self.senders = 0;
+        if self.waiters.receiver_first() {
+            return Ok(Ended::all(&mut self.waiters, Reason::SendClosed, self.alloc));
+        }
+        Ok(Ended::nobody(self.alloc))
     }
 
     /// Closes the channel for both sides, and moves out the messages of its buffer and all waits.

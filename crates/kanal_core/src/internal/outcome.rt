@@ -115,6 +115,8 @@ pub enum Offer<T, W> {
     Closed(T),
     /// No receiver is left; the message comes back.
     ReceiveClosed(T),
+    /// No sender is left, as after a seal; the message comes back.
+    Sealed(T),
     /// An unlimited buffer found no memory to grow; the message comes back.
     NoMemory(T),
 }

@@ -1,7 +1,7 @@
 //! What can be asked of a core without changing it.
 //!
 //! Stands on the core's fields. An answer holds until the next call that changes the core.
-ghost use Rattle.std.specs.Prelude.{◌≡◌, ◌==◌, ◌&&◌};
+ghost use Rattle.std.specs.Prelude.{◌≡◌, ◌==◌, ◌&&◌, length};
 ghost use Rattle.kanal_core.specs.Line.{buffered, capacity_word, is_at, is_bounded};
 ghost use Rattle.kanal_core.specs.Channel.{line_of};
 
@@ -135,15 +135,16 @@ impl<T, W> ChannelInternal<T, W> {
         self.receiver_count() == 0
     }
 
-    /// Whether no sender is left and the buffer is empty, so that no message will come.
+    /// Whether no sender is left and no message is in the line, those of waiting senders included, so
+    /// that no message will come.
     ///
     /// # Examples
     /// ```text
     /// core.is_terminated()   answers  true   after the last sender was dropped and the buffer taken
     /// ```
     pub fn is_terminated(&self) -> bool
-        ensures { result ≡ (self.now.senders == 0) && (buffered (line_of self.now) == 0) }
+        ensures { result ≡ (self.now.senders == 0) && (length (line_of self.now).line == 0) }
     {
-        self.send_side_gone() && self.is_empty()
+        self.send_side_gone() && self.is_empty() && !self.waiters.sender_first()
     }
 }

@@ -4,4 +4,5 @@ mod calls;
 mod drains;
 mod drops;
 mod handles;
+mod seals;
 mod waits;

@@ -2,4 +2,5 @@
 mod calls;
 mod drops;
 mod questions;
+mod seals;
 mod texts;

@@ -3,6 +3,7 @@ mod counted;
 mod crowds;
 mod ends;
 mod order;
+mod seals;
 mod shared;
 pub mod starts;
 mod waits;

@@ -5,7 +5,6 @@
 //! the core comes back with the reply; nothing is settled or kept here.
 ghost use Rattle.std.specs.Prelude.{◌≡◌, ◌+◌, ◌<◌, ◌≤◌, ◌==◌, ◌&&◌, [], length, true, Some, None, vec_len, vec_capacity};
 ghost use Rattle.kanal_core.specs.Channel.{line_of};
-ghost use Rattle.kanal_core.specs.Line.{buffered};
 ghost use Rattle.kanal_core.specs.Calls.{IsFull, IsEmpty};
 ghost use Rattle.kanal_journal.specs.Steps.{Tells, answer as answer_of, message_of};
 ghost use Rattle.kanal_journal.specs.Runs.{has_handle, has_side, handles_after};
@@ -52,6 +51,7 @@ fn try_send<T: Drop>(core: &mut Core<T>, message: T) -> Made<T>
         Offer::Full(back) => only(Reply::No(back)),
         Offer::Closed(back) => only(Reply::Refused(Refusal::Closed, Some(back))),
         Offer::ReceiveClosed(back) => only(Reply::Refused(Refusal::ReceiveClosed, Some(back))),
+        Offer::Sealed(back) => only(Reply::Refused(Refusal::Sealed, Some(back))),
         Offer::NoMemory(back) => only(Reply::Refused(Refusal::NoMemory, Some(back))),
     }
 }
@@ -119,6 +119,7 @@ fn send<T: Drop>(core: &mut Core<T>, tickets: &mut Vec<Ticket>, message: T) -> M
         Offer::Full(back) => start_send(core, tickets, back),
         Offer::Closed(back) => only(Reply::Refused(Refusal::Closed, Some(back))),
         Offer::ReceiveClosed(back) => only(Reply::Refused(Refusal::ReceiveClosed, Some(back))),
+        Offer::Sealed(back) => only(Reply::Refused(Refusal::Sealed, Some(back))),
         Offer::NoMemory(back) => only(Reply::Refused(Refusal::NoMemory, Some(back))),
     }
 }
@@ -175,6 +176,17 @@ fn withdraw<T: Drop>(core: &mut Core<T>, tickets: &[Ticket], number: u64) -> Mad
     match core.withdraw(*ticket, &mut steps) {
         Some(waiter) => only(Reply::Withdrawn(waiter.message)),
         None => only(Reply::Refused(Refusal::NotWaiting, None)),
+    }
+}
+
+/// Seals the channel.
+fn seal<T: Drop>(core: &mut Core<T>) -> Made<T>
+    ensures told { Tells (line_of core.old) Event.Seal (told_of (line_of core.new) [] result) }
+    ensures tickets { GivesNone core.old core.new }
+{
+    match core.seal() {
+        Ok(ended) => Made::All(Reply::Done, ended),
+        Err(_) => only(Reply::Refused(Refusal::CloseError, None)),
     }
 }
 
@@ -278,10 +290,10 @@ fn ask<T: Drop>(core: &Core<T>, side: Side, question: Ask) -> Reply<T>
     }
 }
 
-/// Asks whether no sender is left and no message is in the buffer.
+/// Asks whether no sender is left and no message is there.
 fn terminated<T: Drop>(core: &Core<T>) -> Reply<T>
     ensures { result ≡ Reply.Flag
-        (((line_of core.now).senders == 0) && (buffered (line_of core.now) == 0)) }
+        (((line_of core.now).senders == 0) && (length (line_of core.now).line == 0)) }
 {
     Reply::Flag(core.is_terminated())
 }
@@ -321,6 +333,7 @@ fn make<T: Drop>(
         Event::CloneRx => clone_rx(core, handles),
         Event::DropTx => drop_tx(core, handles),
         Event::DropRx => drop_rx(core, handles),
+        Event::Seal => seal(core),
         Event::Close => close(core),
         Event::Ask(side, question) => only(ask(core, side, question)),
         Event::Terminated => only(terminated(core)),

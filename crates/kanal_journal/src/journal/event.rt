@@ -37,8 +37,8 @@ pub enum Ask {
 
 /// One call on a channel.
 ///
-/// A call is made through a live handle of its side; a withdrawal needs none, and a close one of
-/// either side.
+/// A call is made through a live handle of its side; a withdrawal needs none, and a seal or a close
+/// one of either side.
 #[derive(Clone, Copy, Debug, PartialEq, Eq, Drop)]
 pub enum Event<T> {
     /// Send this message, and wait if it can't enter at once.
@@ -63,11 +63,13 @@ pub enum Event<T> {
     DropTx,
     /// Drop a receiver.
     DropRx,
+    /// Let the senders be done, and the receivers take what is left.
+    Seal,
     /// Close both sides.
     Close,
     /// Ask a question through this side.
     Ask(Side, Ask),
-    /// Ask whether no sender is left and no message is in the buffer.
+    /// Ask whether no sender is left and no message is there, those of waiting senders included.
     Terminated,
 }
 
@@ -78,6 +80,8 @@ pub enum Refusal {
     Closed,
     /// A send, and no receiver is left.
     ReceiveClosed,
+    /// A send, and no sender is left, as after a seal.
+    Sealed,
     /// A receive, nothing is there, and no sender is left.
     SendClosed,
     /// The deadline has passed, and nothing is there.
@@ -86,7 +90,7 @@ pub enum Refusal {
     NoMemory,
     /// The tickets are used up, or a side's count.
     TooMany,
-    /// A close of a channel whose sides are both gone.
+    /// A close of a channel whose sides are both gone, or a seal of one without senders.
     CloseError,
     /// The event's side has no live handle.
     NoHandle,
@@ -113,7 +117,7 @@ pub enum Reply<T> {
     Drained(usize),
     /// The wait was taken back, with the message of a send.
     Withdrawn(Option<T>),
-    /// The handle was cloned or dropped.
+    /// The handle was cloned or dropped, or the channel was sealed.
     Done,
     /// The channel was closed, and so many messages were cleared.
     Cleared(usize),

@@ -40,7 +40,7 @@ impl Handles {
                 self.has_side(Side::Tx)
             },
             Event::Withdraw(_) => true,
-            Event::Close => self.has_side(Side::Tx) || self.has_side(Side::Rx),
+            Event::Seal | Event::Close => self.has_side(Side::Tx) || self.has_side(Side::Rx),
             Event::Ask(side, _) => self.has_side(*side),
             Event::Recv
             | Event::RecvLate

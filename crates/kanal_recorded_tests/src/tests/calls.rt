@@ -1,6 +1,6 @@
 //! Each call of a pass once, with ample memory.
 use crate::tests::given::{equal, holds};
-use crate::tests::parties::{channel, pass, pass_on, recorded};
+use crate::tests::parties::{channel, end, pass, pass_on, recorded};
 use kanal_journal::journal::{Ask, Refusal, Reply, Side};
 use kanal_recorded::Note;
 
@@ -88,6 +88,19 @@ fn handles(rt: HostRuntime) {
     equal(&rt, a.drop_rx(&rt, channel), Reply::Done);
     equal(&rt, a.terminated(&rt, channel), Reply::Flag(false));
     drop(parties);
+}
+
+/// A seal is made on an open channel, and what is there is still received.
+#[test]
+fn a_seal(rt: HostRuntime) {
+    let mut parties = recorded(&rt, Some(1));
+    let (a, channel) = (&mut parties.a, &parties.channel);
+    equal(&rt, a.try_send(&rt, channel, 1), Reply::Yes);
+    equal(&rt, a.seal(&rt, channel), Reply::Done);
+    let refused = Reply::Refused(Refusal::Sealed, Some(2));
+    equal(&rt, a.try_send(&rt, channel, 2), refused);
+    equal(&rt, parties.b.recv(&rt, channel), Reply::Got(1));
+    drop(end(&rt, parties));
 }
 
 /// A close clears the message, and a second one is refused.

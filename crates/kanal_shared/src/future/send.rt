@@ -156,8 +156,8 @@ impl<T: Drop> Future for SendFuture<'_, T> {
     ///
     /// # Errors
     /// `Closed` where the channel was closed, `ReceiveClosed` where the last receiver was dropped,
-    /// `NoMemory` where memory was refused, `TooMany` where the tickets are used up, and `Finished`
-    /// after the first answer. The message is dropped then.
+    /// `Sealed` after a `seal`, `NoMemory` where memory was refused, `TooMany` where the tickets are
+    /// used up, and `Finished` after the first answer. The message is dropped then.
     ///
     /// # Examples
     /// ```text

@@ -20,6 +20,7 @@ fn timed(error: SendError) -> SendErrorTimeout {
     match error {
         SendError::Closed | SendError::Finished => SendErrorTimeout::Closed,
         SendError::ReceiveClosed => SendErrorTimeout::ReceiveClosed,
+        SendError::Sealed => SendErrorTimeout::Sealed,
         SendError::NoMemory => SendErrorTimeout::NoMemory,
         SendError::TooMany => SendErrorTimeout::TooMany,
     }

@@ -124,6 +124,36 @@ const ROWS: &[(&str, &str, u8)] = &[
         "waits 0; done; ticket 0 ended SendClosed 1; refused SendClosed",
         0,
     ),
+    (
+        "cap 1; send 1; send 2; seal; send 3; recv; recv; recv; seal; close",
+        "sent; waits 0; done; refused Sealed 3; got 1; ticket 0 taken; got 2; refused SendClosed; refused CloseError; cleared 0",
+        0,
+    ),
+    (
+        "cap 0; recv; seal; drop_tx; try_recv",
+        "waits 0; done; ticket 0 ended SendClosed; done; refused SendClosed",
+        0,
+    ),
+    (
+        "cap 0; send 1; seal; terminated; drop_tx; try_recv; terminated",
+        "waits 0; done; false; done; got 1; ticket 0 taken; true",
+        0,
+    ),
+    (
+        "cap 1; try_send 1; send 2; seal; close; ask tx len",
+        "yes; waits 0; done; cleared 1 1; ticket 0 ended Closed 2; 0",
+        0,
+    ),
+    (
+        "cap 1; send 1; seal; drop_rx; send 2; close",
+        "sent; done; done; refused Closed 2; refused CloseError",
+        0,
+    ),
+    (
+        "cap 0; send 1; seal; withdraw 0; recv",
+        "waits 0; done; withdrawn 1; refused SendClosed",
+        0,
+    ),
     ("", "", 2),
     ("cap 1; send x", "", 2),
 ];

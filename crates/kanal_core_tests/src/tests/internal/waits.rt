@@ -1,8 +1,7 @@
 //! Waits on the core, at a W that isn't Copy.
 use crate::tests::given::{boxed, core_from, core_of, equal, holds};
 use crate::tests::waits::{
-    enter, expect_receive_closed, expect_send_closed, filled, receive, refused_receive,
-    refused_send, send,
+    expect_receive_closed, expect_send_closed, filled, receive, refused_receive, refused_send, send,
 };
 use kanal_core::error::WaitError;
 use kanal_core::internal::{
@@ -214,8 +213,6 @@ fn a_side_without_receivers(rt: HostRuntime) {
 #[test]
 fn a_side_without_senders(rt: HostRuntime) {
     let mut core: Core = core_from(&rt, 1, 0, 0, 1);
-    enter(&rt, &mut core, 3);
-    equal(&rt, take(&mut core), Some((3, None)));
     expect_send_closed(&rt, &mut core);
 }
 

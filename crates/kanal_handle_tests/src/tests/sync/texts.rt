@@ -32,6 +32,7 @@ fn errors_of_a_send(rt: HostRuntime) {
         &[
             (SendError::Closed, "send to a closed channel"),
             (SendError::ReceiveClosed, "send to a half closed channel"),
+            (SendError::Sealed, "send to a sealed channel"),
             (SendError::NoMemory, "no memory"),
             (SendError::TooMany, "too many"),
             (SendError::Finished, "already finished"),

@@ -50,6 +50,18 @@ fn a_message_that_is_held_comes_before_the_end(rt: HostRuntime) {
 }
 
 #[test]
+fn a_seal_ends_a_stream_behind_its_last_message(rt: HostRuntime) {
+    let (sender, receiver) = ends::<u64>(&rt, 1);
+    let task = new_task(&rt);
+    let mut stream = receiver.stream();
+    equal(&rt, sender.try_send(&rt, 1), Ok(true));
+    equal(&rt, sender.seal(&rt), Ok(()));
+    equal(&rt, poll_next(&task, &mut stream), Poll::Ready(Some(1)));
+    equal(&rt, poll_next(&task, &mut stream), Poll::Ready(None));
+    holds(&rt, stream.fault() == Some(&ReceiveError::SendClosed));
+}
+
+#[test]
 fn a_stream_that_ended_stays_ended(rt: HostRuntime) {
     let (sender, receiver) = ends::<u64>(&rt, 1);
     let task = new_task(&rt);

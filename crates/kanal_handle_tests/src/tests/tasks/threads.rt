@@ -1,7 +1,12 @@
 //! One channel between threads that block and tasks that are run in threads.
-use super::given::{ends, next_in_task, receive_in_task, send_in_task};
+use super::given::{
+    end_receive, ends, ends_and_task, next_in_task, poll_next, receive_in_task, send_in_task,
+    waiting_receive,
+};
 use crate::tests::given::{ends as sync_ends, equal, holds};
 use crate::tests::threads::starts::{Sent, start_numbers};
+use futures::task::Poll;
+use kanal::error::ReceiveError;
 use kanal::{AsyncReceiver, AsyncSender};
 use std::alloc::AllocGlobal;
 use std::process::Abort;
@@ -100,4 +105,18 @@ fn a_stream_goes_to_the_end(rt: HostRuntime) {
     holds(&rt, stream.is_terminated(&rt));
     equal(&rt, next_in_task(&rt, &mut stream), None);
     equal(&rt, thread.join(&rt), Ok(()));
+}
+
+/// A receive future and a stream wait, and a thread seals the channel.
+#[test]
+fn a_seal_from_a_thread_ends_what_waits(rt: HostRuntime) {
+    let (sender, receiver, task) = ends_and_task::<u64>(&rt, 1);
+    let mut receiving = waiting_receive(&rt, &task, &receiver);
+    let mut stream = receiver.stream();
+    equal(&rt, poll_next(&task, &mut stream), Poll::Pending);
+    let thread = thread::spawn(&rt, move || sender.seal(&rt)).expect(&rt, "a thread");
+    equal(&rt, thread.join(&rt), Ok(()));
+    end_receive(&rt, &task, &mut receiving, Err(ReceiveError::SendClosed));
+    equal(&rt, poll_next(&task, &mut stream), Poll::Ready(None));
+    holds(&rt, stream.fault() == Some(&ReceiveError::SendClosed));
 }

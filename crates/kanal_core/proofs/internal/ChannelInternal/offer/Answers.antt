@@ -24,7 +24,7 @@ returns-then-receiver_first-clause-step g c =
     let h = c.hand_over.ensures in
     let one = receiver-side now.buffer.messages now.capacity now.waiters c.self.invariant.side c.self.invariant.within (sym c.if-receiver_first.ensures) in
     let receive = subst AllReceive h.was one.0 in
-    rw (← c.self.view_is, h.was, one.1, h.settled) (enters-handed now.capacity now.senders now.receivers now.next h.first c.hand_over.new.waiters c.args.message c.if-self-eq0.false receive.0 receive.1)
+    rw (← c.self.view_is, h.was, one.1, h.settled) (enters-handed now.capacity now.senders now.receivers now.next h.first c.hand_over.new.waiters c.args.message c.if-self-eq0.false c.if-self-eq0-3.false receive.0 receive.1)
 
 pub returns-then-receiver_first-clause-waiter : goal.returns-then-receiver_first-clause-waiter
 returns-then-receiver_first-clause-waiter g c =
@@ -37,7 +37,7 @@ returns-then-not-has_place-clause-step g c =
     let limit : now.buffer.limit ≡ now.capacity = c.self.invariant.room (omega (arith, c.if-self-eq0.false)) in
     let full : is_below (length now.buffer.messages) now.capacity ≡ false = sym (ap (λ l. is_below (length now.buffer.messages) l) limit) ∙ sym c.if-not-has_place.ensures in
     rw (← c.self.view_is)
-    ((c.if-self-eq0.false, refl), no-place now.capacity now.senders now.receivers now.next now.buffer.messages now.waiters c.self.invariant.side c.self.invariant.within (sym c.if-receiver_first.ensures) full, refl)
+    ((c.if-self-eq0.false, refl), c.if-self-eq0-3.false, no-place now.capacity now.senders now.receivers now.next now.buffer.messages now.waiters c.self.invariant.side c.self.invariant.within (sym c.if-receiver_first.ensures) full, refl)
 
 pub returns-then-not-has_place-clause-enters : goal.returns-then-not-has_place-clause-enters
-returns-then-not-has_place-clause-enters g c = λ _ place. absurd (false≢true (sym (returns-then-not-has_place-clause-step g c).1 ∙ place))
+returns-then-not-has_place-clause-enters g c = λ _ _ place. absurd (false≢true (sym (returns-then-not-has_place-clause-step g c).2 ∙ place))

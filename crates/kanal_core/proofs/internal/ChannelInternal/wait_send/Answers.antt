@@ -10,7 +10,7 @@ invariant_of-self g c =
     let now = c.self.inside in
     let full = rw (← c.self.view_is) at c.requires.full in
     record {
-      side = subst (IsOneSided now.buffer.messages now.capacity) (sym k.1) (side-wait-send now.senders now.receivers now.next now.buffer.messages now.capacity now.waiters c.in-Ok.ticket c.args.message c.args.w c.self.invariant.side c.self.invariant.within full.1);
+      side = subst (IsOneSided now.buffer.messages now.capacity) (sym k.1) (side-wait-send now.senders now.receivers now.next now.buffer.messages now.capacity now.waiters c.in-Ok.ticket c.args.message c.args.w c.self.invariant.side c.self.invariant.within full.2);
       rises = let P = λ (ws : _). Rises 0 ws (now.next + 1) in subst P (sym k.1) (rises-wait now.waiters (record { ticket = c.in-Ok.ticket; message = Some c.args.message; w = c.args.w }) now.next k.0 c.self.invariant.rises);
       within = c.self.invariant.within;
       room = c.self.invariant.room;

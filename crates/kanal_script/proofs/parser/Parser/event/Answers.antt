@@ -29,6 +29,7 @@ returns-in_default-clause-read c = λ event s fits end is.
       not_clone_rx = c.in_default.not-clone_rx;
       not_drop_tx = c.in_default.not-drop_tx;
       not_drop_rx = c.in_default.not-drop_rx;
+      not_seal = c.in_default.not-seal;
       not_close = c.in_default.not-close;
       not_ask = c.in_default.not-ask;
       not_terminated = c.in_default.not-terminated;

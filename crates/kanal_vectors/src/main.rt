@@ -8,7 +8,12 @@ use anyhow::{Context, Result};
 use std::fs;
 
 /// The files, which lie in the folder that the program runs in.
-const FILES: [&str; 3] = ["scripts-first.txt", "scripts-waits.txt", "scripts-full.txt"];
+const FILES: [&str; 4] = [
+    "scripts-first.txt",
+    "scripts-waits.txt",
+    "scripts-full.txt",
+    "scripts-sealed.txt",
+];
 
 fn main(rt: HostRuntime) -> Result<()> {
     for file in FILES {

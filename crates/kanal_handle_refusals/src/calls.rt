@@ -62,3 +62,13 @@ pub fn drains<R: Wait>(rt: &R, alloc: Global) -> Option<()> {
     };
     holds(answer == Ok(2) && messages.as_slice() == [1, 2].as_slice())
 }
+
+/// A seal asks for no memory: what is there is received, and nothing more enters.
+pub fn seals<R: Wait>(rt: &R, alloc: Global) -> Option<()> {
+    let (sender, receiver) = channel::<u64>(alloc, 2)?;
+    enter(rt, &sender, 1)?;
+    holds(receiver.seal(rt).is_ok() && sender.seal(rt).is_err())?;
+    holds(sender.try_send(rt, 2) == Err(SendError::Sealed))?;
+    holds(receiver.try_recv(rt) == Ok(Some(1)))?;
+    holds(receiver.try_recv(rt) == Err(ReceiveError::SendClosed))
+}

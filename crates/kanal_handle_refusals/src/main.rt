@@ -11,7 +11,7 @@ mod calls;
 mod timed;
 
 use blocked::{recv_waits, send_waits};
-use calls::{drains, grows};
+use calls::{drains, grows, seals};
 use std::process::ExitCode;
 use timed::{recv_times_out, send_times_out};
 
@@ -19,6 +19,7 @@ fn main(rt: HostRuntime) -> ExitCode {
     let alloc = rt.alloc();
     let answered = grows(&rt, alloc).is_some()
         && drains(&rt, alloc).is_some()
+        && seals(&rt, alloc).is_some()
         && send_times_out(&rt, alloc).is_some()
         && recv_times_out(&rt, alloc).is_some()
         && send_waits(rt, alloc).is_some()

@@ -8,7 +8,7 @@
 mod calls;
 
 use calls::{Core, channel, drain, enter, holds, wait_recv, wait_send};
-use kanal_core::internal::Offer;
+use kanal_core::internal::{Offer, Take};
 use std::alloc::Global;
 use std::process::ExitCode;
 
@@ -35,9 +35,21 @@ fn unlimited(alloc: Global) -> Option<()> {
     holds(count == 20 && messages.len() == 20)
 }
 
+/// A seal asks for no memory: whoever receives ends, and nothing more enters.
+fn sealed(alloc: Global) -> Option<()> {
+    let mut core = channel(alloc, 1)?;
+    wait_recv(&mut core, 7)?;
+    holds(core.seal().is_ok())?;
+    holds(core.seal().is_err())?;
+    holds(matches!(core.offer(1), Offer::Sealed(1)))?;
+    holds(matches!(core.take(), Take::SendClosed))
+}
+
 fn main(rt: HostRuntime) -> ExitCode {
     let alloc = rt.alloc();
-    let answered = bounded(alloc).is_some() && unlimited(alloc).is_some();
+    let answered = bounded(alloc).is_some()
+        && unlimited(alloc).is_some()
+        && sealed(alloc).is_some();
     if answered {
         ExitCode::SUCCESS
     } else {

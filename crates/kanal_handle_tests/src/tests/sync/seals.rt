@@ -76,11 +76,12 @@ fn a_view_of_a_receiver_for_tasks_seals(rt: HostRuntime) {
 fn an_option_is_kept_by_a_sealed_channel(rt: HostRuntime) {
     let (sender, _receiver) = ends::<u64>(&rt, 1);
     let clock = SystemClock::new(&rt);
-    let mut option = Some(1);
+    let (mut first, mut second) = (Some(1), Some(2));
     equal(&rt, sender.seal(&rt), Ok(()));
-    let refused = sender.try_send_option(&rt, &mut option);
+    let refused = sender.try_send_option(&rt, &mut first);
     equal(&rt, refused, Err(SendError::Sealed));
-    let late = sender.send_option_timeout(&rt, &mut option, Duration::from_nanos(1), &clock);
+    let late = sender.send_option_timeout(&rt, &mut second, Duration::from_nanos(1), &clock);
     equal(&rt, late, Err(SendErrorTimeout::Sealed));
-    equal(&rt, option, Some(1));
+    equal(&rt, first, Some(1));
+    equal(&rt, second, Some(2));
 }

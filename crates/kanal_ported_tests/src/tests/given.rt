@@ -1,5 +1,5 @@
-//! What the tests share: their sizes, the comparison of an answer with the expected one, and a count
-//! of calls that begin.
+//! What the tests share: their sizes, the comparison of an answer with the expected one, a count of
+//! calls that begin, and calls that are repeated until they succeed.
 use std::alloc::{AllocGlobal, Global};
 use std::fmt::Debug;
 use std::process::Abort;
@@ -17,7 +17,7 @@ pub const PLACES: usize = 10_000;
 /// How many threads there are on a side.
 pub const THREADS: u64 = 8;
 
-/// How often a test looks whether others have come as far as it wants.
+/// How often a test looks whether others have come as far as it wants, before it fails.
 pub const TURNS: u32 = 1_000_000;
 
 /// Ends the test, and shows both values, unless the answer is the expected one.
@@ -40,13 +40,20 @@ pub fn shared(rt: &impl Abort, counter: &Arc<AtomicU64, Global>) -> Arc<AtomicU6
     Arc::try_clone(counter).expect(rt, "a count of the counter")
 }
 
-/// Waits until so many calls have begun; ends the test where that takes too many turns.
-pub fn wait_until(rt: &impl Abort, begun: &AtomicU64, calls: u64) {
+/// Repeats the call until it succeeds; ends the test where that takes too many turns.
+pub fn repeat<R: Abort, F: Fn() -> bool>(rt: &R, call: F)
+    requires { F.IsAlwaysCallable call }
+{
     for _ in 0..TURNS {
-        if begun.load(SeqCst) >= calls {
+        if call() {
             return;
         }
         thread::yield_now();
     }
     holds(rt, false);
+}
+
+/// Waits until so many calls have begun; ends the test where that takes too many turns.
+pub fn wait_until(rt: &impl Abort, begun: &AtomicU64, calls: u64) {
+    repeat(rt, || begun.load(SeqCst) >= calls);
 }

@@ -1,4 +1,5 @@
-//! The messages of the tests: boxes, a message that counts its drop, and values with padding.
+//! The messages of the tests: boxes, a message that counts its drop, values with padding, and a
+//! message of size 0.
 use super::given::{equal, shared};
 use std::alloc::{AllocGlobal, Global};
 use std::process::Abort;
@@ -58,3 +59,6 @@ pub struct PaddedReprC {
     pub b: u8,
     pub c: u32,
 }
+
+/// A message of size 0, with the largest alignment that can be had.
+pub type Nothing = [u128; 0];

@@ -1,6 +1,6 @@
-//! One side comes late, and messages of size 0.
-use super::given::{new, receive_ones, send_ones};
-use crate::tests::given::{counter, equal, wait_until};
+//! One side comes late: it waits until the other's call has begun.
+use super::given::{new, receive_ones, send_one, send_ones};
+use crate::tests::given::{counter, wait_until};
 use crate::tests::messages::boxed;
 use kanal::{Receiver, Sender};
 use std::alloc::AllocGlobal;
@@ -17,7 +17,7 @@ const FEW: u64 = 10;
 fn send_and_tell<R: Wait + Abort + AllocGlobal>(rt: &R, tx: &Sender<Box<u64>>, begun: &AtomicU64) {
     for _ in 0..FEW {
         begun.fetch_add(1, SeqCst);
-        equal(rt, tx.send(rt, boxed(rt, 1)), Ok(()));
+        send_one(rt, tx, boxed(rt, 1));
     }
 }
 
@@ -65,30 +65,4 @@ fn spsc_delayed_send(rt: HostRuntime) {
         || send_late(&rt, &tx, &begun),
         || receive_and_tell(&rt, &rx, &begun),
     );
-}
-
-/// A message of size 0 with the largest alignment that can be had.
-type Nothing = [u128; 0];
-
-/// Sends so many of them.
-fn send_nothing<R: Wait + Abort>(rt: &R, tx: &Sender<Nothing>) {
-    for _ in 0..FEW {
-        equal(rt, tx.send(rt, []), Ok(()));
-    }
-}
-
-/// Receives so many of them.
-fn receive_nothing<R: Wait + Abort>(rt: &R, rx: &Receiver<Nothing>) {
-    for _ in 0..FEW {
-        equal(rt, rx.recv(rt).is_ok(), true);
-    }
-}
-
-/// Without a place, with one, and with a place for each.
-#[test]
-fn spsc_overaligned_zst(rt: HostRuntime) {
-    for capacity in [0, 1, 10] {
-        let (tx, rx) = new::<Nothing>(&rt, Some(capacity));
-        thread::join(&rt, || send_nothing(&rt, &tx), || receive_nothing(&rt, &rx));
-    }
 }

@@ -26,20 +26,20 @@ fn drain_into_test(rt: HostRuntime) {
     }
 }
 
-/// How many threads send a byte each.
+/// How many threads send a number each.
 const SENDERS: usize = 100;
 
-/// Sends one byte.
-fn send_byte<R: Wait + Abort>(rt: &R, tx: &Sender<u8>) {
+/// Sends one number.
+fn send_number<R: Wait + Abort>(rt: &R, tx: &Sender<u64>) {
     equal(rt, tx.send(rt, 0xFF), Ok(()));
 }
 
-/// Sends a byte from each of so many threads, and joins them.
-fn send_bytes<R: Threads + Wait + Abort + Sync>(rt: &R, tx: &Sender<u8>) {
+/// Sends a number from each of so many threads, and joins them.
+fn send_numbers<R: Threads + Wait + Abort + Sync>(rt: &R, tx: &Sender<u64>) {
     thread::scope(thread::scope_env(), rt, |scope| {
         for _ in 0..SENDERS {
             scope
-                .spawn(move || send_byte(rt, tx))
+                .spawn(move || send_number(rt, tx))
                 .expect(rt, "a thread");
         }
     });
@@ -47,10 +47,10 @@ fn send_bytes<R: Threads + Wait + Abort + Sync>(rt: &R, tx: &Sender<u8>) {
 
 #[test]
 fn drain_into_test_zero_sized(rt: HostRuntime) {
-    let (tx, rx) = new::<u8>(&rt, None);
-    send_bytes(&rt, &tx);
+    let (tx, rx) = new::<u64>(&rt, None);
+    send_numbers(&rt, &tx);
     let mut drained = Vec::new(rt.alloc());
     equal(&rt, rx.drain_into(&rt, &mut drained), Ok(SENDERS));
     equal(&rt, drained.len(), SENDERS);
-    holds(&rt, drained.iter().all(|byte| *byte == 0xFF));
+    holds(&rt, drained.iter().all(|number| *number == 0xFF));
 }

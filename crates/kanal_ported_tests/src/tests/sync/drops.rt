@@ -2,6 +2,7 @@
 use super::given::new;
 use crate::tests::given::{MESSAGES, THREADS, counter, equal, holds, wait_until};
 use crate::tests::messages::{DropTester, dropped, one_two_three};
+use kanal::error::SendError;
 use kanal::{Receiver, Sender};
 use std::alloc::{AllocGlobal, Global};
 use std::process::Abort;
@@ -82,10 +83,15 @@ fn vec_test(rt: HostRuntime) {
     pass_vectors(&rt);
 }
 
-/// Sends ten messages, each of which is refused or not, as is expected.
-fn send_ten<R: Wait + Abort>(rt: &R, tx: &Sender<DropTester>, drops: &Drops, goes: bool) {
+/// Sends ten messages, of which each is answered so.
+fn send_ten<R: Wait + Abort>(
+    rt: &R,
+    tx: &Sender<DropTester>,
+    drops: &Drops,
+    expected: Result<(), SendError>,
+) {
     for _ in 0..10 {
-        equal(rt, tx.send(rt, DropTester::new(rt, drops)).is_ok(), goes);
+        equal(rt, tx.send(rt, DropTester::new(rt, drops)), expected);
     }
 }
 
@@ -93,7 +99,8 @@ fn send_ten<R: Wait + Abort>(rt: &R, tx: &Sender<DropTester>, drops: &Drops, goe
 fn drop_test_in_queue(rt: HostRuntime) {
     let drops = counter(&rt);
     let (tx, rx) = new(&rt, Some(10));
-    send_ten(&rt, &tx, &drops, true);
+    send_ten(&rt, &tx, &drops, Ok(()));
+    dropped(&rt, &drops, 0);
     equal(&rt, rx.close(&rt), Ok(()));
     dropped(&rt, &drops, 10);
 }
@@ -103,7 +110,7 @@ fn drop_test_send_to_closed(rt: HostRuntime) {
     let drops = counter(&rt);
     let (tx, rx) = new(&rt, Some(10));
     equal(&rt, rx.close(&rt), Ok(()));
-    send_ten(&rt, &tx, &drops, false);
+    send_ten(&rt, &tx, &drops, Err(SendError::Closed));
     dropped(&rt, &drops, 10);
 }
 
@@ -112,7 +119,7 @@ fn drop_test_send_to_half_closed(rt: HostRuntime) {
     let drops = counter(&rt);
     let (tx, rx) = new(&rt, Some(10));
     drop(rx);
-    send_ten(&rt, &tx, &drops, false);
+    send_ten(&rt, &tx, &drops, Err(SendError::ReceiveClosed));
     dropped(&rt, &drops, 10);
 }
 
@@ -125,7 +132,7 @@ fn send_and_tell<R: Wait + Abort>(
 ) {
     let message = DropTester::new(rt, drops);
     begun.fetch_add(1, SeqCst);
-    holds(rt, tx.send(rt, message).is_err());
+    equal(rt, tx.send(rt, message), Err(SendError::Closed));
 }
 
 /// Ten threads send, and once all have begun the channel is closed.

@@ -1,8 +1,9 @@
-//! What the tests of threads share: the ends of a channel, and parties that send and receive boxes.
+//! What the tests of threads share: the ends of a channel, and parties that send and receive.
 use crate::tests::given::equal;
 use crate::tests::messages::boxed;
 use kanal::{Receiver, Sender, bounded, unbounded};
 use std::alloc::AllocGlobal;
+use std::fmt::Debug;
 use std::process::Abort;
 use std::sync::Wait;
 
@@ -15,6 +16,20 @@ pub fn new<T: Drop>(
         None => unbounded(rt.alloc()).expect(rt, "a channel"),
         Some(capacity) => bounded(rt.alloc(), capacity).expect(rt, "a channel"),
     }
+}
+
+/// Sends the message, and waits until it has a place or is taken.
+pub fn send_one<T: Drop, R: Wait + Abort>(rt: &R, tx: &Sender<T>, message: T) {
+    equal(rt, tx.send(rt, message), Ok(()));
+}
+
+/// Receives this message, and waits for it.
+pub fn receive_one<T, R>(rt: &R, rx: &Receiver<T>, message: T)
+where
+    T: Drop + PartialEq + Debug,
+    R: Wait + Abort,
+{
+    equal(rt, rx.recv(rt), Ok(message));
 }
 
 /// Sends so many boxes round 1.

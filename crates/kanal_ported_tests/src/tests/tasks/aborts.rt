@@ -58,4 +58,5 @@ fn send_abort_test(rt: HostRuntime) {
     drop(list);
     dropped(&rt, &drops, 10);
     equal(&rt, rx.close(&rt), Ok(()));
+    dropped(&rt, &drops, 10);
 }

@@ -2,6 +2,7 @@
 use super::given::{new, recv, send};
 use crate::tests::given::{MESSAGES, THREADS, counter, equal, holds};
 use crate::tests::messages::{DropTester, dropped, one_two_three};
+use kanal::error::SendError;
 use kanal::{AsyncReceiver, AsyncSender};
 use std::alloc::{AllocGlobal, Global};
 use std::process::Abort;
@@ -95,25 +96,16 @@ fn vec_test(rt: HostRuntime) {
     pass_vectors(&rt);
 }
 
-/// Sends ten messages, each of which is refused or not, as is expected.
+/// Sends ten messages, of which each is answered so.
 fn send_ten<R: Wait + Abort + RandomSource + AllocGlobal>(
     rt: &R,
     tx: &AsyncSender<DropTester>,
     drops: &Drops,
-    goes: bool,
+    expected: Result<(), SendError>,
 ) {
     for _ in 0..10 {
-        equal(rt, send(rt, tx, DropTester::new(rt, drops)).is_ok(), goes);
+        equal(rt, send(rt, tx, DropTester::new(rt, drops)), expected);
     }
-}
-
-#[test]
-fn drop_test_in_queue(rt: HostRuntime) {
-    let drops = counter(&rt);
-    let (tx, rx) = new(&rt, Some(10));
-    send_ten(&rt, &tx, &drops, true);
-    equal(&rt, rx.close(&rt), Ok(()));
-    dropped(&rt, &drops, 10);
 }
 
 #[test]
@@ -121,7 +113,7 @@ fn drop_test_send_to_closed(rt: HostRuntime) {
     let drops = counter(&rt);
     let (tx, rx) = new(&rt, Some(10));
     equal(&rt, rx.close(&rt), Ok(()));
-    send_ten(&rt, &tx, &drops, false);
+    send_ten(&rt, &tx, &drops, Err(SendError::Closed));
     dropped(&rt, &drops, 10);
 }
 
@@ -130,7 +122,7 @@ fn drop_test_send_to_half_closed(rt: HostRuntime) {
     let drops = counter(&rt);
     let (tx, rx) = new(&rt, Some(10));
     drop(rx);
-    send_ten(&rt, &tx, &drops, false);
+    send_ten(&rt, &tx, &drops, Err(SendError::ReceiveClosed));
     dropped(&rt, &drops, 10);
 }
 
@@ -141,12 +133,13 @@ fn drop_test_in_unused_signal(rt: HostRuntime) {
     for _ in 0..10 {
         drop(tx.send(DropTester::new(&rt, &drops)));
     }
+    dropped(&rt, &drops, 10);
     equal(&rt, rx.close(&rt), Ok(()));
     dropped(&rt, &drops, 10);
 }
 
 /// Sends one message, which goes or is refused.
-fn send_one<R: Wait + Abort + RandomSource + AllocGlobal>(
+fn send_tester<R: Wait + Abort + RandomSource + AllocGlobal>(
     rt: &R,
     tx: &AsyncSender<DropTester>,
     drops: &Drops,
@@ -154,26 +147,39 @@ fn send_one<R: Wait + Abort + RandomSource + AllocGlobal>(
     let _answer = send(rt, tx, DropTester::new(rt, drops));
 }
 
-/// Ten tasks send while the channel is closed.
-fn close_beside_ten<R>(rt: &R, drops: &Drops)
+/// Ten tasks send one message each.
+fn send_from_ten<R>(rt: &R, tx: &AsyncSender<DropTester>, drops: &Drops)
 where
     R: Threads + Wait + Abort + RandomSource + AllocGlobal + Sync,
 {
-    let (sender, receiver) = new(rt, Some(10));
-    let tx = &sender;
     thread::scope(thread::scope_env(), rt, |scope| {
         for _ in 0..10 {
             scope
-                .spawn(move || send_one(rt, tx, drops))
+                .spawn(move || send_tester(rt, tx, drops))
                 .expect(rt, "a thread");
         }
-        equal(rt, receiver.close(rt), Ok(()));
     });
+}
+
+#[test]
+fn drop_test_in_queue(rt: HostRuntime) {
+    let drops = counter(&rt);
+    let (tx, rx) = new(&rt, Some(10));
+    send_from_ten(&rt, &tx, &drops);
+    equal(&rt, rx.len(&rt), 10);
+    dropped(&rt, &drops, 0);
+    equal(&rt, rx.close(&rt), Ok(()));
+    dropped(&rt, &drops, 10);
 }
 
 #[test]
 fn drop_test_in_signal(rt: HostRuntime) {
     let drops = counter(&rt);
-    close_beside_ten(&rt, &drops);
+    let (tx, rx) = new(&rt, Some(10));
+    thread::join(
+        &rt,
+        || send_from_ten(&rt, &tx, &drops),
+        || equal(&rt, rx.close(&rt), Ok(())),
+    );
     dropped(&rt, &drops, 10);
 }

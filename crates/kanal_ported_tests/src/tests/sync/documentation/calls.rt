@@ -88,20 +88,32 @@ fn send(rt: HostRuntime) {
     );
 }
 
-/// Receives as soon as the message is there.
-fn try_to_recv<R: Wait + Abort>(rt: &R, r: &Receiver<&'static str>) {
-    repeat(rt, || r.try_recv(rt) == Ok(Some("Buddy")));
+/// Receives this message as soon as it is there.
+fn try_to_recv<T, R>(rt: &R, r: &Receiver<T>, message: T)
+where
+    T: Drop + Copy + PartialEq,
+    R: Wait + Abort,
+{
+    repeat(rt, || r.try_recv(rt) == Ok(Some(message)));
 }
 
 /// The same, without a wait for the lock.
-fn try_to_recv_realtime<R: Wait + Abort>(rt: &R, r: &Receiver<&'static str>) {
-    repeat(rt, || r.try_recv_realtime() == Ok(Some("Buddy")));
+fn try_to_recv_realtime<T, R>(rt: &R, r: &Receiver<T>, message: T)
+where
+    T: Drop + Copy + PartialEq,
+    R: Wait + Abort,
+{
+    repeat(rt, || r.try_recv_realtime() == Ok(Some(message)));
 }
 
 #[test]
 fn try_recv(rt: HostRuntime) {
     let (s, r) = new::<&'static str>(&rt, Some(0));
-    thread::join(&rt, || send_one(&rt, &s, "Buddy"), || try_to_recv(&rt, &r));
+    thread::join(
+        &rt,
+        || send_one(&rt, &s, "Buddy"),
+        || try_to_recv(&rt, &r, "Buddy"),
+    );
 }
 
 #[test]
@@ -110,6 +122,6 @@ fn try_recv_realtime(rt: HostRuntime) {
     thread::join(
         &rt,
         || send_one(&rt, &s, "Buddy"),
-        || try_to_recv_realtime(&rt, &r),
+        || try_to_recv_realtime(&rt, &r, "Buddy"),
     );
 }

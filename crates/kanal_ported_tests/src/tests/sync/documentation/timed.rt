@@ -1,5 +1,5 @@
 //! Sends until a deadline, by a clock that stands still.
-use crate::tests::given::equal;
+use crate::tests::given::{equal, holds};
 use crate::tests::sync::given::{new, receive_one};
 use kanal::{Clock, Sender};
 use std::process::Abort;
@@ -22,16 +22,16 @@ fn long() -> Duration {
 }
 
 /// Sends the message.
-fn send_hello<R: Wait + time::Clock + Abort>(rt: &R, s: &Sender<&'static str>) {
-    equal(rt, s.send_timeout(rt, "Hello", long(), &Still), Ok(()));
+fn send_timed<T: Drop, R: Wait + time::Clock + Abort>(rt: &R, s: &Sender<T>, message: T) {
+    equal(rt, s.send_timeout(rt, message, long(), &Still), Ok(()));
 }
 
-/// Sends the option's message.
-fn send_option<R: Wait + time::Clock + Abort>(rt: &R, s: &Sender<&'static str>) {
-    let mut option = Some("Hello");
+/// Sends the message of an option, which is empty then.
+fn send_option_timed<T: Drop, R: Wait + time::Clock + Abort>(rt: &R, s: &Sender<T>, message: T) {
+    let mut option = Some(message);
     let answer = s.send_option_timeout(rt, &mut option, long(), &Still);
     equal(rt, answer, Ok(()));
-    equal(rt, option, None);
+    holds(rt, option.is_none());
 }
 
 #[test]
@@ -39,7 +39,7 @@ fn send_timeout(rt: HostRuntime) {
     let (s, r) = new::<&'static str>(&rt, Some(0));
     thread::join(
         &rt,
-        || send_hello(&rt, &s),
+        || send_timed(&rt, &s, "Hello"),
         || receive_one(&rt, &r, "Hello"),
     );
 }
@@ -49,7 +49,7 @@ fn send_option_timeout(rt: HostRuntime) {
     let (s, r) = new::<&'static str>(&rt, Some(0));
     thread::join(
         &rt,
-        || send_option(&rt, &s),
+        || send_option_timed(&rt, &s, "Hello"),
         || receive_one(&rt, &r, "Hello"),
     );
 }

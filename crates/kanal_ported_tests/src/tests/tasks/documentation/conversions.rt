@@ -3,6 +3,7 @@ use crate::tests::given::equal;
 use crate::tests::sync::given::{receive_one as receive_blocking, send_one as send_blocking};
 use crate::tests::tasks::given::{new, receive_one, send_one};
 use kanal::{AsyncReceiver, AsyncSender};
+use std::fmt::Debug;
 use std::process::Abort;
 use std::sync::Wait;
 use std::thread;
@@ -49,8 +50,8 @@ fn sender_to_sync(rt: HostRuntime) {
 }
 
 /// Sends through a view for threads.
-fn send_through_a_view<R: Wait + Abort>(rt: &R, s: &AsyncSender<&'static str>) {
-    equal(rt, s.as_sync().send(rt, "World"), Ok(()));
+fn send_through_a_view<T: Drop, R: Wait + Abort>(rt: &R, s: &AsyncSender<T>, message: T) {
+    equal(rt, s.as_sync().send(rt, message), Ok(()));
 }
 
 #[test]
@@ -58,7 +59,7 @@ fn sender_as_sync(rt: HostRuntime) {
     let (s, r) = new::<&'static str>(&rt, Some(0));
     thread::join(
         &rt,
-        || send_through_a_view(&rt, &s),
+        || send_through_a_view(&rt, &s, "World"),
         || receive_one(&rt, &r, "World"),
     );
 }
@@ -78,9 +79,13 @@ fn receiver_to_sync(rt: HostRuntime) {
     );
 }
 
-/// Receives through a view for threads.
-fn receive_through_a_view<R: Wait + Abort>(rt: &R, r: &AsyncReceiver<&'static str>) {
-    equal(rt, r.as_sync().recv(rt), Ok("World"));
+/// Receives this message through a view for threads.
+fn receive_through_a_view<T, R>(rt: &R, r: &AsyncReceiver<T>, message: T)
+where
+    T: Drop + PartialEq + Debug,
+    R: Wait + Abort,
+{
+    equal(rt, r.as_sync().recv(rt), Ok(message));
 }
 
 #[test]
@@ -88,7 +93,7 @@ fn receiver_as_sync(rt: HostRuntime) {
     let (s, r) = new::<&'static str>(&rt, Some(0));
     thread::join(
         &rt,
-        || receive_through_a_view(&rt, &r),
+        || receive_through_a_view(&rt, &r, "World"),
         || send_one(&rt, &s, "World"),
     );
 }

@@ -6,9 +6,11 @@ use anyhow::Result;
 use futures::executor::block_on;
 use kanal::Sender;
 use kanal::error::SendError;
+use std::alloc::AllocGlobal;
+use std::random::RandomSource;
 use std::sync::Wait;
-use std::thread;
 use std::thread::{JoinHandle, Threads};
+use std::{io, thread};
 
 /// What a send answers.
 type Sent = std::result::Result<(), SendError>;
@@ -22,6 +24,15 @@ fn send_in_a_thread<R: Threads + Wait + Copy + Send + 'static>(
     Ok(thread)
 }
 
+/// Lends the sender to a task, which sends a hello and runs in a thread.
+fn send_in_a_task<R>(rt: R, sender: Sender<&'static str>) -> Result<JoinHandle<io::Result<Sent>>>
+where
+    R: Threads + Wait + RandomSource + AllocGlobal + Copy + Send + 'static,
+{
+    let thread = thread::spawn(&rt, move || block_on(&rt, sender.as_async().send("hello")))?;
+    Ok(thread)
+}
+
 fn main(rt: HostRuntime) -> Result<()> {
     // A channel with room for 8 messages.
     let (sender, receiver) = kanal::bounded::<&'static str>(rt.alloc(), 8)?;
@@ -31,7 +42,8 @@ fn main(rt: HostRuntime) -> Result<()> {
     thread.join(&rt)?;
 
     // The same channel, borrowed for a task.
-    block_on(&rt, sender.as_async().send("hello"))??;
+    let task = send_in_a_task(rt, sender)?;
     println!(rt; "I got msg: {}", receiver.recv(&rt)?)?;
+    task.join(&rt)??;
     Ok(())
 }

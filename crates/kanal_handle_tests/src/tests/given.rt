@@ -31,8 +31,3 @@ pub fn ends<T: Drop>(rt: &(impl Abort + AllocGlobal), capacity: usize) -> (Sende
 pub fn endless<T: Drop>(rt: &(impl Abort + AllocGlobal)) -> (Sender<T>, Receiver<T>) {
     unbounded(rt.alloc()).expect(rt, "a channel")
 }
-
-/// A box round the number.
-pub fn boxed(rt: &(impl Abort + AllocGlobal), number: u64) -> Box<u64> {
-    Box::new(rt.alloc(), number).expect(rt, "memory for a box")
-}

@@ -3,7 +3,6 @@ mod calls;
 mod conversions;
 mod drops;
 mod given;
-mod moved;
 mod polls;
 mod streams;
 mod texts;

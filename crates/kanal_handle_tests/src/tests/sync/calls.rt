@@ -1,5 +1,5 @@
 //! Sends and receives of one thread, each call with its answer.
-use crate::tests::given::{boxed, endless, ends, equal, holds};
+use crate::tests::given::{endless, ends, equal};
 use kanal::error::{NewError, ReceiveError, SendError};
 use kanal::{Receiver, Sender, bounded};
 use std::alloc::AllocGlobal;
@@ -38,19 +38,6 @@ fn an_option_is_emptied_by_a_send(rt: HostRuntime) {
     equal(&rt, sender.try_send_option_realtime(&mut option), Ok(true));
     equal(&rt, option, None);
     equal(&rt, receiver.try_recv(&rt), Ok(Some(1)));
-}
-
-/// Whether the next message is a box with this number.
-fn receives_box<R: Wait>(rt: &R, receiver: &Receiver<Box<u64>>, number: u64) -> bool {
-    receiver.recv(rt).is_ok_and(|message| *message == number)
-}
-
-#[test]
-fn a_box_outlives_its_sender(rt: HostRuntime) {
-    let (sender, receiver) = ends::<Box<u64>>(&rt, 1);
-    equal(&rt, sender.send(&rt, boxed(&rt, 1)), Ok(()));
-    drop(sender);
-    holds(&rt, receives_box(&rt, &receiver, 1));
 }
 
 /// Sends by each form, the numbers from 11 to 16.
@@ -136,34 +123,6 @@ fn a_drain_takes_a_thousand_numbers(rt: HostRuntime) {
     let mut messages = Vec::new(rt.alloc());
     equal(&rt, receiver.drain_into(&rt, &mut messages), Ok(1000));
     equal(&rt, counted(&messages), Some(1000));
-}
-
-/// Sends the numbers below a thousand, each in a box.
-fn send_a_thousand_boxes<R: Abort + Wait + AllocGlobal>(rt: &R, sender: &Sender<Box<u64>>) {
-    for number in 0..1000 {
-        equal(rt, sender.send(rt, boxed(rt, number)), Ok(()));
-    }
-}
-
-/// How many boxes there are, if they hold 0, 1, and so on.
-fn counted_boxes(boxes: &[Box<u64>]) -> Option<u64> {
-    let mut next = 0u64;
-    for number in boxes {
-        if **number != next {
-            return None;
-        }
-        next = next.wrapping_add(1);
-    }
-    Some(next)
-}
-
-#[test]
-fn a_drain_takes_a_thousand_boxes(rt: HostRuntime) {
-    let (sender, receiver) = ends::<Box<u64>>(&rt, 1000);
-    send_a_thousand_boxes(&rt, &sender);
-    let mut messages = Vec::new(rt.alloc());
-    equal(&rt, receiver.drain_into(&rt, &mut messages), Ok(1000));
-    equal(&rt, counted_boxes(&messages), Some(1000));
 }
 
 #[test]

@@ -1,7 +1,6 @@
 //! Messages that count their drops, read while the handles live.
 use crate::tests::counted::{Counted, counted_ends, message};
 use crate::tests::given::{equal, holds};
-use kanal::error::SendError;
 use kanal::{Receiver, Sender};
 use std::alloc::Global;
 use std::process::Abort;
@@ -9,25 +8,11 @@ use std::sync::atomic::AtomicU64;
 use std::sync::atomic::Ordering::SeqCst;
 use std::sync::{Arc, Wait};
 
-/// Sends ten messages, of which each is answered so.
-fn send_ten<R: Abort + Wait>(
-    rt: &R,
-    sender: &Sender<Counted>,
-    drops: &Arc<AtomicU64, Global>,
-    expected: Result<(), SendError>,
-) {
+/// Sends ten messages.
+fn send_ten<R: Abort + Wait>(rt: &R, sender: &Sender<Counted>, drops: &Arc<AtomicU64, Global>) {
     for _ in 0..10 {
-        equal(rt, sender.send(rt, message(rt, drops)), expected);
+        equal(rt, sender.send(rt, message(rt, drops)), Ok(()));
     }
-}
-
-#[test]
-fn a_close_drops_the_buffer(rt: HostRuntime) {
-    let (sender, receiver, drops) = counted_ends(&rt, 10);
-    send_ten(&rt, &sender, &drops, Ok(()));
-    equal(&rt, drops.load(SeqCst), 0);
-    equal(&rt, receiver.close(&rt), Ok(()));
-    equal(&rt, drops.load(SeqCst), 10);
 }
 
 /// Sends seven messages and receives them, so that the next ones go round the buffer's end.
@@ -50,32 +35,16 @@ fn a_close_drops_a_buffer_that_went_round(rt: HostRuntime) {
     let (sender, receiver, drops) = counted_ends(&rt, 10);
     go_round(&rt, &sender, &receiver, &drops);
     equal(&rt, drops.load(SeqCst), 7);
-    send_ten(&rt, &sender, &drops, Ok(()));
+    send_ten(&rt, &sender, &drops);
     equal(&rt, drops.load(SeqCst), 7);
     equal(&rt, receiver.close(&rt), Ok(()));
     equal(&rt, drops.load(SeqCst), 17);
 }
 
 #[test]
-fn a_closed_channel_drops_what_is_sent(rt: HostRuntime) {
-    let (sender, receiver, drops) = counted_ends(&rt, 10);
-    equal(&rt, receiver.close(&rt), Ok(()));
-    send_ten(&rt, &sender, &drops, Err(SendError::Closed));
-    equal(&rt, drops.load(SeqCst), 10);
-}
-
-#[test]
-fn a_send_to_no_receiver_drops_the_message(rt: HostRuntime) {
-    let (sender, receiver, drops) = counted_ends(&rt, 10);
-    drop(receiver);
-    send_ten(&rt, &sender, &drops, Err(SendError::ReceiveClosed));
-    equal(&rt, drops.load(SeqCst), 10);
-}
-
-#[test]
 fn the_last_handle_drops_the_buffer(rt: HostRuntime) {
     let (sender, receiver, drops) = counted_ends(&rt, 10);
-    send_ten(&rt, &sender, &drops, Ok(()));
+    send_ten(&rt, &sender, &drops);
     drop(receiver);
     equal(&rt, drops.load(SeqCst), 0);
     drop(sender);

@@ -39,18 +39,6 @@ fn a_close_comes_once(rt: HostRuntime) {
 }
 
 #[test]
-fn terminated_after_the_last_message(rt: HostRuntime) {
-    let (sender, receiver) = endless::<u64>(&rt);
-    equal(&rt, sender.send(&rt, 1), Ok(()));
-    drop(sender);
-    holds(&rt, receiver.is_disconnected(&rt));
-    holds(&rt, !receiver.is_terminated(&rt));
-    equal(&rt, receiver.recv(&rt), Ok(1));
-    holds(&rt, receiver.is_terminated(&rt));
-    equal(&rt, receiver.recv(&rt), Err(ReceiveError::SendClosed));
-}
-
-#[test]
 fn full_and_empty_without_a_buffer(rt: HostRuntime) {
     let (sender, receiver) = ends::<u64>(&rt, 0);
     holds(&rt, receiver.is_full(&rt));

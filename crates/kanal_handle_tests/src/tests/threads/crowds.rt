@@ -1,7 +1,5 @@
 //! Several threads on each side: all that was sent arrives, once.
-use super::starts::{
-    Sent, Tally, receive_all, start_numbers, start_receive_all, start_receive_in_turns,
-};
+use super::starts::{Sent, Tally, start_numbers, start_receive_all, start_receive_in_turns};
 use crate::tests::given::{endless, ends, equal, holds};
 use kanal::{Receiver, Sender};
 use std::alloc::AllocGlobal;
@@ -37,11 +35,10 @@ fn start_senders<R: Threads + Wait + Abort + AllocGlobal + Copy + Send + 'static
     rt: R,
     sender: &Sender<u64>,
     threads: u64,
-    first: u64,
 ) -> Vec<JoinHandle<Sent>> {
     let mut started = Vec::new(rt.alloc());
     for _ in 0..threads {
-        let thread = start_numbers(rt, one_more_sender(&rt, sender), first, EACH);
+        let thread = start_numbers(rt, one_more_sender(&rt, sender), 0, EACH);
         started.push(thread).expect(&rt, "memory for a thread");
     }
     started
@@ -88,7 +85,7 @@ fn exchange<R: Threads + Wait + Abort + AllocGlobal + Copy + Send + 'static>(
     crowd: Crowd,
 ) -> Option<Tally> {
     let (sender, receiver) = ends;
-    let sending = start_senders(rt, &sender, crowd.senders, 0);
+    let sending = start_senders(rt, &sender, crowd.senders);
     drop(sender);
     let receiving = start_receivers(rt, &receiver, crowd.receivers);
     drop(receiver);
@@ -163,25 +160,12 @@ fn crowds_without_a_limit(rt: HostRuntime) {
     }
 }
 
-/// Eight threads send 1 to 99 to this one.
-#[test]
-fn eight_senders_without_a_buffer(rt: HostRuntime) {
-    let (sender, receiver) = ends::<u64>(&rt, 0);
-    let started = start_senders(rt, &sender, 8, 1);
-    drop(sender);
-    let first = receiver.recv(&rt).expect(&rt, "a number");
-    let rest = receive_all(&rt, &receiver);
-    holds(&rt, join_senders(&rt, started));
-    equal(&rt, rest.sum.wrapping_add(first), 39600);
-    equal(&rt, rest.count, 8 * 99 - 1);
-}
-
 /// Each receiver waits for a short time again and again, so that messages and deadlines meet.
 #[test]
 fn crowds_that_receive_until_deadlines(rt: HostRuntime) {
     let (sender, receiver) = ends::<u64>(&rt, 0);
     let other = one_more_receiver(&rt, &receiver);
-    let sending = start_senders(rt, &sender, 4, 0);
+    let sending = start_senders(rt, &sender, 4);
     drop(sender);
     let mut receiving = Vec::new(rt.alloc());
     for receiver in [receiver, other] {

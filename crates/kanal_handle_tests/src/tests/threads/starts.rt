@@ -41,7 +41,7 @@ pub fn send_numbers<R: Wait>(rt: &R, sender: &Sender<u64>, first: u64, end: u64)
 }
 
 /// Receives until the channel ends.
-pub fn receive_all<R: Wait>(rt: &R, receiver: &Receiver<u64>) -> Tally {
+fn receive_all<R: Wait>(rt: &R, receiver: &Receiver<u64>) -> Tally {
     let mut tally = Tally { count: 0, sum: 0 };
     for _ in rt.forever() {
         let Ok(number) = receiver.recv(rt) else {

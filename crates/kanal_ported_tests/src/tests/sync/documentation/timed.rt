@@ -1,0 +1,55 @@
+//! Sends until a deadline, by a clock that stands still.
+use crate::tests::given::{equal, holds};
+use crate::tests::sync::given::{new, receive_one};
+use kanal::{Clock, Sender};
+use std::process::Abort;
+use std::sync::Wait;
+use std::time::Duration;
+use std::{thread, time};
+
+/// A clock that stands still.
+struct Still;
+
+impl Clock for Still {
+    fn now(&self) -> u64 {
+        0
+    }
+}
+
+/// For how long a send may wait.
+fn long() -> Duration {
+    Duration::from_millis(500)
+}
+
+/// Sends the message.
+fn send_timed<T: Drop, R: Wait + time::Clock + Abort>(rt: &R, s: &Sender<T>, message: T) {
+    equal(rt, s.send_timeout(rt, message, long(), &Still), Ok(()));
+}
+
+/// Sends the message of an option, which is empty then.
+fn send_option_timed<T: Drop, R: Wait + time::Clock + Abort>(rt: &R, s: &Sender<T>, message: T) {
+    let mut option = Some(message);
+    let answer = s.send_option_timeout(rt, &mut option, long(), &Still);
+    equal(rt, answer, Ok(()));
+    holds(rt, option.is_none());
+}
+
+#[test]
+fn send_timeout(rt: HostRuntime) {
+    let (s, r) = new::<&'static str>(&rt, Some(0));
+    thread::join(
+        &rt,
+        || send_timed(&rt, &s, "Hello"),
+        || receive_one(&rt, &r, "Hello"),
+    );
+}
+
+#[test]
+fn send_option_timeout(rt: HostRuntime) {
+    let (s, r) = new::<&'static str>(&rt, Some(0));
+    thread::join(
+        &rt,
+        || send_option_timed(&rt, &s, "Hello"),
+        || receive_one(&rt, &r, "Hello"),
+    );
+}

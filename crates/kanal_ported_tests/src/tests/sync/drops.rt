@@ -1,0 +1,159 @@
+//! Each message is dropped once, whoever drops it.
+use super::given::new;
+use crate::tests::given::{MESSAGES, THREADS, counter, equal, holds, wait_until};
+use crate::tests::messages::{DropTester, dropped, one_two_three};
+use kanal::error::SendError;
+use kanal::{Receiver, Sender};
+use std::alloc::{AllocGlobal, Global};
+use std::process::Abort;
+use std::sync::atomic::AtomicU64;
+use std::sync::atomic::Ordering::SeqCst;
+use std::sync::{Arc, Wait};
+use std::thread;
+use std::thread::Threads;
+
+/// The counter that the messages share.
+type Drops = Arc<AtomicU64, Global>;
+
+/// How many messages each thread sends, and receives.
+const EACH: u64 = MESSAGES / THREADS;
+
+/// Sends messages that count their drops.
+fn send_testers<R: Wait + Abort>(rt: &R, tx: &Sender<DropTester>, drops: &Drops) {
+    for _ in 0..EACH {
+        holds(rt, tx.send(rt, DropTester::new(rt, drops)).is_ok());
+    }
+}
+
+/// Receives messages, and drops them.
+fn receive_any<T: Drop, R: Wait + Abort>(rt: &R, rx: &Receiver<T>) {
+    for _ in 0..EACH {
+        holds(rt, rx.recv(rt).is_ok());
+    }
+}
+
+/// Several threads send such messages to as many.
+fn pass_testers<R: Threads + Wait + Abort + AllocGlobal + Sync>(rt: &R, drops: &Drops) {
+    let (sender, receiver) = new(rt, Some(1));
+    let (tx, rx) = (&sender, &receiver);
+    thread::scope(thread::scope_env(), rt, |scope| {
+        for _ in 0..THREADS {
+            scope
+                .spawn(move || send_testers(rt, tx, drops))
+                .expect(rt, "a thread");
+            scope
+                .spawn(move || receive_any(rt, rx))
+                .expect(rt, "a thread");
+        }
+    });
+}
+
+#[test]
+fn drop_test(rt: HostRuntime) {
+    let drops = counter(&rt);
+    pass_testers(&rt, &drops);
+    dropped(&rt, &drops, MESSAGES);
+}
+
+/// Sends vectors.
+fn send_vectors<R: Wait + Abort + AllocGlobal>(rt: &R, tx: &Sender<Vec<u64>>) {
+    for _ in 0..EACH {
+        holds(rt, tx.send(rt, one_two_three(rt)).is_ok());
+    }
+}
+
+/// Several threads send vectors to as many.
+fn pass_vectors<R: Threads + Wait + Abort + AllocGlobal + Sync>(rt: &R) {
+    let (sender, receiver) = new(rt, Some(1));
+    let (tx, rx) = (&sender, &receiver);
+    thread::scope(thread::scope_env(), rt, |scope| {
+        for _ in 0..THREADS {
+            scope
+                .spawn(move || send_vectors(rt, tx))
+                .expect(rt, "a thread");
+            scope
+                .spawn(move || receive_any(rt, rx))
+                .expect(rt, "a thread");
+        }
+    });
+}
+
+#[test]
+fn vec_test(rt: HostRuntime) {
+    pass_vectors(&rt);
+}
+
+/// Sends ten messages, of which each is answered so.
+fn send_ten<R: Wait + Abort>(
+    rt: &R,
+    tx: &Sender<DropTester>,
+    drops: &Drops,
+    expected: Result<(), SendError>,
+) {
+    for _ in 0..10 {
+        equal(rt, tx.send(rt, DropTester::new(rt, drops)), expected);
+    }
+}
+
+#[test]
+fn drop_test_in_queue(rt: HostRuntime) {
+    let drops = counter(&rt);
+    let (tx, rx) = new(&rt, Some(10));
+    send_ten(&rt, &tx, &drops, Ok(()));
+    dropped(&rt, &drops, 0);
+    equal(&rt, rx.close(&rt), Ok(()));
+    dropped(&rt, &drops, 10);
+}
+
+#[test]
+fn drop_test_send_to_closed(rt: HostRuntime) {
+    let drops = counter(&rt);
+    let (tx, rx) = new(&rt, Some(10));
+    equal(&rt, rx.close(&rt), Ok(()));
+    send_ten(&rt, &tx, &drops, Err(SendError::Closed));
+    dropped(&rt, &drops, 10);
+}
+
+#[test]
+fn drop_test_send_to_half_closed(rt: HostRuntime) {
+    let drops = counter(&rt);
+    let (tx, rx) = new(&rt, Some(10));
+    drop(rx);
+    send_ten(&rt, &tx, &drops, Err(SendError::ReceiveClosed));
+    dropped(&rt, &drops, 10);
+}
+
+/// Sends one message, which is refused, and tells first that the send begins.
+fn send_and_tell<R: Wait + Abort>(
+    rt: &R,
+    tx: &Sender<DropTester>,
+    drops: &Drops,
+    begun: &AtomicU64,
+) {
+    let message = DropTester::new(rt, drops);
+    begun.fetch_add(1, SeqCst);
+    equal(rt, tx.send(rt, message), Err(SendError::Closed));
+}
+
+/// Ten threads send, and once all have begun the channel is closed.
+fn close_upon_ten<R: Threads + Wait + Abort + AllocGlobal + Sync>(rt: &R, drops: &Drops) {
+    let (sender, receiver) = new(rt, Some(0));
+    let begun = counter(rt);
+    let (tx, told) = (&sender, &begun);
+    thread::scope(thread::scope_env(), rt, |scope| {
+        for _ in 0..10 {
+            scope
+                .spawn(move || send_and_tell(rt, tx, drops, told))
+                .expect(rt, "a thread");
+        }
+        wait_until(rt, told, 10);
+        equal(rt, receiver.close(rt), Ok(()));
+    });
+}
+
+#[test]
+fn drop_test_in_signal(rt: HostRuntime) {
+    let drops = counter(&rt);
+    close_upon_ten(&rt, &drops);
+    dropped(&rt, &drops, 10);
+}

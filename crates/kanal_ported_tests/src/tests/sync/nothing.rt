@@ -1,0 +1,60 @@
+//! Messages of size 0 between threads, and through a buffer.
+use super::given::new;
+use crate::tests::given::{counter, holds, wait_until};
+use crate::tests::messages::Nothing;
+use kanal::{Receiver, Sender};
+use std::process::Abort;
+use std::sync::Wait;
+use std::sync::atomic::AtomicU64;
+use std::sync::atomic::Ordering::SeqCst;
+use std::thread;
+
+/// How many messages there are.
+const FEW: u64 = 10;
+
+/// Sends each message once its receive has begun.
+fn send_late<R: Wait + Abort>(rt: &R, tx: &Sender<Nothing>, begun: &AtomicU64) {
+    for number in 0..FEW {
+        wait_until(rt, begun, number + 1);
+        holds(rt, tx.send(rt, []).is_ok());
+    }
+}
+
+/// Receives the messages, and counts each receive as it begins.
+fn receive_and_tell<R: Wait + Abort>(rt: &R, rx: &Receiver<Nothing>, begun: &AtomicU64) {
+    for _ in 0..FEW {
+        begun.fetch_add(1, SeqCst);
+        holds(rt, rx.recv(rt).is_ok());
+    }
+}
+
+#[test]
+fn spsc_overaligned_zst(rt: HostRuntime) {
+    let (tx, rx) = new::<Nothing>(&rt, Some(0));
+    let begun = counter(&rt);
+    thread::join(
+        &rt,
+        || send_late(&rt, &tx, &begun),
+        || receive_and_tell(&rt, &rx, &begun),
+    );
+}
+
+/// Fills the buffer, and empties it.
+fn fill_and_empty<R: Wait + Abort>(rt: &R, tx: &Sender<Nothing>, rx: &Receiver<Nothing>) {
+    for _ in 0..FEW {
+        holds(rt, tx.try_send(rt, []) == Ok(true));
+    }
+    holds(rt, tx.try_send(rt, []) == Ok(false));
+    for _ in 0..FEW {
+        holds(rt, rx.recv(rt).is_ok());
+    }
+    holds(rt, rx.is_empty(rt));
+}
+
+/// The second time round the messages begin where the first ones ended.
+#[test]
+fn nothing_through_a_buffer(rt: HostRuntime) {
+    let (tx, rx) = new::<Nothing>(&rt, Some(10));
+    fill_and_empty(&rt, &tx, &rx);
+    fill_and_empty(&rt, &tx, &rx);
+}

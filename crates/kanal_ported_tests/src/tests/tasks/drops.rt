@@ -1,0 +1,185 @@
+//! Each message is dropped once, whoever drops it.
+use super::given::{new, recv, send};
+use crate::tests::given::{MESSAGES, THREADS, counter, equal, holds};
+use crate::tests::messages::{DropTester, dropped, one_two_three};
+use kanal::error::SendError;
+use kanal::{AsyncReceiver, AsyncSender};
+use std::alloc::{AllocGlobal, Global};
+use std::process::Abort;
+use std::random::RandomSource;
+use std::sync::atomic::AtomicU64;
+use std::sync::{Arc, Wait};
+use std::thread;
+use std::thread::Threads;
+
+/// The counter that the messages share.
+type Drops = Arc<AtomicU64, Global>;
+
+/// How many messages each task sends, and receives.
+const EACH: u64 = MESSAGES / THREADS;
+
+/// Sends messages that count their drops.
+fn send_testers<R: Wait + Abort + RandomSource + AllocGlobal>(
+    rt: &R,
+    tx: &AsyncSender<DropTester>,
+    drops: &Drops,
+) {
+    for _ in 0..EACH {
+        holds(rt, send(rt, tx, DropTester::new(rt, drops)).is_ok());
+    }
+}
+
+/// Receives messages, and drops them.
+fn receive_any<T: Drop, R: Wait + Abort + RandomSource + AllocGlobal>(
+    rt: &R,
+    rx: &AsyncReceiver<T>,
+) {
+    for _ in 0..EACH {
+        holds(rt, recv(rt, rx).is_ok());
+    }
+}
+
+/// Several tasks send such messages to as many.
+fn pass_testers<R>(rt: &R, drops: &Drops)
+where
+    R: Threads + Wait + Abort + RandomSource + AllocGlobal + Sync,
+{
+    let (sender, receiver) = new(rt, Some(1));
+    let (tx, rx) = (&sender, &receiver);
+    thread::scope(thread::scope_env(), rt, |scope| {
+        for _ in 0..THREADS {
+            scope
+                .spawn(move || send_testers(rt, tx, drops))
+                .expect(rt, "a thread");
+            scope
+                .spawn(move || receive_any(rt, rx))
+                .expect(rt, "a thread");
+        }
+    });
+}
+
+#[test]
+fn drop_test(rt: HostRuntime) {
+    let drops = counter(&rt);
+    pass_testers(&rt, &drops);
+    dropped(&rt, &drops, MESSAGES);
+}
+
+/// Sends vectors.
+fn send_vectors<R: Wait + Abort + RandomSource + AllocGlobal>(rt: &R, tx: &AsyncSender<Vec<u64>>) {
+    for _ in 0..EACH {
+        holds(rt, send(rt, tx, one_two_three(rt)).is_ok());
+    }
+}
+
+/// Several tasks send vectors to as many.
+fn pass_vectors<R>(rt: &R)
+where
+    R: Threads + Wait + Abort + RandomSource + AllocGlobal + Sync,
+{
+    let (sender, receiver) = new(rt, Some(1));
+    let (tx, rx) = (&sender, &receiver);
+    thread::scope(thread::scope_env(), rt, |scope| {
+        for _ in 0..THREADS {
+            scope
+                .spawn(move || send_vectors(rt, tx))
+                .expect(rt, "a thread");
+            scope
+                .spawn(move || receive_any(rt, rx))
+                .expect(rt, "a thread");
+        }
+    });
+}
+
+#[test]
+fn vec_test(rt: HostRuntime) {
+    pass_vectors(&rt);
+}
+
+/// Sends ten messages, of which each is answered so.
+fn send_ten<R: Wait + Abort + RandomSource + AllocGlobal>(
+    rt: &R,
+    tx: &AsyncSender<DropTester>,
+    drops: &Drops,
+    expected: Result<(), SendError>,
+) {
+    for _ in 0..10 {
+        equal(rt, send(rt, tx, DropTester::new(rt, drops)), expected);
+    }
+}
+
+#[test]
+fn drop_test_send_to_closed(rt: HostRuntime) {
+    let drops = counter(&rt);
+    let (tx, rx) = new(&rt, Some(10));
+    equal(&rt, rx.close(&rt), Ok(()));
+    send_ten(&rt, &tx, &drops, Err(SendError::Closed));
+    dropped(&rt, &drops, 10);
+}
+
+#[test]
+fn drop_test_send_to_half_closed(rt: HostRuntime) {
+    let drops = counter(&rt);
+    let (tx, rx) = new(&rt, Some(10));
+    drop(rx);
+    send_ten(&rt, &tx, &drops, Err(SendError::ReceiveClosed));
+    dropped(&rt, &drops, 10);
+}
+
+#[test]
+fn drop_test_in_unused_signal(rt: HostRuntime) {
+    let drops = counter(&rt);
+    let (tx, rx) = new(&rt, Some(10));
+    for _ in 0..10 {
+        drop(tx.send(DropTester::new(&rt, &drops)));
+    }
+    dropped(&rt, &drops, 10);
+    equal(&rt, rx.close(&rt), Ok(()));
+    dropped(&rt, &drops, 10);
+}
+
+/// Sends one message, which goes or is refused.
+fn send_tester<R: Wait + Abort + RandomSource + AllocGlobal>(
+    rt: &R,
+    tx: &AsyncSender<DropTester>,
+    drops: &Drops,
+) {
+    let _answer = send(rt, tx, DropTester::new(rt, drops));
+}
+
+/// Ten tasks send one message each.
+fn send_from_ten<R>(rt: &R, tx: &AsyncSender<DropTester>, drops: &Drops)
+where
+    R: Threads + Wait + Abort + RandomSource + AllocGlobal + Sync,
+{
+    thread::scope(thread::scope_env(), rt, |scope| {
+        for _ in 0..10 {
+            scope
+                .spawn(move || send_tester(rt, tx, drops))
+                .expect(rt, "a thread");
+        }
+    });
+}
+
+#[test]
+fn drop_test_in_queue(rt: HostRuntime) {
+    let drops = counter(&rt);
+    let (tx, rx) = new(&rt, Some(10));
+    send_from_ten(&rt, &tx, &drops);
+    equal(&rt, rx.len(&rt), 10);
+    dropped(&rt, &drops, 0);
+    equal(&rt, rx.close(&rt), Ok(()));
+    dropped(&rt, &drops, 10);
+}
+
+#[test]
+fn drop_test_in_signal(rt: HostRuntime) {
+    let drops = counter(&rt);
+    let (tx, rx) = new(&rt, Some(10));
+    thread::join(
+        &rt,
+        || send_from_ten(&rt, &tx, &drops),
+        || equal(&rt, rx.close(&rt), Ok(())),
+    );
+    dropped(&rt, &drops, 10);
+}

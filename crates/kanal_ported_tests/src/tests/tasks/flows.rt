@@ -1,0 +1,127 @@
+//! Boxes from one task or many to one or many, and in one thread, at each capacity.
+use super::given::{new, receive_ones, send_ones};
+use crate::tests::given::{MESSAGES, PLACES, THREADS};
+use std::alloc::AllocGlobal;
+use std::process::Abort;
+use std::random::RandomSource;
+use std::sync::Wait;
+use std::thread;
+use std::thread::Threads;
+
+/// All are sent, and then received, in this thread.
+fn seq<R: Wait + Abort + RandomSource + AllocGlobal>(rt: &R, capacity: Option<usize>) {
+    let (tx, rx) = new(rt, capacity);
+    send_ones(rt, &tx, MESSAGES);
+    receive_ones(rt, &rx, MESSAGES);
+}
+
+/// One task sends to another.
+fn spsc<R>(rt: &R, capacity: Option<usize>)
+where
+    R: Threads + Wait + Abort + RandomSource + AllocGlobal + Sync,
+{
+    let (tx, rx) = new(rt, capacity);
+    thread::join(
+        rt,
+        || send_ones(rt, &tx, MESSAGES),
+        || receive_ones(rt, &rx, MESSAGES),
+    );
+}
+
+/// Several tasks send to one.
+fn mpsc<R>(rt: &R, capacity: Option<usize>)
+where
+    R: Threads + Wait + Abort + RandomSource + AllocGlobal + Sync,
+{
+    let (sender, receiver) = new(rt, capacity);
+    let (tx, rx) = (&sender, &receiver);
+    thread::scope(thread::scope_env(), rt, |scope| {
+        for _ in 0..THREADS {
+            let each = MESSAGES / THREADS;
+            scope
+                .spawn(move || send_ones(rt, tx, each))
+                .expect(rt, "a thread");
+        }
+        receive_ones(rt, rx, MESSAGES);
+    });
+}
+
+/// Several tasks send to as many.
+fn mpmc<R>(rt: &R, capacity: Option<usize>)
+where
+    R: Threads + Wait + Abort + RandomSource + AllocGlobal + Sync,
+{
+    let (sender, receiver) = new(rt, capacity);
+    let (tx, rx) = (&sender, &receiver);
+    thread::scope(thread::scope_env(), rt, |scope| {
+        for _ in 0..THREADS {
+            let each = MESSAGES / THREADS;
+            scope
+                .spawn(move || send_ones(rt, tx, each))
+                .expect(rt, "a thread");
+            scope
+                .spawn(move || receive_ones(rt, rx, each))
+                .expect(rt, "a thread");
+        }
+    });
+}
+
+#[test]
+fn seq_n(rt: HostRuntime) {
+    seq(&rt, Some(PLACES));
+}
+
+#[test]
+fn seq_u(rt: HostRuntime) {
+    seq(&rt, None);
+}
+
+#[test]
+fn spsc_1(rt: HostRuntime) {
+    spsc(&rt, Some(1));
+}
+
+#[test]
+fn spsc_0(rt: HostRuntime) {
+    spsc(&rt, Some(0));
+}
+
+#[test]
+fn spsc_n(rt: HostRuntime) {
+    spsc(&rt, Some(PLACES));
+}
+
+#[test]
+fn spsc_u(rt: HostRuntime) {
+    spsc(&rt, None);
+}
+
+#[test]
+fn mpsc_0(rt: HostRuntime) {
+    mpsc(&rt, Some(0));
+}
+
+#[test]
+fn mpsc_n(rt: HostRuntime) {
+    mpsc(&rt, Some(PLACES));
+}
+
+#[test]
+fn mpsc_u(rt: HostRuntime) {
+    mpsc(&rt, None);
+}
+
+#[test]
+fn mpmc_0(rt: HostRuntime) {
+    mpmc(&rt, Some(0));
+}
+
+#[test]
+fn mpmc_n(rt: HostRuntime) {
+    mpmc(&rt, Some(PLACES));
+}
+
+#[test]
+fn mpmc_u(rt: HostRuntime) {
+    mpmc(&rt, None);
+}

@@ -1,56 +1,72 @@
-//! Calls of the core in which any request for memory may be refused.
+//! Calls in which any request for memory may be refused: of the core, the handles, the futures and a
+//! pool, and lists of events and calls of passes.
 //!
 //! Each call answers as with ample memory, or with a want of memory that left things as they were;
-//! then it is made again. The status is 0 where that is so of every call, and else 1.
-//! `scripts/refuse-call-requests kanal_refusals` runs it with one request after another refused.
+//! then it is made again. It prints how many were refused, and its status is 0 where that is so of
+//! every call, and else 1. `scripts/refuse-memory` runs it with one request after another refused. The
+//! threads that meet a blocked call ask for no memory, so the requests come in one order.
 #![tactic(auto)]
 
-mod calls;
+mod core;
+mod handles;
+mod history;
+mod messages;
+mod polls;
+mod pool;
+mod tally;
 
-use calls::{Core, channel, drain, enter, holds, wait_recv, wait_send};
-use kanal_core::internal::{Offer, Take};
-use std::alloc::Global;
+use handles::{blocked, calls, growths, timed};
+use history::{lists, passes};
+use std::alloc::{AllocGlobal, Global};
 use std::process::ExitCode;
+use std::random::RandomSource;
+use std::sync::Wait;
+use std::time;
+use tally::Tally;
 
-/// A bounded channel: its buffer, waits of both sides, and a drain of all.
-fn bounded(alloc: Global) -> Option<()> {
-    let mut core = channel(alloc, 1)?;
-    wait_recv(&mut core, 7)?;
-    holds(matches!(core.offer(1), Offer::Handed(_)))?;
-    holds(matches!(core.offer(2), Offer::Entered))?;
-    wait_send(&mut core, 3, 8)?;
-    let mut messages = Vec::new(alloc);
-    let count = drain(&mut core, &mut messages)?;
-    holds(count == 2 && messages.as_slice() == [2, 3].as_slice())
+/// Calls of the core, and lists of events.
+fn below_the_lock(alloc: Global, tally: &mut Tally) -> Option<()> {
+    core::bounded(alloc, tally)?;
+    core::unlimited(alloc, tally)?;
+    core::sealed(alloc, tally)?;
+    lists::run_all(alloc, tally)
 }
 
-/// A channel without limit: its buffer grows, and is drained.
-fn unlimited(alloc: Global) -> Option<()> {
-    let mut core = Core::unbounded(alloc);
-    for message in 0..20 {
-        enter(&mut core, message)?;
-    }
-    let mut messages = Vec::new(alloc);
-    let count = drain(&mut core, &mut messages)?;
-    holds(count == 20 && messages.len() == 20)
+/// Calls that wait for no other thread.
+fn on_one_thread<R: Wait + time::Clock>(rt: &R, alloc: Global, tally: &mut Tally) -> Option<()> {
+    growths::grow(rt, alloc, tally)?;
+    calls::drains(rt, alloc, tally)?;
+    calls::drains_for_tasks(rt, alloc, tally)?;
+    calls::seals(rt, alloc, tally)?;
+    timed::send_option_times_out(rt, alloc, tally)?;
+    timed::send_times_out(rt, alloc, tally)?;
+    timed::recv_times_out(rt, alloc, tally)?;
+    passes::call_all(rt, alloc, tally)
 }
 
-/// A seal asks for no memory: whoever receives ends, and nothing more enters.
-fn sealed(alloc: Global) -> Option<()> {
-    let mut core = channel(alloc, 1)?;
-    wait_recv(&mut core, 7)?;
-    holds(core.seal().is_ok())?;
-    holds(core.seal().is_err())?;
-    holds(matches!(core.offer(1), Offer::Sealed(1)))?;
-    holds(matches!(core.take(), Take::SendClosed))
+/// Polls.
+fn in_tasks<R: Wait + RandomSource + AllocGlobal>(
+    rt: &R,
+    alloc: Global,
+    tally: &mut Tally,
+) -> Option<()> {
+    polls::send_is_polled(rt, alloc, tally)?;
+    polls::receive_is_polled(rt, alloc, tally)?;
+    polls::send_changes_its_task(rt, alloc, tally)?;
+    polls::receive_changes_its_task(rt, alloc, tally)?;
+    polls::stream_is_polled(rt, alloc, tally)
 }
 
 fn main(rt: HostRuntime) -> ExitCode {
     let alloc = rt.alloc();
-    let answered = bounded(alloc).is_some()
-        && unlimited(alloc).is_some()
-        && sealed(alloc).is_some();
-    if answered {
+    let mut tally = Tally::new();
+    let answered = below_the_lock(alloc, &mut tally).is_some()
+        && on_one_thread(&rt, alloc, &mut tally).is_some()
+        && in_tasks(&rt, alloc, &mut tally).is_some()
+        && pool::works(&rt, alloc, &mut tally).is_some()
+        && blocked::send_waits(rt, alloc, &mut tally).is_some()
+        && blocked::recv_waits(rt, alloc, &mut tally).is_some();
+    if answered && println!(rt; "refused calls: {}", tally.refused()).is_ok() {
         ExitCode::SUCCESS
     } else {
         ExitCode::FAILURE

@@ -1,29 +1,17 @@
 //! Calls that wait for another thread. With no buffer that thread's call meets a wait and nothing
 //! else, so each of these calls makes all that a wait needs.
-use crate::calls::{channel, holds};
+use super::calls::channel;
+use crate::messages::{Counted, Drops};
+use crate::tally::{Tally, holds};
 use kanal::error::{ReceiveError, SendError};
 use kanal::{Receiver, Sender};
 use std::alloc::{AllocError, Global};
-use std::sync::atomic::AtomicU64;
-use std::sync::atomic::Ordering::SeqCst;
-use std::sync::{Arc, Wait};
+use std::sync::Wait;
 use std::thread;
 use std::thread::{JoinHandle, Threads};
 
 /// How often a thread tries to meet a wait before it gives up.
 const TRIES: u32 = 100_000_000;
-
-/// A message that adds one to a counter when it is dropped.
-struct Counted {
-    drops: Arc<AtomicU64, Global>,
-}
-
-impl Drop for Counted {
-    fn drop(self) {
-        let Counted { drops } = self;
-        drops.fetch_add(1, SeqCst);
-    }
-}
 
 /// Hands the message to a waiting receiver.
 fn give<R: Wait>(rt: &R, sender: &Sender<u64>, message: u64) -> bool {
@@ -63,24 +51,23 @@ fn start_take<R: Threads + Wait + Copy + Send + 'static>(
     Ok(thread)
 }
 
-/// A counter at 0.
-fn counter(alloc: Global) -> Option<Arc<AtomicU64, Global>> {
-    match Arc::new(alloc, AtomicU64::new(0)) {
-        Err(_refused) => Arc::new(alloc, AtomicU64::new(0)).ok(),
-        made => made.ok(),
-    }
-}
-
 /// A receive that waits.
-pub fn recv_waits<R: Threads + Wait + Copy + Send + 'static>(rt: R, alloc: Global) -> Option<()> {
-    let (sender, receiver) = channel::<u64>(alloc, 0)?;
+pub fn recv_waits<R: Threads + Wait + Copy + Send + 'static>(
+    rt: R,
+    alloc: Global,
+    tally: &mut Tally,
+) -> Option<()> {
+    let (sender, receiver) = channel::<u64>(alloc, tally, 0)?;
     let theirs = sender.clone(&rt).ok()?;
     let thread = match start_give(rt, theirs) {
         Err(_refused) => start_give(rt, sender).ok()?,
         Ok(thread) => thread,
     };
     let got = match receiver.recv(&rt) {
-        Err(ReceiveError::NoMemory) => receiver.recv(&rt),
+        Err(ReceiveError::NoMemory) => {
+            tally.add();
+            receiver.recv(&rt)
+        },
         got => got,
     };
     let gave = thread.join(&rt);
@@ -88,34 +75,28 @@ pub fn recv_waits<R: Threads + Wait + Copy + Send + 'static>(rt: R, alloc: Globa
 }
 
 /// A send that waits. Where it is refused its message is dropped once.
-pub fn send_waits<R: Threads + Wait + Copy + Send + 'static>(rt: R, alloc: Global) -> Option<()> {
-    let drops = counter(alloc)?;
-    let (sender, receiver) = channel::<Counted>(alloc, 0)?;
+pub fn send_waits<R: Threads + Wait + Copy + Send + 'static>(
+    rt: R,
+    alloc: Global,
+    tally: &mut Tally,
+) -> Option<()> {
+    let drops = Drops::new(alloc)?;
+    let (sender, receiver) = channel::<Counted>(alloc, tally, 0)?;
     let theirs = receiver.clone(&rt).ok()?;
     let thread = match start_take(rt, theirs) {
         Err(_refused) => start_take(rt, receiver).ok()?,
         Ok(thread) => thread,
     };
-    let first = sender.send(&rt, message(&drops)?);
-    let refused = first == Err(SendError::NoMemory);
-    let dropped = drops.load(SeqCst);
-    let sent = if refused {
-        sender.send(&rt, message(&drops)?)
-    } else {
-        first
+    let mut messages = 1;
+    let sent = match sender.send(&rt, drops.message()?) {
+        Err(SendError::NoMemory) => {
+            tally.add();
+            messages = 2;
+            holds(drops.count() == 1)?;
+            sender.send(&rt, drops.message()?)
+        },
+        sent => sent,
     };
     let took = thread.join(&rt);
-    let all = drops.load(SeqCst);
-    holds(took && sent == Ok(()))?;
-    holds(if refused {
-        dropped == 1 && all == 2
-    } else {
-        all == 1
-    })
-}
-
-/// A message of the counter.
-fn message(drops: &Arc<AtomicU64, Global>) -> Option<Counted> {
-    let drops = Arc::try_clone(drops).ok()?;
-    Some(Counted { drops })
+    holds(took && sent == Ok(()) && drops.count() == messages)
 }

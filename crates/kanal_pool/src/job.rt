@@ -1,0 +1,44 @@
+//! What a pool works on: jobs, and the gate that each job's work passes.
+//!
+//! Stands on nothing.
+ghost use Rattle.std.specs.Prelude.{◌≡◌, true, IfOk, Bool};
+
+use kanal::error::NoMemory;
+
+/// A piece of work whose answer is known from the job alone.
+///
+/// `value` is that answer, as a definition; `work` finds it. Two jobs that are equal are the same value.
+pub trait Job: Eq {
+    /// What the work gives.
+    type Answer: Drop;
+
+    ghost value: { Self → Self.Answer };
+
+    /// Does the work.
+    ///
+    /// # Errors
+    /// `NoMemory` where the work found no memory.
+    fn work(&self) -> Result<Self::Answer, NoMemory>
+        ensures value { IfOk result (λ answer. answer ≡ value self.now) };
+
+    ghost equal_is_same: { (one other : Self) → Self.eq one other ≡ true → one ≡ other };
+}
+
+/// What is told when a job's work begins and when it has ended, by the worker that does it.
+pub trait Gate {
+    /// The work of the job with this number begins.
+    fn enter(&self, job: usize);
+
+    /// The work of the job with this number has ended, with an answer or without.
+    fn leave(&self, job: usize);
+}
+
+/// A gate at which nothing happens.
+#[derive(Clone, Copy, Debug, PartialEq, Eq)]
+pub struct NoGate;
+
+impl Gate for NoGate {
+    fn enter(&self, _job: usize) {}
+
+    fn leave(&self, _job: usize) {}
+}

@@ -1,0 +1,92 @@
+//! The places of the answers: one a job, each empty or with that job's value.
+//!
+//! Stands on `job`. `pool` alone uses it.
+ghost use Rattle.std.specs.Prelude.{◌≡◌, ◌⊎◌, IfOk, IfErr};
+ghost use Rattle.kanal_pool.specs.declared.error.PoolError.{PoolError};
+ghost use Rattle.kanal_pool.specs.Answers.{answers, AreInPlace, KeepAnswers};
+
+use crate::error::PoolError;
+use crate::job::Job;
+use kanal::error::NoMemory;
+use std::alloc::Global;
+
+/// A job's answer, as it comes back from a worker.
+#[derive(Drop)]
+pub struct Answered<'a, J: Job> {
+    number: usize,
+    job: &'a J,
+    answer: J::Answer,
+    ghost is_value: { answer ≡ J.value job.now },
+}
+
+/// Does the work of the job with this number.
+pub fn work_on<'a, J: Job>(number: usize, job: &'a J) -> Result<Answered<'a, J>, NoMemory> {
+    let answer = job.work()?;
+    Ok(Answered {
+        number,
+        job,
+        answer,
+    })
+}
+
+/// As many empty places as there are jobs.
+pub fn empty_places<J: Job>(alloc: Global, jobs: &[J]) -> Result<Vec<Option<J::Answer>>, NoMemory>
+    ensures { IfOk result (λ places. AreInPlace J.value jobs.now places.items) }
+{
+    let Ok(mut places) = Vec::with_capacity(alloc, jobs.len()) else {
+        return Err(NoMemory);
+    };
+    for _ in jobs {
+        let Ok(()) = places.push(None) else {
+            return Err(NoMemory);
+        };
+    }
+    Ok(places)
+}
+
+/// Puts the answer at its job's place, if that is its job and the place is empty. A place that has an
+/// answer keeps it.
+pub fn put<J: Job>(jobs: &[J], places: &mut Vec<Option<J::Answer>>, answered: Answered<'_, J>)
+    requires { AreInPlace J.value jobs.now places.old.items }
+    ensures in_place { AreInPlace J.value jobs.now places.new.items }
+    ensures kept { KeepAnswers places.old.items places.new.items }
+{
+    let Answered {
+        number,
+        job,
+        answer,
+    } = answered;
+    let Some(own) = jobs.get(number) else {
+        return;
+    };
+    if own == job && number < places.len() && places[number].is_none() {
+        places[number] = Some(answer);
+    }
+}
+
+/// The answers, once each place has one.
+///
+/// # Errors
+/// `Incomplete` where a place is empty, and `NoMemory` where memory was refused.
+pub fn all_answers<J: Job>(
+    alloc: Global,
+    jobs: &[J],
+    places: Vec<Option<J::Answer>>,
+) -> Result<Vec<J::Answer>, PoolError>
+    requires { AreInPlace J.value jobs.now places.items }
+    ensures answers { IfOk result (λ found. found.items ≡ answers J.value jobs.now) }
+    ensures refused { IfErr result (λ why. (why ≡ PoolError.NoMemory) ⊎ (why ≡ PoolError.Incomplete)) }
+{
+    let Ok(mut found) = Vec::with_capacity(alloc, places.len()) else {
+        return Err(PoolError::NoMemory);
+    };
+    for place in places {
+        let Some(answer) = place else {
+            return Err(PoolError::Incomplete);
+        };
+        let Ok(()) = found.push(answer) else {
+            return Err(PoolError::NoMemory);
+        };
+    }
+    Ok(found)
+}

@@ -1,0 +1,6 @@
+//! The tests, and what they share.
+mod gates;
+mod given;
+mod refusals;
+mod rows;
+mod texts;

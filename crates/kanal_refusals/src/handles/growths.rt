@@ -1,0 +1,170 @@
+//! A channel without limit whose buffer grows, by each form of a send.
+//!
+//! A refused send drops its message once, and an option keeps it; the channel is as it was.
+use super::calls::unlimited;
+use super::timed::Still;
+use crate::messages::{Counted, Drops};
+use crate::tally::{Tally, holds};
+use kanal::Sender;
+use kanal::error::{SendError, SendErrorTimeout};
+use std::alloc::Global;
+use std::sync::Wait;
+use std::time;
+use std::time::Duration;
+
+/// The forms of a send.
+#[derive(Clone, Copy, PartialEq, Eq)]
+enum Form {
+    Send,
+    TrySend,
+    TrySendRealtime,
+    SendTimeout,
+    TrySendOption,
+    TrySendOptionRealtime,
+    SendOptionTimeout,
+}
+
+/// Each form.
+const FORMS: [Form; 7] = [
+    Form::Send,
+    Form::TrySend,
+    Form::TrySendRealtime,
+    Form::SendTimeout,
+    Form::TrySendOption,
+    Form::TrySendOptionRealtime,
+    Form::SendOptionTimeout,
+];
+
+/// What a send came to.
+#[derive(Clone, Copy, PartialEq, Eq)]
+enum Sent {
+    Entered,
+    NoMemory,
+    Otherwise,
+}
+
+impl Form {
+    /// Whether a refused message stays in its option.
+    fn keeps(self) -> bool {
+        matches!(
+            self,
+            Form::TrySendOption | Form::TrySendOptionRealtime | Form::SendOptionTimeout
+        )
+    }
+
+    /// Sends the option's message by this form.
+    fn send<R: Wait + time::Clock>(
+        self,
+        rt: &R,
+        sender: &Sender<Counted>,
+        option: &mut Option<Counted>,
+    ) -> Sent {
+        let now = Duration::from_nanos(0);
+        match self {
+            Form::TrySendOption => tried(sender.try_send_option(rt, option)),
+            Form::TrySendOptionRealtime => tried(sender.try_send_option_realtime(option)),
+            Form::SendOptionTimeout => timed(sender.send_option_timeout(rt, option, now, &Still)),
+            form => match option.take() {
+                Some(message) => form.send_message(rt, sender, message),
+                None => Sent::Otherwise,
+            },
+        }
+    }
+
+    /// Sends the message by this form, which has no option.
+    fn send_message<R: Wait + time::Clock>(
+        self,
+        rt: &R,
+        sender: &Sender<Counted>,
+        message: Counted,
+    ) -> Sent {
+        let now = Duration::from_nanos(0);
+        match self {
+            Form::TrySend => tried(sender.try_send(rt, message)),
+            Form::TrySendRealtime => tried(sender.try_send_realtime(message)),
+            Form::SendTimeout => timed(sender.send_timeout(rt, message, now, &Still)),
+            _ => match sender.send(rt, message) {
+                Ok(()) => Sent::Entered,
+                Err(SendError::NoMemory) => Sent::NoMemory,
+                Err(_other) => Sent::Otherwise,
+            },
+        }
+    }
+}
+
+fn tried(answer: Result<bool, SendError>) -> Sent {
+    match answer {
+        Ok(true) => Sent::Entered,
+        Err(SendError::NoMemory) => Sent::NoMemory,
+        _ => Sent::Otherwise,
+    }
+}
+
+fn timed(answer: Result<(), SendErrorTimeout>) -> Sent {
+    match answer {
+        Ok(()) => Sent::Entered,
+        Err(SendErrorTimeout::NoMemory) => Sent::NoMemory,
+        Err(_other) => Sent::Otherwise,
+    }
+}
+
+/// The buffer grows by each form.
+pub fn grow<R: Wait + time::Clock>(rt: &R, alloc: Global, tally: &mut Tally) -> Option<()> {
+    for form in FORMS {
+        grows_by(rt, alloc, tally, form)?;
+    }
+    Some(())
+}
+
+/// The buffer grows by this form, and its messages stay.
+fn grows_by<R: Wait + time::Clock>(
+    rt: &R,
+    alloc: Global,
+    tally: &mut Tally,
+    form: Form,
+) -> Option<()> {
+    let drops = Drops::new(alloc)?;
+    let (sender, receiver) = unlimited::<Counted>(alloc, tally)?;
+    let mut refused = 0;
+    for _ in 0..10 {
+        if !enters(rt, &sender, &drops, form)? {
+            refused = 1;
+            tally.add();
+        }
+    }
+    let dropped_once = if form.keeps() { 0 } else { refused };
+    holds(receiver.len(rt) == 10 && drops.count() == dropped_once)
+}
+
+/// Whether the message entered at once; where it found no memory it is sent again, and nothing else
+/// has changed.
+fn enters<R: Wait + time::Clock>(
+    rt: &R,
+    sender: &Sender<Counted>,
+    drops: &Drops,
+    form: Form,
+) -> Option<bool> {
+    let before = (
+        sender.len(rt),
+        sender.sender_count(rt),
+        sender.receiver_count(rt),
+    );
+    let mut option = Some(drops.message()?);
+    match form.send(rt, sender, &mut option) {
+        Sent::Entered => Some(true),
+        Sent::Otherwise => None,
+        Sent::NoMemory => {
+            let after = (
+                sender.len(rt),
+                sender.sender_count(rt),
+                sender.receiver_count(rt),
+            );
+            holds(before == after && option.is_some() == form.keeps())?;
+            if option.is_none() {
+                option = Some(drops.message()?);
+            }
+            holds(form.send(rt, sender, &mut option) == Sent::Entered)?;
+            Some(false)
+        },
+    }
+}

@@ -1,0 +1,61 @@
+//! A pool whose growths, threads and jobs may be refused: its workers have ended then.
+ghost use Rattle.std.proofs.Common.{rules};
+
+use crate::tally::{Tally, holds};
+use kanal_pool::{Gate, Job, NoMemory, PoolError, map_jobs};
+use std::alloc::Global;
+use std::sync::Wait;
+use std::sync::atomic::AtomicU64;
+use std::sync::atomic::Ordering::SeqCst;
+use std::thread::Threads;
+
+/// A job whose answer is its number.
+#[derive(Clone, Copy, Debug, PartialEq, Eq)]
+struct Number(u64);
+
+impl Job for Number {
+    type Answer = u64;
+
+    ghost value = { λ number. number.0 };
+
+    fn work(&self) -> Result<u64, NoMemory> {
+        Ok(self.0)
+    }
+
+    ghost equal_is_same = { Prim.search rules };
+}
+
+/// How many jobs were begun, and how many have ended.
+#[derive(Drop)]
+struct Counts {
+    entered: AtomicU64,
+    left: AtomicU64,
+}
+
+impl Gate for Counts {
+    fn enter(&self, _job: usize) {
+        self.entered.fetch_add(1, SeqCst);
+    }
+
+    fn leave(&self, _job: usize) {
+        self.left.fetch_add(1, SeqCst);
+    }
+}
+
+/// Three jobs by two workers.
+pub fn works<R: Threads + Wait + Sync>(rt: &R, alloc: Global, tally: &mut Tally) -> Option<()> {
+    let jobs = [Number(1), Number(2), Number(3)];
+    let counts = Counts {
+        entered: AtomicU64::new(0),
+        left: AtomicU64::new(0),
+    };
+    let answers = match map_jobs(rt, alloc, &jobs, 2, &counts) {
+        Err(PoolError::NoMemory | PoolError::NoThread) => {
+            tally.add();
+            holds(counts.entered.load(SeqCst) == counts.left.load(SeqCst))?;
+            map_jobs(rt, alloc, &jobs, 2, &counts).ok()?
+        },
+        answers => answers.ok()?,
+    };
+    holds(answers.as_slice() == [1, 2, 3].as_slice())
+}

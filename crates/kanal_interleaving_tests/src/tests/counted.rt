@@ -1,0 +1,76 @@
+//! Numbered messages that count their drops, each number for itself.
+use crate::tests::given::equal;
+use std::alloc::{AllocGlobal, Global};
+use std::process::Abort;
+use std::sync::Arc;
+use std::sync::atomic::AtomicU64;
+use std::sync::atomic::Ordering::SeqCst;
+
+/// How often the message of each number was dropped.
+#[derive(Drop)]
+pub struct Drops {
+    counts: [AtomicU64; 5],
+}
+
+impl Drops {
+    /// No message was dropped.
+    pub fn new(rt: &(impl Abort + AllocGlobal)) -> Arc<Drops, Global> {
+        let drops = Drops {
+            counts: [
+                AtomicU64::new(0),
+                AtomicU64::new(0),
+                AtomicU64::new(0),
+                AtomicU64::new(0),
+                AtomicU64::new(0),
+            ],
+        };
+        Arc::new(rt.alloc(), drops).expect(rt, "memory for counters")
+    }
+
+    /// Counts one drop.
+    fn count(&self, number: usize) {
+        if let Some(count) = self.counts.get(number) {
+            count.fetch_add(1, SeqCst);
+        }
+    }
+
+    /// Ends the test unless each message below this number was dropped once, and no other. The counts
+    /// are 0 afterwards.
+    pub fn were_once(&self, rt: &impl Abort, made: usize) {
+        for (number, count) in self.counts.iter().enumerate() {
+            let expected = if number < made { 1 } else { 0 };
+            equal(rt, count.swap(0, SeqCst), expected);
+        }
+    }
+}
+
+/// A message with a number, which counts its drop.
+pub struct Counted {
+    number: usize,
+    drops: Arc<Drops, Global>,
+}
+
+impl Drop for Counted {
+    fn drop(self) {
+        let Counted { number, drops } = self;
+        drops.count(number);
+    }
+}
+
+impl Counted {
+    /// The message of this number.
+    pub fn new(rt: &impl Abort, drops: &Arc<Drops, Global>, number: usize) -> Self {
+        let drops = Arc::try_clone(drops).expect(rt, "one more");
+        Counted { number, drops }
+    }
+
+    /// Its number.
+    pub fn number(&self) -> usize {
+        self.number
+    }
+}
+
+/// The message's number; the message is dropped.
+pub fn number_of(message: Counted) -> usize {
+    message.number
+}

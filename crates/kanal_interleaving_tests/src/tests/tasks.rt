@@ -1,0 +1,375 @@
+//! Two send futures and two receive futures, each of a handle of its own, through all lists of at most
+//! five of ten steps.
+//!
+//! Each poll's answer, the length and both counts are those of a plain line; at the end both messages
+//! were dropped once. A future may be polled after its answer, and a step of a dropped one does nothing.
+use crate::tests::counted::{Counted, Drops, number_of};
+use crate::tests::given::{equal, new_task};
+use crate::tests::line::{Line, Offer, Take, Told};
+use crate::tests::lists::{ALL, LISTS, Tally, list_of};
+use futures::task::Poll;
+use futures::test::MockTask;
+use kanal::error::{CloseError, ReceiveError, SendError};
+use kanal::{AsyncReceiver, AsyncSender, ReceiveFuture, SendFuture, bounded_async};
+use std::alloc::{AllocGlobal, Global};
+use std::process::Abort;
+use std::random::RandomSource;
+use std::sync::{Arc, Wait};
+
+/// One step. The sends are numbered 0 and 1, as their messages, and so are the receives.
+#[derive(Clone, Copy, Debug, PartialEq, Eq)]
+enum Step {
+    PollSend(usize),
+    PollReceive(usize),
+    DropSend(usize),
+    DropReceive(usize),
+    /// The first sender closes the channel.
+    Close,
+    /// The first sender seals it.
+    Seal,
+}
+
+/// All of them.
+const STEPS: [Step; 10] = [
+    Step::PollSend(0),
+    Step::PollSend(1),
+    Step::PollReceive(0),
+    Step::PollReceive(1),
+    Step::DropSend(0),
+    Step::DropSend(1),
+    Step::DropReceive(0),
+    Step::DropReceive(1),
+    Step::Close,
+    Step::Seal,
+];
+
+/// What a step answers.
+#[derive(Clone, Copy, Debug, PartialEq, Eq, Drop)]
+enum Answer {
+    /// Nothing: the future was dropped, now or before.
+    Nothing,
+    /// The future goes on waiting.
+    Pending,
+    Sent(Result<(), SendError>),
+    Received(Result<usize, ReceiveError>),
+    Ended(Result<(), CloseError>),
+}
+
+/// A handle for each future.
+#[derive(Drop)]
+struct Handles {
+    senders: (AsyncSender<Counted>, AsyncSender<Counted>),
+    receivers: (AsyncReceiver<Counted>, AsyncReceiver<Counted>),
+}
+
+impl Handles {
+    /// The handles of a new channel with so many places.
+    fn new<R: Wait + Abort + AllocGlobal>(rt: &R, capacity: usize) -> Self {
+        let (sender, receiver) = bounded_async(rt.alloc(), capacity).expect(rt, "a channel");
+        let other_sender = sender.clone(rt).expect(rt, "a clone");
+        let other_receiver = receiver.clone(rt).expect(rt, "a clone");
+        Handles {
+            senders: (sender, other_sender),
+            receivers: (receiver, other_receiver),
+        }
+    }
+
+    /// What the first sender tells of the channel.
+    fn told<R: Wait>(&self, rt: &R) -> Told {
+        let sender = &self.senders.0;
+        Told {
+            len: sender.len(rt),
+            senders: sender.sender_count(rt),
+            receivers: sender.receiver_count(rt),
+        }
+    }
+}
+
+/// The futures; `None` is one that was dropped.
+#[derive(Drop)]
+struct Futures<'a> {
+    first_send: Option<SendFuture<'a, Counted>>,
+    second_send: Option<SendFuture<'a, Counted>>,
+    first_receive: Option<ReceiveFuture<'a, Counted>>,
+    second_receive: Option<ReceiveFuture<'a, Counted>>,
+}
+
+/// What a poll of the send answers.
+fn poll_send(task: &MockTask, future: &mut Option<SendFuture<'_, Counted>>) -> Answer {
+    let Some(future) = future else {
+        return Answer::Nothing;
+    };
+    match task.poll(future) {
+        Poll::Ready(answer) => Answer::Sent(answer),
+        Poll::Pending => Answer::Pending,
+    }
+}
+
+/// What a poll of the receive answers, by the message's number; the message is dropped.
+fn poll_receive(task: &MockTask, future: &mut Option<ReceiveFuture<'_, Counted>>) -> Answer {
+    let Some(future) = future else {
+        return Answer::Nothing;
+    };
+    match task.poll(future) {
+        Poll::Ready(Ok(message)) => Answer::Received(Ok(number_of(message))),
+        Poll::Ready(Err(error)) => Answer::Received(Err(error)),
+        Poll::Pending => Answer::Pending,
+    }
+}
+
+impl<'a> Futures<'a> {
+    /// Those of these handles, not polled yet.
+    fn new(rt: &impl Abort, handles: &'a Handles, drops: &Arc<Drops, Global>) -> Self {
+        let first = Counted::new(rt, drops, 0);
+        let second = Counted::new(rt, drops, 1);
+        Futures {
+            first_send: Some(handles.senders.0.send(first)),
+            second_send: Some(handles.senders.1.send(second)),
+            first_receive: Some(handles.receivers.0.recv()),
+            second_receive: Some(handles.receivers.1.recv()),
+        }
+    }
+
+    /// The send with this number.
+    fn send(&mut self, number: usize) -> &mut Option<SendFuture<'a, Counted>> {
+        match number {
+            0 => &mut self.first_send,
+            _ => &mut self.second_send,
+        }
+    }
+
+    /// The receive with this number.
+    fn receive(&mut self, number: usize) -> &mut Option<ReceiveFuture<'a, Counted>> {
+        match number {
+            0 => &mut self.first_receive,
+            _ => &mut self.second_receive,
+        }
+    }
+
+    /// Makes the step.
+    fn step<R: Wait>(&mut self, rt: &R, task: &MockTask, handles: &Handles, step: Step) -> Answer {
+        match step {
+            Step::PollSend(number) => poll_send(task, self.send(number)),
+            Step::PollReceive(number) => poll_receive(task, self.receive(number)),
+            Step::DropSend(number) => {
+                *self.send(number) = None;
+                Answer::Nothing
+            },
+            Step::DropReceive(number) => {
+                *self.receive(number) = None;
+                Answer::Nothing
+            },
+            Step::Close => Answer::Ended(handles.senders.0.close(rt)),
+            Step::Seal => Answer::Ended(handles.senders.0.seal(rt)),
+        }
+    }
+}
+
+/// Where a future is, by the rules.
+#[derive(Clone, Copy, Drop)]
+enum Stage {
+    /// It made no step.
+    New,
+    /// It waits.
+    Waits,
+    /// Its wait was settled, and its next poll answers so.
+    Settled(Answer),
+    /// It has answered.
+    Finished,
+    /// It was dropped.
+    Gone,
+}
+
+/// The plain line in place of the handles' channel, and where each future is.
+#[derive(Drop)]
+struct Account {
+    line: Line,
+    sends: [Stage; 2],
+    receives: [Stage; 2],
+}
+
+/// Where the future with this number is from now on.
+fn set(stages: &mut [Stage], number: usize, stage: Stage) {
+    if let Some(place) = stages.get_mut(number) {
+        *place = stage;
+    }
+}
+
+/// What becomes of the future with this number at a poll: an answer, and where it is then; or it makes
+/// its first step.
+fn look(stages: &mut [Stage], number: usize, finished: Answer) -> Option<Answer> {
+    match stages.get(number).copied() {
+        Some(Stage::New) => None,
+        Some(Stage::Waits) => Some(Answer::Pending),
+        Some(Stage::Settled(answer)) => {
+            set(stages, number, Stage::Finished);
+            Some(answer)
+        },
+        Some(Stage::Finished) => Some(finished),
+        Some(Stage::Gone) | None => Some(Answer::Nothing),
+    }
+}
+
+/// Ends all waits so.
+fn end_waits(stages: &mut [Stage], answer: Answer) {
+    for stage in stages.iter_mut() {
+        if matches!(stage, Stage::Waits) {
+            *stage = Stage::Settled(answer);
+        }
+    }
+}
+
+impl Account {
+    /// Of a new channel.
+    fn new(rt: &impl AllocGlobal, capacity: usize) -> Self {
+        Account {
+            line: Line::new(rt, Some(capacity), 2),
+            sends: [Stage::New, Stage::New],
+            receives: [Stage::New, Stage::New],
+        }
+    }
+
+    /// What the step has to answer.
+    fn step(&mut self, rt: &impl Abort, step: Step) -> Answer {
+        match step {
+            Step::PollSend(number) => self.poll_send(rt, number),
+            Step::PollReceive(number) => self.poll_receive(rt, number),
+            Step::DropSend(number) => self.drop_send(number),
+            Step::DropReceive(number) => self.drop_receive(number),
+            Step::Close => self.close(),
+            Step::Seal => self.seal(),
+        }
+    }
+
+    /// The first step of a send offers its message, and waits where there is no place.
+    fn poll_send(&mut self, rt: &impl Abort, number: usize) -> Answer {
+        let finished = Answer::Sent(Err(SendError::Finished));
+        if let Some(answer) = look(&mut self.sends, number, finished) {
+            return answer;
+        }
+        let answer = match self.line.offer(rt, number) {
+            Offer::Full => {
+                self.line.wait_send(rt, number);
+                set(&mut self.sends, number, Stage::Waits);
+                return Answer::Pending;
+            },
+            Offer::Handed(receiver) => {
+                let given = Stage::Settled(Answer::Received(Ok(number)));
+                set(&mut self.receives, receiver, given);
+                Ok(())
+            },
+            Offer::Entered => Ok(()),
+            Offer::Refused(error) => Err(error),
+        };
+        set(&mut self.sends, number, Stage::Finished);
+        Answer::Sent(answer)
+    }
+
+    /// The first step of a receive takes the front, and waits where there is none.
+    fn poll_receive(&mut self, rt: &impl Abort, number: usize) -> Answer {
+        let finished = Answer::Received(Err(ReceiveError::Finished));
+        if let Some(answer) = look(&mut self.receives, number, finished) {
+            return answer;
+        }
+        let answer = match self.line.take() {
+            Take::Empty => {
+                self.line.wait_receive(rt, number);
+                set(&mut self.receives, number, Stage::Waits);
+                return Answer::Pending;
+            },
+            Take::Taken(message, served) => {
+                if let Some(send) = served {
+                    set(&mut self.sends, send, Stage::Settled(Answer::Sent(Ok(()))));
+                }
+                Ok(message)
+            },
+            Take::Refused(error) => Err(error),
+        };
+        set(&mut self.receives, number, Stage::Finished);
+        Answer::Received(answer)
+    }
+
+    /// A send that waits takes its message with it.
+    fn drop_send(&mut self, number: usize) -> Answer {
+        if let Some(Stage::Waits) = self.sends.get(number) {
+            self.line.leave_send(number);
+        }
+        set(&mut self.sends, number, Stage::Gone);
+        Answer::Nothing
+    }
+
+    /// A receive that waits goes.
+    fn drop_receive(&mut self, number: usize) -> Answer {
+        if let Some(Stage::Waits) = self.receives.get(number) {
+            self.line.leave_receive(number);
+        }
+        set(&mut self.receives, number, Stage::Gone);
+        Answer::Nothing
+    }
+
+    /// A close ends all waits.
+    fn close(&mut self) -> Answer {
+        let answer = self.line.close();
+        if answer.is_ok() {
+            end_waits(&mut self.sends, Answer::Sent(Err(SendError::Closed)));
+            let ended = Answer::Received(Err(ReceiveError::Closed));
+            end_waits(&mut self.receives, ended);
+        }
+        Answer::Ended(answer)
+    }
+
+    /// A seal ends the receives that wait.
+    fn seal(&mut self) -> Answer {
+        let answer = self.line.seal();
+        if answer.is_ok() {
+            let ended = Answer::Received(Err(ReceiveError::SendClosed));
+            end_waits(&mut self.receives, ended);
+        }
+        Answer::Ended(answer)
+    }
+}
+
+/// Runs the list on both. Ends the test unless they agree, and both messages were dropped once.
+fn run_list<R: Wait + Abort + AllocGlobal>(
+    rt: &R,
+    task: &MockTask,
+    capacity: usize,
+    list: &[Step],
+    drops: &Arc<Drops, Global>,
+) {
+    let handles = Handles::new(rt, capacity);
+    let mut futures = Futures::new(rt, &handles, drops);
+    let mut account = Account::new(rt, capacity);
+    for step in list {
+        let answer = futures.step(rt, task, &handles, *step);
+        let expected = account.step(rt, *step);
+        assert_eq!(rt; answer, expected, "{step:?} of {list:?}");
+        let (told, expected) = (handles.told(rt), account.line.told());
+        assert_eq!(rt; told, expected, "after {step:?} of {list:?}");
+    }
+    drop(futures);
+    drop(handles);
+    drops.were_once(rt, 2);
+}
+
+/// Runs all lists at this capacity.
+fn run_lists<R: Wait + Abort + RandomSource + AllocGlobal>(rt: &R, capacity: usize) -> Tally {
+    let (task, drops) = (new_task(rt), Drops::new(rt));
+    let mut tally = Tally::new();
+    for number in 0..LISTS {
+        let list = list_of(rt, &STEPS, number);
+        run_list(rt, &task, capacity, list.as_slice(), &drops);
+        tally.add(!list.contains(&Step::Seal));
+    }
+    tally
+}
+
+#[test]
+fn lists_without_places(rt: HostRuntime) {
+    equal(&rt, run_lists(&rt, 0), ALL);
+}
+
+#[test]
+fn lists_with_one_place(rt: HostRuntime) {
+    equal(&rt, run_lists(&rt, 1), ALL);
+}

@@ -6,9 +6,9 @@
 #![tactic(auto)]
 
 mod cell;
-mod core;
 mod handles;
 mod history;
+mod internal;
 mod polls;
 
 use std::alloc::{AllocGlobal, Global};
@@ -25,11 +25,11 @@ pub fn holds(is_so: bool) -> Option<()> {
 
 /// The core and the cell.
 fn below_the_lock(alloc: Global, makes_calls: bool) -> Option<()> {
-    core::offers_and_takes(alloc, makes_calls)?;
-    core::withdrawals(alloc, makes_calls)?;
-    core::handles(alloc, makes_calls)?;
-    core::questions(alloc, makes_calls)?;
-    core::drains(alloc, makes_calls)?;
+    internal::offers_and_takes(alloc, makes_calls)?;
+    internal::withdrawals(alloc, makes_calls)?;
+    internal::handles(alloc, makes_calls)?;
+    internal::questions(alloc, makes_calls)?;
+    internal::drains(alloc, makes_calls)?;
     cell::settled(alloc, makes_calls)?;
     cell::slept(alloc, makes_calls)?;
     cell::left(alloc, makes_calls)

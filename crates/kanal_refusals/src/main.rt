@@ -7,9 +7,9 @@
 //! threads that meet a blocked call ask for no memory, so the requests come in one order.
 #![tactic(auto)]
 
-mod core;
 mod handles;
 mod history;
+mod internal;
 mod messages;
 mod polls;
 mod pool;
@@ -26,9 +26,9 @@ use tally::Tally;
 
 /// Calls of the core, and lists of events.
 fn below_the_lock(alloc: Global, tally: &mut Tally) -> Option<()> {
-    core::bounded(alloc, tally)?;
-    core::unlimited(alloc, tally)?;
-    core::sealed(alloc, tally)?;
+    internal::bounded(alloc, tally)?;
+    internal::unlimited(alloc, tally)?;
+    internal::sealed(alloc, tally)?;
     lists::run_all(alloc, tally)
 }
 

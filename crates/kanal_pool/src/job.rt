@@ -8,6 +8,25 @@ use kanal::error::NoMemory;
 /// A piece of work whose answer is known from the job alone.
 ///
 /// `value` is that answer, as a definition; `work` finds it. Two jobs that are equal are the same value.
+/// A job whose work needs memory keeps its allocator.
+///
+/// # Examples
+/// ```text
+/// #[derive(Clone, Copy, Debug, PartialEq, Eq)]
+/// struct Square(u32);
+///
+/// impl Job for Square {
+///     type Answer = u64;
+///
+///     ghost value = { λ square. square.0 * square.0 };
+///
+///     fn work(&self) -> Result<u64, NoMemory> {
+///         Ok(u64::from(self.0) * u64::from(self.0))
+///     }
+///
+///     ghost equal_is_same = { Prim.search rules };
+/// }
+/// ```
 pub trait Job: Eq {
     /// What the work gives.
     type Answer: Drop;
@@ -25,6 +44,19 @@ pub trait Job: Eq {
 }
 
 /// What is told when a job's work begins and when it has ended, by the worker that does it.
+///
+/// Several workers may call it at once. It can print how far the pool is, or count.
+///
+/// # Examples
+/// ```text
+/// impl<R: Eprint> Gate for Progress<'_, R> {
+///     fn enter(&self, _job: usize) {}
+///
+///     fn leave(&self, job: usize) {
+///         let _told = eprintln!(self.rt; "job {job} is done");
+///     }
+/// }
+/// ```
 pub trait Gate {
     /// The work of the job with this number begins.
     fn enter(&self, job: usize);

@@ -10,6 +10,7 @@ use std::thread;
 const TURNS: u32 = 1_000_000;
 
 /// Where two jobs meet: how many have entered, and how many gave up waiting for the other.
+#[derive(Drop)]
 struct Meeting {
     entered: AtomicU64,
     missed: AtomicU64,

@@ -10,6 +10,7 @@ use std::thread;
 const TURNS: u32 = 1000;
 
 /// How many jobs were entered, and how many were left.
+#[derive(Drop)]
 struct Counts {
     entered: AtomicU64,
     left: AtomicU64,

@@ -11,9 +11,9 @@ pub fn sends_and_receives<R: Wait>(rt: &R, alloc: Global, makes_calls: bool) -> 
     if makes_calls {
         holds(sender.send(rt, 1) == Ok(()) && sender.try_send_realtime(2) == Ok(true))?;
         holds(sender.try_send(rt, 3) == Ok(false))?;
-        let mut option = Some(3);
-        holds(sender.try_send_option(rt, &mut option) == Ok(false) && option == Some(3))?;
-        holds(sender.try_send_option_realtime(&mut option) == Ok(false) && option == Some(3))?;
+        let (mut third, mut fourth) = (Some(3), Some(4));
+        holds(sender.try_send_option(rt, &mut third) == Ok(false) && third == Some(3))?;
+        holds(sender.try_send_option_realtime(&mut fourth) == Ok(false) && fourth == Some(4))?;
         holds(receiver.recv(rt) == Ok(1) && receiver.try_recv(rt) == Ok(Some(2)))?;
         holds(receiver.try_recv_realtime() == Ok(None))?;
     }

@@ -67,7 +67,10 @@ pub fn questions(alloc: Global, makes_calls: bool) -> Option<()> {
 pub fn drains(alloc: Global, makes_calls: bool) -> Option<()> {
     let mut core = Core::new(alloc, 1).ok()?;
     holds(matches!(core.offer(1), Offer::Entered))?;
-    core.wait_send(2, 7).ok()?;
+    let Offer::Full(second) = core.offer(2) else {
+        return None;
+    };
+    core.wait_send(second, 7).ok()?;
     let mut messages = Vec::with_capacity(alloc, 2).ok()?;
     if makes_calls {
         let (count, _taken) = core.drain_into(&mut messages).ok()?;

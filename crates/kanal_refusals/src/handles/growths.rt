@@ -52,23 +52,24 @@ impl Form {
         )
     }
 
-    /// Sends the option's message by this form.
+    /// Sends the message by this form, and gives back what an option keeps.
     fn send<R: Wait + time::Clock>(
         self,
         rt: &R,
         sender: &Sender<Counted>,
-        option: &mut Option<Counted>,
-    ) -> Sent {
+        message: Counted,
+    ) -> (Sent, Option<Counted>) {
         let now = Duration::from_nanos(0);
-        match self {
-            Form::TrySendOption => tried(sender.try_send_option(rt, option)),
-            Form::TrySendOptionRealtime => tried(sender.try_send_option_realtime(option)),
-            Form::SendOptionTimeout => timed(sender.send_option_timeout(rt, option, now, &Still)),
-            form => match option.take() {
-                Some(message) => form.send_message(rt, sender, message),
-                None => Sent::Otherwise,
-            },
+        if !self.keeps() {
+            return (self.send_message(rt, sender, message), None);
         }
+        let mut option = Some(message);
+        let sent = match self {
+            Form::TrySendOption => tried(sender.try_send_option(rt, &mut option)),
+            Form::TrySendOptionRealtime => tried(sender.try_send_option_realtime(&mut option)),
+            _ => timed(sender.send_option_timeout(rt, &mut option, now, &Still)),
+        };
+        (sent, option)
     }
 
     /// Sends the message by this form, which has no option.
@@ -149,21 +150,22 @@ fn enters<R: Wait + time::Clock>(
         sender.sender_count(rt),
         sender.receiver_count(rt),
     );
-    let mut option = Some(drops.message()?);
-    match form.send(rt, sender, &mut option) {
-        Sent::Entered => Some(true),
-        Sent::Otherwise => None,
-        Sent::NoMemory => {
+    match form.send(rt, sender, drops.message()?) {
+        (Sent::Entered, _none) => Some(true),
+        (Sent::Otherwise, _back) => None,
+        (Sent::NoMemory, back) => {
             let after = (
                 sender.len(rt),
                 sender.sender_count(rt),
                 sender.receiver_count(rt),
             );
-            holds(before == after && option.is_some() == form.keeps())?;
-            if option.is_none() {
-                option = Some(drops.message()?);
-            }
-            holds(form.send(rt, sender, &mut option) == Sent::Entered)?;
+            holds(before == after && back.is_some() == form.keeps())?;
+            let message = match back {
+                Some(message) => message,
+                None => drops.message()?,
+            };
+            let (sent, _none) = form.send(rt, sender, message);
+            holds(sent == Sent::Entered)?;
             Some(false)
         },
     }

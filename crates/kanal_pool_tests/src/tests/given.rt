@@ -1,5 +1,5 @@
 //! What the tests share: jobs, and the comparison of an answer with the expected one.
-ghost use Rattle.std.specs.Prelude.{◌≡◌, true};
+ghost use Rattle.std.specs.Prelude.{◌*◌, ◌≡◌, true};
 ghost use Rattle.std.proofs.Common.{rules};
 
 use kanal_pool::{Job, NoMemory, PoolError};

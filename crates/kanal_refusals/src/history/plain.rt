@@ -126,8 +126,10 @@ impl PlainLine {
             Event::TryRecv => self.take(Wanting::Now),
             Event::Drain => self.drain(),
             Event::Withdraw(ticket) => Some(self.withdraw(ticket)),
-            Event::CloneTx | Event::CloneRx => Some(self.clone_handle(event)),
-            Event::DropTx | Event::DropRx => self.drop_handle(event),
+            Event::CloneTx => Some(self.clone_handle(Side::Tx)),
+            Event::CloneRx => Some(self.clone_handle(Side::Rx)),
+            Event::DropTx => self.drop_handle(Side::Tx),
+            Event::DropRx => self.drop_handle(Side::Rx),
             Event::Seal => self.seal(),
             Event::Close => self.close(),
             Event::Ask(side, question) => Some(self.answer(side, question)),
@@ -263,35 +265,36 @@ impl PlainLine {
         Reply::Refused(Refusal::NotWaiting, None)
     }
 
-    fn clone_handle(&mut self, event: Event<u64>) -> Reply<u64> {
-        let (live, count) = match event {
-            Event::CloneTx => (&mut self.handles.tx, &mut self.counts.tx),
-            _ => (&mut self.handles.rx, &mut self.counts.rx),
-        };
-        *live = live.saturating_add(1);
-        if *count > 0 {
-            *count = count.saturating_add(1);
+    fn clone_handle(&mut self, side: Side) -> Reply<u64> {
+        match side {
+            Side::Tx => {
+                self.handles.tx = self.handles.tx.saturating_add(1);
+                self.counts.tx = one_more(self.counts.tx);
+            },
+            Side::Rx => {
+                self.handles.rx = self.handles.rx.saturating_add(1);
+                self.counts.rx = one_more(self.counts.rx);
+            },
         }
         Reply::Done
     }
 
-    fn drop_handle(&mut self, event: Event<u64>) -> Option<Reply<u64>> {
-        let (live, count, reason) = match event {
-            Event::DropTx => (
-                &mut self.handles.tx,
-                &mut self.counts.tx,
-                Reason::SendClosed,
-            ),
-            _ => (
-                &mut self.handles.rx,
-                &mut self.counts.rx,
-                Reason::ReceiveClosed,
-            ),
+    fn drop_handle(&mut self, side: Side) -> Option<Reply<u64>> {
+        let (count, reason) = match side {
+            Side::Tx => (self.counts.tx, Reason::SendClosed),
+            Side::Rx => (self.counts.rx, Reason::ReceiveClosed),
         };
-        *live = live.saturating_sub(1);
-        let was_last = *count == 1;
-        *count = count.saturating_sub(1);
-        if was_last {
+        match side {
+            Side::Tx => {
+                self.handles.tx = self.handles.tx.saturating_sub(1);
+                self.counts.tx = count.saturating_sub(1);
+            },
+            Side::Rx => {
+                self.handles.rx = self.handles.rx.saturating_sub(1);
+                self.counts.rx = count.saturating_sub(1);
+            },
+        }
+        if count == 1 {
             self.end_waits(reason)?;
         }
         Some(Reply::Done)
@@ -386,6 +389,15 @@ enum Wanting {
     Late,
     /// It doesn't wait.
     Now,
+}
+
+/// The count with one more handle; a side that is gone stays gone.
+fn one_more(count: u32) -> u32 {
+    if count == 0 {
+        0
+    } else {
+        count.saturating_add(1)
+    }
 }
 
 /// What the send is told whose message entered.

@@ -1,7 +1,11 @@
 //! The tests by what they go through, and what they share.
+mod cell;
 mod counted;
+mod forgotten;
 mod given;
 mod line;
 mod lists;
+mod races;
+mod recorded;
 mod sync;
 mod tasks;

@@ -31,7 +31,7 @@ pub enum Take {
 }
 
 /// What the handles tell of a channel: the messages in its buffer and the handles of each side.
-#[derive(Clone, Copy, Debug, PartialEq, Eq, Drop)]
+#[derive(Debug, PartialEq, Eq, Drop)]
 pub struct Told {
     pub len: usize,
     pub senders: u32,

@@ -51,7 +51,7 @@ const STEPS: [Step; 10] = [
 ];
 
 /// What a step answers.
-#[derive(Clone, Copy, Debug, PartialEq, Eq, Drop)]
+#[derive(Debug, PartialEq, Eq, Drop)]
 enum Answer {
     /// Nothing: the sender was dropped, now or before.
     Nothing,

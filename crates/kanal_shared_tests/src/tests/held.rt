@@ -76,6 +76,23 @@ fn a_send_that_waits_is_dropped_while_the_lock_is_held(rt: HostRuntime) {
     holds(&rt, matches!(shared.try_recv(&rt), Ok(None)));
 }
 
+/// Three of four senders and a send that waits: the one that is left has nobody before it.
+#[test]
+fn senders_and_a_send_that_waits_are_dropped_while_the_lock_is_held(rt: HostRuntime) {
+    let drops = counter(&rt);
+    let shared = channel::<Counted>(&rt, 0);
+    let task = new_task(&rt);
+    for _ in 0..3 {
+        equal(&rt, shared.add_sender(&rt), Ok(()));
+    }
+    let mut sending = shared.send(counts_in(&rt, &drops));
+    equal(&rt, task.poll(&mut sending), Poll::Pending);
+    equal(&rt, drop_held(&rt, &shared, (0, 3), sending), (4, 1, 1));
+    equal(&rt, shared.sender_count(&rt), 1);
+    holds(&rt, matches!(shared.try_recv(&rt), Ok(None)));
+    equal(&rt, drops.load(SeqCst), 1);
+}
+
 /// Waits that were left go first, then the senders, whose last one ends a receive that still waits, and
 /// then the receivers.
 #[test]

@@ -1,0 +1,427 @@
+//! The hand-over cell, through all lists of at most eight of five steps.
+//!
+//! The plain cell is compared with its history, which knows first places in the list alone; the running
+//! cell is put through the lists in which no end is spent, and answers as the plain one replies.
+ghost use Rattle.std.specs.Prelude.{◌≡◌};
+ghost use Rattle.kanal_cell.specs.CellRule.{HasNotLeft, HasNotSettled, MaySleep};
+ghost use Rattle.kanal_cell.specs.CellEnds.{wait_view, settle_view};
+
+use crate::tests::given::equal;
+use crate::tests::lists::list_of;
+use crossbeam_utils::sync::{Parker, Unparker};
+use kanal_cell::signal;
+use kanal_cell::signal::{CellReply, CellStep, Owner, SettleEnd, WaitEnd, cell_run};
+use std::alloc::AllocGlobal;
+use std::mem;
+use std::process::Abort;
+
+/// The kinds of steps. A settle gets its place in the list as its outcome.
+const STEPS: [CellStep; 5] = [
+    CellStep::Sleep,
+    CellStep::Settle(0),
+    CellStep::Poll,
+    CellStep::Leave,
+    CellStep::IsLeft,
+];
+
+/// The lists of at most eight of five steps.
+const LISTS: usize = 488_281;
+
+/// The list with this number, whose settles carry their places.
+fn steps_of(rt: &(impl Abort + AllocGlobal), number: usize) -> Vec<CellStep> {
+    let mut list = list_of(rt, &STEPS, number);
+    let mut place = 0u64;
+    for step in list.iter_mut() {
+        if let CellStep::Settle(_) = step {
+            *step = CellStep::Settle(place);
+        }
+        place = place.wrapping_add(1);
+    }
+    list
+}
+
+/// A place in a list; `None` where no step is such.
+type Place = Option<usize>;
+
+/// Whether this place comes before that step.
+fn is_before(place: Place, step: usize) -> bool {
+    place.is_some_and(|place| place < step)
+}
+
+/// The first places in a list that its history speaks of.
+#[derive(Drop)]
+struct Places {
+    sleep: Place,
+    settle: Place,
+    leave: Place,
+    taker: Place,
+    outcome: u64,
+}
+
+/// The first place of a step of this kind.
+fn first(steps: &[CellStep], kind: CellStep) -> Place {
+    for (place, step) in steps.iter().enumerate() {
+        if *step == kind {
+            return Some(place);
+        }
+    }
+    None
+}
+
+/// The first place of a settle, and what it brings.
+fn first_settle(steps: &[CellStep]) -> (Place, u64) {
+    for (place, step) in steps.iter().enumerate() {
+        if let CellStep::Settle(outcome) = step {
+            return (Some(place), *outcome);
+        }
+    }
+    (None, 0)
+}
+
+/// The first place after the settle that holds a poll or a leave or is the first sleep.
+fn first_taker(steps: &[CellStep], settle: Place, sleep: Place) -> Place {
+    for (place, step) in steps.iter().enumerate() {
+        let looks = matches!(step, CellStep::Poll | CellStep::Leave) || sleep == Some(place);
+        if is_before(settle, place) && looks {
+            return Some(place);
+        }
+    }
+    None
+}
+
+impl Places {
+    /// Those of this list. A leave before the settle leaves it without a taker.
+    fn new(steps: &[CellStep]) -> Self {
+        let (settle, outcome) = first_settle(steps);
+        let sleep = first(steps, CellStep::Sleep);
+        let leave = first(steps, CellStep::Leave);
+        let is_settled_late = settle.is_some_and(|settle| is_before(leave, settle));
+        let taker = if is_settled_late {
+            None
+        } else {
+            first_taker(steps, settle, sleep)
+        };
+        Places {
+            sleep,
+            settle,
+            leave,
+            taker,
+            outcome,
+        }
+    }
+
+    /// Whether the step at this place is a sleep that its end can still make.
+    fn is_unspent_sleep(&self, place: usize) -> bool {
+        self.sleep == Some(place) && !is_before(self.leave, place) && !is_before(self.taker, place)
+    }
+
+    /// Whether such a sleep comes before this place.
+    fn is_asleep(&self, place: usize) -> bool {
+        match self.sleep {
+            Some(sleep) => sleep < place && self.is_unspent_sleep(sleep),
+            None => false,
+        }
+    }
+
+    /// The outcome, if this place is the taker's.
+    fn taken_at(&self, place: usize) -> Option<u64> {
+        if self.taker == Some(place) {
+            Some(self.outcome)
+        } else {
+            None
+        }
+    }
+
+    /// What the step at this place is replied.
+    fn reply(&self, place: usize, step: CellStep) -> CellReply {
+        let has_left = is_before(self.leave, place);
+        let has_settled = is_before(self.settle, place);
+        match step {
+            CellStep::Sleep if !self.is_unspent_sleep(place) => CellReply::Spent,
+            CellStep::Poll | CellStep::Leave if has_left => CellReply::Spent,
+            CellStep::Settle(_) | CellStep::IsLeft if has_settled => CellReply::Spent,
+            CellStep::Sleep => self
+                .taken_at(place)
+                .map_or(CellReply::Slept, CellReply::Outcome),
+            CellStep::Poll => self
+                .taken_at(place)
+                .map_or(CellReply::Pending, CellReply::Outcome),
+            CellStep::Leave => CellReply::Left(self.taken_at(place)),
+            CellStep::IsLeft => CellReply::Flag(has_left),
+            CellStep::Settle(outcome) => CellReply::Settled {
+                woke: self.is_asleep(place),
+                back: if has_left { Some(outcome) } else { None },
+            },
+        }
+    }
+
+    /// The word after a list of this length.
+    fn word(&self, length: usize) -> u8 {
+        let sleeping = if self.is_asleep(length) { 1u8 } else { 0 };
+        let ended = if self.settle.is_some() { 2u8 } else { 0 };
+        let left = if self.leave.is_some() { 4u8 } else { 0 };
+        sleeping | ended | left
+    }
+
+    /// Who has the outcome at the end.
+    fn owner(&self) -> Owner {
+        let Some(settle) = self.settle else {
+            return Owner::Nowhere;
+        };
+        if is_before(self.leave, settle) {
+            Owner::Settler
+        } else if self.taker.is_some() {
+            Owner::Waiter
+        } else {
+            Owner::Home
+        }
+    }
+}
+
+/// What the steps are replied, by their history.
+fn replies_of(rt: &(impl Abort + AllocGlobal), steps: &[CellStep]) -> Vec<CellReply> {
+    let places = Places::new(steps);
+    let mut replies = Vec::new(rt.alloc());
+    for (place, step) in steps.iter().enumerate() {
+        replies
+            .push(places.reply(place, *step))
+            .expect(rt, "memory for a reply");
+    }
+    replies
+}
+
+/// Runs the list on the plain cell. Ends the test unless all is as its history tells; the replies.
+fn run_plain(rt: &(impl Abort + AllocGlobal), steps: &[CellStep]) -> Vec<CellReply> {
+    let replies = replies_of(rt, steps);
+    let places = Places::new(steps);
+    let report = cell_run(rt.alloc(), steps).expect(rt, "memory for a report");
+    let is_same = report.replies == replies;
+    assert!(rt; is_same, "the replies to {steps:?}");
+    assert_eq!(rt;
+        report.word,
+        places.word(steps.len()),
+        "the word after {steps:?}"
+    );
+    assert_eq!(rt; report.owner, places.owner(), "the owner after {steps:?}");
+    replies
+}
+
+/// What a running cell answers.
+#[derive(Debug, PartialEq, Eq, Drop)]
+enum Answer {
+    /// A sleep, a poll or a leave: the outcome, if the waiter has it now.
+    Outcome(Option<u64>),
+    /// A settle: the outcome, if it comes back.
+    Back(Option<u64>),
+    IsLeft(bool),
+    /// There is no call: the end is spent.
+    Spent,
+}
+
+/// What a running cell answers where the plain one replies so. Whom a settle woke it doesn't answer.
+fn answer_of(reply: CellReply) -> Answer {
+    match reply {
+        CellReply::Slept | CellReply::Pending => Answer::Outcome(None),
+        CellReply::Outcome(outcome) => Answer::Outcome(Some(outcome)),
+        CellReply::Left(outcome) => Answer::Outcome(outcome),
+        CellReply::Settled { woke: _, back } => Answer::Back(back),
+        CellReply::Flag(is_left) => Answer::IsLeft(is_left),
+        CellReply::Spent => Answer::Spent,
+    }
+}
+
+/// A waiting end that has neither slept nor had the outcome.
+#[derive(Drop)]
+struct Awake {
+    end: WaitEnd<u64>,
+    ghost unspent: { MaySleep (wait_view end) },
+}
+
+/// A waiting end that may have done both.
+#[derive(Drop)]
+struct Staying {
+    end: WaitEnd<u64>,
+    ghost unspent: { HasNotLeft (wait_view end) },
+}
+
+/// A settling end that has not settled.
+#[derive(Drop)]
+struct Settling {
+    end: SettleEnd<u64>,
+    ghost unspent: { HasNotSettled (settle_view end) },
+}
+
+/// What may still be done with a waiting end.
+#[derive(Drop)]
+enum Waiting {
+    Awake(Awake),
+    Staying(Staying),
+    Gone,
+}
+
+impl Awake {
+    fn sleep(self, sleeper: Unparker) -> (Waiting, Option<u64>) {
+        let Awake { mut end } = self;
+        let outcome = end.sleep(sleeper);
+        (Waiting::Staying(Staying { end }), outcome)
+    }
+
+    fn poll(self) -> (Waiting, Option<u64>) {
+        let Awake { mut end } = self;
+        match end.poll() {
+            Some(outcome) => (Waiting::Staying(Staying { end }), Some(outcome)),
+            None => (Waiting::Awake(Awake { end }), None),
+        }
+    }
+
+    fn leave(self) -> Option<u64> {
+        let Awake { mut end } = self;
+        end.leave()
+    }
+}
+
+impl Staying {
+    fn poll(self) -> (Waiting, Option<u64>) {
+        let Staying { mut end } = self;
+        let outcome = end.poll();
+        (Waiting::Staying(Staying { end }), outcome)
+    }
+
+    fn leave(self) -> Option<u64> {
+        let Staying { mut end } = self;
+        end.leave()
+    }
+}
+
+impl Settling {
+    fn settle(self, outcome: u64) -> Option<u64> {
+        let Settling { mut end } = self;
+        end.settle(outcome)
+    }
+
+    fn is_left(&self) -> bool {
+        self.end.is_left()
+    }
+}
+
+/// A running cell, by its ends.
+#[derive(Drop)]
+struct Running {
+    waiting: Waiting,
+    settling: Option<Settling>,
+}
+
+impl Running {
+    /// The ends of a fresh cell.
+    fn new(rt: &(impl Abort + AllocGlobal)) -> Self {
+        let (wait, settle) = signal::new(rt.alloc()).expect(rt, "a cell");
+        Running {
+            waiting: Waiting::Awake(Awake { end: wait }),
+            settling: Some(Settling { end: settle }),
+        }
+    }
+
+    /// Makes the step; the sleeper is for a sleep.
+    fn step(&mut self, step: CellStep, sleeper: Unparker) -> Answer {
+        match step {
+            CellStep::Sleep => self.sleep(sleeper),
+            CellStep::Settle(outcome) => self.settle(outcome),
+            CellStep::Poll => self.poll(),
+            CellStep::Leave => self.leave(),
+            CellStep::IsLeft => match &self.settling {
+                Some(settling) => Answer::IsLeft(settling.is_left()),
+                None => Answer::Spent,
+            },
+        }
+    }
+
+    fn sleep(&mut self, sleeper: Unparker) -> Answer {
+        match mem::replace(&mut self.waiting, Waiting::Gone) {
+            Waiting::Awake(awake) => {
+                let (waiting, outcome) = awake.sleep(sleeper);
+                self.waiting = waiting;
+                Answer::Outcome(outcome)
+            },
+            Waiting::Staying(_) | Waiting::Gone => Answer::Spent,
+        }
+    }
+
+    fn settle(&mut self, outcome: u64) -> Answer {
+        match self.settling.take() {
+            Some(settling) => Answer::Back(settling.settle(outcome)),
+            None => Answer::Spent,
+        }
+    }
+
+    fn poll(&mut self) -> Answer {
+        let (waiting, outcome) = match mem::replace(&mut self.waiting, Waiting::Gone) {
+            Waiting::Awake(awake) => awake.poll(),
+            Waiting::Staying(staying) => staying.poll(),
+            Waiting::Gone => return Answer::Spent,
+        };
+        self.waiting = waiting;
+        Answer::Outcome(outcome)
+    }
+
+    fn leave(&mut self) -> Answer {
+        match mem::replace(&mut self.waiting, Waiting::Gone) {
+            Waiting::Awake(awake) => Answer::Outcome(awake.leave()),
+            Waiting::Staying(staying) => Answer::Outcome(staying.leave()),
+            Waiting::Gone => Answer::Spent,
+        }
+    }
+}
+
+/// Runs the list on a running cell. Ends the test unless it answers as the plain one replied.
+fn run_running(
+    rt: &(impl Abort + AllocGlobal),
+    parker: &Parker,
+    steps: &[CellStep],
+    replies: &[CellReply],
+) {
+    let mut running = Running::new(rt);
+    for (step, reply) in steps.iter().zip(replies.iter()) {
+        let sleeper = parker.unparker().clone().expect(rt, "an unparker");
+        let answer = running.step(*step, sleeper);
+        assert_eq!(rt; answer, answer_of(*reply), "{step:?} of {steps:?}");
+    }
+}
+
+/// How many lists were run on the plain cell, and how many on the running one.
+#[derive(Debug, PartialEq, Eq, Drop)]
+struct Counts {
+    plain: u64,
+    running: u64,
+}
+
+/// The lists of at most eight of five steps, and those in which each end may still make each of its
+/// steps: one settle at most, and no question after it; one leave at most, and no poll or sleep after
+/// it; one sleep at most, and none after the outcome was had.
+const ALL: Counts = Counts {
+    plain: 488_281,
+    running: 7_795,
+};
+
+/// Runs all lists.
+fn run_lists(rt: &(impl Abort + AllocGlobal)) -> Counts {
+    let parker = Parker::new(rt.alloc()).expect(rt, "a parker");
+    let mut counts = Counts {
+        plain: 0,
+        running: 0,
+    };
+    for number in 0..LISTS {
+        let steps = steps_of(rt, number);
+        let replies = run_plain(rt, steps.as_slice());
+        counts.plain = counts.plain.wrapping_add(1);
+        if !replies.contains(&CellReply::Spent) {
+            run_running(rt, &parker, steps.as_slice(), replies.as_slice());
+            counts.running = counts.running.wrapping_add(1);
+        }
+    }
+    counts
+}
+
+#[test]
+fn lists_of_eight_steps(rt: HostRuntime) {
+    equal(&rt, run_lists(&rt), ALL);
+}

@@ -1,0 +1,346 @@
+//! Races: in each round one thread closes, drops or seals a channel while this one makes a call on it.
+//!
+//! Whoever comes first, the call has an answer that the rules have for one of the orders, and each message
+//! is dropped once.
+use crate::tests::counted::{Counted, Drops};
+use crate::tests::given::{equal, holds, new_task};
+use futures::task::Poll;
+use futures::test::MockTask;
+use kanal::error::{ReceiveError, SendError, SendErrorTimeout};
+use kanal::{AsyncSender, Clock, Receiver, Sender, bounded};
+use std::alloc::{AllocGlobal, Global};
+use std::cell::Cell;
+use std::process::Abort;
+use std::random::RandomSource;
+use std::sync::atomic::AtomicBool;
+use std::sync::atomic::Ordering::SeqCst;
+use std::sync::{Arc, Wait};
+use std::thread::{JoinHandle, Threads};
+use std::time::Duration;
+use std::{hint, thread, time};
+
+/// How the other thread ends the channel.
+#[derive(Clone, Copy, PartialEq, Eq)]
+enum End {
+    Close,
+    Drop,
+    Seal,
+}
+
+/// The call of this thread.
+#[derive(Clone, Copy)]
+enum Call {
+    Send,
+    Receive,
+    Drain,
+    TimeOut,
+    DropWaiting,
+}
+
+/// One round of a race.
+#[derive(Clone, Copy)]
+struct Round {
+    end: End,
+    /// How many places the channel has, or how many messages are in it: 0 or 1.
+    count: usize,
+    /// How long the other thread puts its end off.
+    pauses: u32,
+}
+
+/// How many rounds a call has: 10,000 beside each of the three ends.
+const ROUNDS: u32 = 30_000;
+
+impl Round {
+    /// The round with this number.
+    fn numbered(number: u32) -> Self {
+        let end = match number % 3 {
+            0 => End::Close,
+            1 => End::Drop,
+            _ => End::Seal,
+        };
+        Round {
+            end,
+            count: if number / 3 % 2 == 0 { 0 } else { 1 },
+            pauses: number / 6 % 50,
+        }
+    }
+}
+
+/// How often a thread looks for the other's word before it goes on alone.
+const TURNS: u32 = 100_000;
+
+/// The other thread's word that it is there.
+type Word = Arc<AtomicBool, Global>;
+
+/// Says that this thread is there, and puts its end off.
+fn arrive(word: &AtomicBool, pauses: u32) {
+    word.store(true, SeqCst);
+    for _ in 0..pauses {
+        hint::spin_loop();
+    }
+}
+
+/// Waits until the other thread is there, for so many turns at most.
+fn meet(word: &AtomicBool) {
+    for turn in 0..TURNS {
+        if word.load(SeqCst) {
+            return;
+        }
+        if turn % 64 == 63 {
+            thread::yield_now();
+        }
+    }
+}
+
+/// A word that was not said, twice.
+fn new_word(rt: &(impl Abort + AllocGlobal)) -> (Word, Word) {
+    let word = Arc::new(rt.alloc(), AtomicBool::new(false)).expect(rt, "a word");
+    let other = Arc::try_clone(&word).expect(rt, "one more");
+    (word, other)
+}
+
+/// Ends the channel through its receiver, in another thread, which this one has met.
+fn end_by_receiver<R: Threads + Wait + Abort + AllocGlobal + Copy + Send + 'static>(
+    rt: R,
+    receiver: Receiver<Counted>,
+    round: Round,
+) -> JoinHandle<()> {
+    let (word, mine) = new_word(&rt);
+    let ending = thread::spawn(&rt, move || {
+        arrive(&word, round.pauses);
+        let _ = match round.end {
+            End::Close => receiver.close(&rt),
+            End::Drop => Ok(()),
+            End::Seal => receiver.seal(&rt),
+        };
+        drop(receiver);
+    });
+    meet(&mine);
+    ending.expect(&rt, "a thread")
+}
+
+/// The same through its sender.
+fn end_by_sender<R: Threads + Wait + Abort + AllocGlobal + Copy + Send + 'static>(
+    rt: R,
+    sender: Sender<Counted>,
+    round: Round,
+) -> JoinHandle<()> {
+    let (word, mine) = new_word(&rt);
+    let ending = thread::spawn(&rt, move || {
+        arrive(&word, round.pauses);
+        let _ = match round.end {
+            End::Close => sender.close(&rt),
+            End::Drop => Ok(()),
+            End::Seal => sender.seal(&rt),
+        };
+        drop(sender);
+    });
+    meet(&mine);
+    ending.expect(&rt, "a thread")
+}
+
+/// Whether a send can be refused so. The channel is sealed before its receiver goes.
+fn ends_send(end: End, error: SendError) -> bool {
+    match end {
+        End::Close => error == SendError::Closed,
+        End::Drop => error == SendError::ReceiveClosed,
+        End::Seal => matches!(
+            error,
+            SendError::Sealed | SendError::ReceiveClosed | SendError::Closed
+        ),
+    }
+}
+
+/// Sends a message to a channel with a place or without. It enters only where there is one.
+fn send<R: Threads + Wait + Abort + AllocGlobal + Copy + Send + 'static>(
+    rt: R,
+    round: Round,
+    drops: &Arc<Drops, Global>,
+) {
+    let (sender, receiver) = bounded(rt.alloc(), round.count).expect(&rt, "a channel");
+    let message = Counted::new(&rt, drops, 0);
+    let ending = end_by_receiver(rt, receiver, round);
+    let answer = sender.send(&rt, message);
+    ending.join(&rt);
+    holds(
+        &rt,
+        match answer {
+            Ok(()) => round.count == 1,
+            Err(error) => ends_send(round.end, error),
+        },
+    );
+    drop(sender);
+    drops.were_once(&rt, 1);
+}
+
+/// A channel with a place, and so many messages in it.
+fn filled<R: Wait + Abort + AllocGlobal>(
+    rt: &R,
+    count: usize,
+    drops: &Arc<Drops, Global>,
+) -> (Sender<Counted>, Receiver<Counted>) {
+    let (sender, receiver) = bounded(rt.alloc(), 1).expect(rt, "a channel");
+    if count == 1 {
+        equal(
+            rt,
+            sender.try_send(rt, Counted::new(rt, drops, 0)),
+            Ok(true),
+        );
+    }
+    (sender, receiver)
+}
+
+/// Receives until the channel ends. A message that is there is received, unless a close cleared it.
+fn receive<R: Threads + Wait + Abort + AllocGlobal + Copy + Send + 'static>(
+    rt: R,
+    round: Round,
+    drops: &Arc<Drops, Global>,
+) {
+    let (sender, receiver) = filled(&rt, round.count, drops);
+    let ending = end_by_sender(rt, sender, round);
+    let mut received = 0usize;
+    let mut last = receiver.recv(&rt);
+    if last.is_ok() {
+        received = 1;
+        last = receiver.recv(&rt);
+    }
+    ending.join(&rt);
+    let (error, is_closed) = match round.end {
+        End::Close => (ReceiveError::Closed, true),
+        End::Drop | End::Seal => (ReceiveError::SendClosed, false),
+    };
+    holds(&rt, matches!(last, Err(last) if last == error));
+    holds(&rt, received == round.count || (is_closed && received == 0));
+    drop(receiver);
+    drops.were_once(&rt, round.count);
+}
+
+/// Drains the channel. A message that is there is drained, unless a close cleared it.
+fn drain<R: Threads + Wait + Abort + AllocGlobal + Copy + Send + 'static>(
+    rt: R,
+    round: Round,
+    drops: &Arc<Drops, Global>,
+) {
+    let (sender, receiver) = filled(&rt, round.count, drops);
+    let mut drained = Vec::new(rt.alloc());
+    let ending = end_by_sender(rt, sender, round);
+    let answer = receiver.drain_into(&rt, &mut drained);
+    ending.join(&rt);
+    holds(
+        &rt,
+        match answer {
+            Ok(count) => count == round.count && drained.len() == count,
+            Err(error) => {
+                round.end == End::Close && error == ReceiveError::Closed && drained.is_empty()
+            },
+        },
+    );
+    drop((receiver, drained));
+    drops.were_once(&rt, round.count);
+}
+
+/// A clock that rises by one each time it is read.
+#[derive(Drop)]
+struct Rising {
+    next: Cell<u64>,
+}
+
+impl Clock for Rising {
+    fn now(&self) -> u64 {
+        let now = self.next.get();
+        self.next.set(now.wrapping_add(1));
+        now
+    }
+}
+
+/// How often a timed call reads its clock at most, nearly.
+const READS: u64 = 12;
+
+/// Sends a message to a channel without places, until the clock was read a few times.
+fn time_out<R: Threads + Wait + time::Clock + Abort + AllocGlobal + Copy + Send + 'static>(
+    rt: R,
+    round: Round,
+    drops: &Arc<Drops, Global>,
+) {
+    let (sender, receiver) = bounded(rt.alloc(), 0).expect(&rt, "a channel");
+    let message = Counted::new(&rt, drops, 0);
+    let clock = Rising { next: Cell::new(0) };
+    let ending = end_by_receiver(rt, receiver, round);
+    let answer = sender.send_timeout(&rt, message, Duration::from_nanos(READS), &clock);
+    ending.join(&rt);
+    holds(
+        &rt,
+        match answer {
+            Err(SendErrorTimeout::Timeout) => true,
+            Err(SendErrorTimeout::Closed) => round.end != End::Drop,
+            Err(SendErrorTimeout::ReceiveClosed) => round.end != End::Close,
+            Err(SendErrorTimeout::Sealed) => round.end == End::Seal,
+            _ => false,
+        },
+    );
+    drop(sender);
+    drops.were_once(&rt, 1);
+}
+
+/// Drops a send that waits.
+fn drop_waiting<R: Threads + Wait + Abort + AllocGlobal + Copy + Send + 'static>(
+    rt: R,
+    task: &MockTask,
+    round: Round,
+    drops: &Arc<Drops, Global>,
+) {
+    let (sender, receiver) = bounded(rt.alloc(), 0).expect(&rt, "a channel");
+    let sender: AsyncSender<Counted> = sender.to_async();
+    let mut sending = sender.send(Counted::new(&rt, drops, 0));
+    equal(&rt, task.poll(&mut sending), Poll::Pending);
+    let ending = end_by_receiver(rt, receiver, round);
+    drop(sending);
+    ending.join(&rt);
+    drop(sender);
+    drops.were_once(&rt, 1);
+}
+
+/// Runs all rounds of the call. How many they were.
+fn race<
+    R: Threads + Wait + time::Clock + Abort + RandomSource + AllocGlobal + Copy + Send + 'static,
+>(rt: R, call: Call) -> u32 {
+    let (task, drops) = (new_task(&rt), Drops::new(&rt));
+    let mut rounds = 0u32;
+    for number in 0..ROUNDS {
+        let round = Round::numbered(number);
+        match call {
+            Call::Send => send(rt, round, &drops),
+            Call::Receive => receive(rt, round, &drops),
+            Call::Drain => drain(rt, round, &drops),
+            Call::TimeOut => time_out(rt, round, &drops),
+            Call::DropWaiting => drop_waiting(rt, &task, round, &drops),
+        }
+        rounds = rounds.wrapping_add(1);
+    }
+    rounds
+}
+
+#[test]
+fn an_end_beside_a_send(rt: HostRuntime) {
+    equal(&rt, race(rt, Call::Send), 30_000);
+}
+
+#[test]
+fn an_end_beside_a_receive(rt: HostRuntime) {
+    equal(&rt, race(rt, Call::Receive), 30_000);
+}
+
+#[test]
+fn an_end_beside_a_drain(rt: HostRuntime) {
+    equal(&rt, race(rt, Call::Drain), 30_000);
+}
+
+#[test]
+fn an_end_beside_a_timed_send(rt: HostRuntime) {
+    equal(&rt, race(rt, Call::TimeOut), 30_000);
+}
+
+#[test]
+fn an_end_beside_the_drop_of_a_future(rt: HostRuntime) {
+    equal(&rt, race(rt, Call::DropWaiting), 30_000);
+}

@@ -1,12 +1,10 @@
-//! A hello from another thread: a clone of the sender goes there, and its words come in order.
-#![tactic(auto)]
-
+//! Channels between threads.
 use anyhow::Result;
 use kanal::Sender;
 use kanal::error::SendError;
+use std::alloc::AllocGlobal;
 use std::sync::Wait;
-use std::thread;
-use std::thread::{JoinHandle, Threads};
+use std::thread::{self, JoinHandle, Threads};
 
 /// What a thread that sends answers at its end.
 type Sent = std::result::Result<(), SendError>;
@@ -23,7 +21,12 @@ fn greet<R: Threads + Wait + Copy + Send + 'static>(
     Ok(thread)
 }
 
-fn main(rt: HostRuntime) -> Result<()> {
+/// A clone of the sender goes to a thread, whose words come in order; the last sender's drop ends the
+/// channel.
+pub fn words_from_a_thread<R>(rt: R) -> Result<()>
+where
+    R: Threads + Wait + AllocGlobal + Print + Copy + Send + 'static,
+{
     let (sender, receiver) = kanal::bounded::<&'static str>(rt.alloc(), 1)?;
     let thread = greet(rt, sender.clone(&rt)?)?;
     println!(rt; "{}", receiver.recv(&rt)?)?;
@@ -35,5 +38,15 @@ fn main(rt: HostRuntime) -> Result<()> {
     if let Err(error) = receiver.recv(&rt) {
         println!(rt; "{error}")?;
     }
+    Ok(())
+}
+
+/// A try leaves a full buffer as it is, and a receive finds none left in an empty one.
+pub fn a_full_buffer<R: Wait + AllocGlobal + Print>(rt: &R) -> Result<()> {
+    let (sender, receiver) = kanal::bounded::<u64>(rt.alloc(), 1)?;
+    println!(rt; "{}", sender.try_send(rt, 7)?)?;
+    println!(rt; "{}", sender.try_send(rt, 8)?)?;
+    println!(rt; "{}", receiver.recv(rt)?)?;
+    println!(rt; "{}", receiver.try_recv(rt)?.is_none())?;
     Ok(())
 }

@@ -1,0 +1,31 @@
+//! Loops over messages, in the two forms that get a proof.
+use anyhow::Result;
+use std::alloc::AllocGlobal;
+use std::sync::Wait;
+
+/// So many messages, and no more.
+pub fn so_many<R: Wait + AllocGlobal + Print>(rt: &R) -> Result<()> {
+    let (sender, mut receiver) = kanal::bounded::<u64>(rt.alloc(), 8)?;
+    sender.send(rt, 10)?;
+    sender.send(rt, 20)?;
+    sender.send(rt, 30)?;
+    for message in receiver.iter(rt).take(2) {
+        println!(rt; "{message}")?;
+    }
+    Ok(())
+}
+
+/// All messages, until no sender is left.
+pub fn until_the_last_sender_is_gone<R: Wait + AllocGlobal + Print>(rt: &R) -> Result<()> {
+    let (sender, receiver) = kanal::bounded::<u64>(rt.alloc(), 8)?;
+    sender.send(rt, 40)?;
+    sender.send(rt, 50)?;
+    drop(sender);
+    for _ in rt.forever() {
+        let Ok(message) = receiver.recv(rt) else {
+            break;
+        };
+        println!(rt; "{message}")?;
+    }
+    Ok(())
+}

@@ -1,7 +1,10 @@
 //! The messages that a receiver goes through.
 //!
 //! Stands on the receiver for tasks.
+ghost use Rattle.std.specs.Prelude.{IsErrOf};
+
 use crate::async_receiver::AsyncReceiver;
+use kanal_core::error::ReceiveError;
 use std::sync::Wait;
 
 /// The messages of a receiver, as `Receiver::iter` and `ReceiverView::iter` answer them.
@@ -26,4 +29,24 @@ impl<T: Drop, R: Wait> Iterator for Messages<'_, T, R> {
     fn next(&mut self) -> Option<T> {
         self.receiver.shared().recv_blocking(self.rt).ok()
     }
+}
+
+/// Hands each message that comes to the call, until a receive is refused; `Ok` where that is since no
+/// sender is left.
+pub(crate) fn for_each<T: Drop, R: Wait, F: FnMut(T)>(
+    rt: &R,
+    receiver: &AsyncReceiver<T>,
+    mut call: F,
+) -> Result<(), ReceiveError>
+    requires callable { F.IsAlwaysCallable call }
+    ensures ended { IsErrOf result ReceiveError.SendClosed → ⊥ }
+{
+    for _ in rt.forever() {
+        match receiver.shared().recv_blocking(rt) {
+            Ok(message) => call(message),
+            Err(ReceiveError::SendClosed) => return Ok(()),
+            Err(error) => return Err(error),
+        }
+    }
+    unreachable!()
 }

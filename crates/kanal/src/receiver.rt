@@ -1,12 +1,12 @@
 //! The receiver of a channel for threads.
 //!
 //! Stands on the receiver for tasks; nothing is done here but handing on.
-ghost use Rattle.std.specs.Prelude.{◌≡◌, Some, IfOk, IfErr, OnErr, codes};
+ghost use Rattle.std.specs.Prelude.{◌≡◌, Some, IfOk, IfErr, IsErrOf, OnErr, codes};
 ghost use Rattle.std.specs.Vec.{vec_capacity};
 ghost use Rattle.kanal_shared.specs.Drains.{GoesOnBy};
 
 use crate::async_receiver::AsyncReceiver;
-use crate::messages::Messages;
+use crate::messages::{Messages, for_each};
 use kanal_core::error::{CloseError, ReceiveError, ReceiveErrorTimeout, TooMany};
 use kanal_shared::Clock;
 use std::sync::Wait;
@@ -130,6 +130,27 @@ impl<T: Drop> Receiver<T> {
     /// ```
     pub fn iter<'m, R: Wait>(&'m mut self, rt: &'m R) -> Messages<'m, T, R> {
         Messages::new(rt, &self.inner)
+    }
+
+    /// Hands each message that comes to the call, until no more come. Each receive waits as a `recv`
+    /// does, and the call runs with the lock released.
+    ///
+    /// The answer is `Ok` exactly where it ended since no sender is left and nothing is in the line.
+    ///
+    /// # Errors
+    /// As `recv`, but for `SendClosed`: `Closed` where the channel was closed, `NoMemory` where memory
+    /// for a wait was refused, and `TooMany` where the tickets are used up. What was handed over before
+    /// stays so.
+    ///
+    /// # Examples
+    /// ```text
+    /// receiver.for_each(&rt, |message| sum += message)   answers  Ok(())   after the last sender's drop
+    /// ```
+    pub fn for_each<R: Wait, F: FnMut(T)>(&self, rt: &R, call: F) -> Result<(), ReceiveError>
+        requires callable { F.IsAlwaysCallable call }
+        ensures ended { IsErrOf result ReceiveError.SendClosed → ⊥ }
+    {
+        for_each(rt, &self.inner, call)
     }
 
     /// One more receiver of the channel. Where no receiver is left it stays so, and the answer is

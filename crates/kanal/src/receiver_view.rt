@@ -2,12 +2,12 @@
 //!
 //! Stands on the receiver for tasks; nothing is done here but handing on. A view is not counted: it
 //! has no clone, no conversion and no drop of its own.
-ghost use Rattle.std.specs.Prelude.{◌≡◌, IfOk, IfErr, OnErr};
+ghost use Rattle.std.specs.Prelude.{◌≡◌, IfOk, IfErr, IsErrOf, OnErr};
 ghost use Rattle.std.specs.Vec.{vec_capacity};
 ghost use Rattle.kanal_shared.specs.Drains.{GoesOnBy};
 
 use crate::async_receiver::AsyncReceiver;
-use crate::messages::Messages;
+use crate::messages::{Messages, for_each};
 use kanal_core::error::{CloseError, ReceiveError, ReceiveErrorTimeout};
 use kanal_shared::Clock;
 use std::sync::Wait;
@@ -130,6 +130,27 @@ impl<T: Drop> ReceiverView<'_, T> {
     /// ```
     pub fn iter<'m, R: Wait>(&'m mut self, rt: &'m R) -> Messages<'m, T, R> {
         Messages::new(rt, self.receiver)
+    }
+
+    /// Hands each message that comes to the call, until no more come. Each receive waits as a `recv`
+    /// does, and the call runs with the lock released.
+    ///
+    /// The answer is `Ok` exactly where it ended since no sender is left and nothing is in the line.
+    ///
+    /// # Errors
+    /// As `recv`, but for `SendClosed`: `Closed` where the channel was closed, `NoMemory` where memory
+    /// for a wait was refused, and `TooMany` where the tickets are used up. What was handed over before
+    /// stays so.
+    ///
+    /// # Examples
+    /// ```text
+    /// view.for_each(&rt, |message| sum += message)   answers  Ok(())   after the last sender's drop
+    /// ```
+    pub fn for_each<R: Wait, F: FnMut(T)>(&self, rt: &R, call: F) -> Result<(), ReceiveError>
+        requires callable { F.IsAlwaysCallable call }
+        ensures ended { IsErrOf result ReceiveError.SendClosed → ⊥ }
+    {
+        for_each(rt, self.receiver, call)
     }
 
     /// Whether no sender is left. It waits for the lock.

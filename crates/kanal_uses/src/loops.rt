@@ -1,4 +1,4 @@
-//! Loops over messages, in the two forms that get a proof.
+//! Loops over messages, in the three forms that get a proof.
 use anyhow::Result;
 use std::alloc::AllocGlobal;
 use std::sync::Wait;
@@ -27,5 +27,17 @@ pub fn until_the_last_sender_is_gone<R: Wait + AllocGlobal + Print>(rt: &R) -> R
         };
         println!(rt; "{message}")?;
     }
+    Ok(())
+}
+
+/// Each message handed to a closure, until no sender is left.
+pub fn each_handed_to_a_closure<R: Wait + AllocGlobal + Print>(rt: &R) -> Result<()> {
+    let (sender, receiver) = kanal::bounded::<u64>(rt.alloc(), 8)?;
+    sender.send(rt, 60)?;
+    sender.send(rt, 70)?;
+    drop(sender);
+    let mut sum: u64 = 0;
+    receiver.for_each(rt, |message| sum = sum.wrapping_add(message))?;
+    println!(rt; "{sum}")?;
     Ok(())
 }

@@ -19,6 +19,7 @@ fn main(rt: HostRuntime) -> Result<()> {
     timed::nothing_came(&rt)?;
     loops::so_many(&rt)?;
     loops::until_the_last_sender_is_gone(&rt)?;
+    loops::each_handed_to_a_closure(&rt)?;
     ends::sealed(&rt)?;
     ends::closed(&rt)?;
     ends::last_sender_dropped(&rt)?;

@@ -162,3 +162,24 @@ fn messages_in_a_loop(rt: HostRuntime) {
     let sum = sum.wrapping_add(sum_of(&rt, &mut receiver, 30));
     equal(&rt, sum, 6);
 }
+
+/// The sum of the messages that come, and how they ended.
+fn sum_of_each<R: Wait>(rt: &R, receiver: &Receiver<u64>) -> (u64, Result<(), ReceiveError>) {
+    let mut sum = 0u64;
+    let ended = receiver.for_each(rt, |message| sum = sum.wrapping_add(message));
+    (sum, ended)
+}
+
+#[test]
+fn each_message_is_handed_to_a_call(rt: HostRuntime) {
+    let (sender, receiver) = endless::<u64>(&rt);
+    send_four(&rt, &sender);
+    drop(sender);
+    equal(&rt, sum_of_each(&rt, &receiver), (6, Ok(())));
+    equal(&rt, receiver.close(&rt), Ok(()));
+    equal(
+        &rt,
+        sum_of_each(&rt, &receiver),
+        (0, Err(ReceiveError::Closed)),
+    );
+}

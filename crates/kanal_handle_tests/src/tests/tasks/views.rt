@@ -110,6 +110,24 @@ fn messages_one_after_the_other(rt: HostRuntime) {
     equal(&rt, sum_of(&rt, &receiver, 3), 4);
 }
 
+/// The sum of the messages that come to a view, and how they ended.
+fn sum_of_each<R: Wait>(rt: &R, receiver: &AsyncReceiver<u64>) -> (u64, Result<(), ReceiveError>) {
+    let mut sum = 0u64;
+    let view = receiver.as_sync();
+    let ended = view.for_each(rt, |message| sum = sum.wrapping_add(message));
+    (sum, ended)
+}
+
+#[test]
+fn each_message_is_handed_to_a_call(rt: HostRuntime) {
+    let (sender, receiver) = ends::<u64>(&rt, 4);
+    for message in 1..=4 {
+        equal(&rt, sender.try_send(&rt, message), Ok(true));
+    }
+    drop(sender);
+    equal(&rt, sum_of_each(&rt, &receiver), (10, Ok(())));
+}
+
 #[test]
 fn a_senders_view_asks(rt: HostRuntime) {
     let (sender, _receiver) = ends::<u64>(&rt, 2);

@@ -54,6 +54,7 @@ impl<T: Drop> Started<T> {
 
     /// Gives the wait up: it leaves the cell, and the entry is withdrawn where the cell was not
     /// settled before. It waits for nobody.
+    #[cold]
     fn leave(self, shared: &Shared<T>) {
         let Started { ticket, mut end } = self;
         match end.leave() {

@@ -38,6 +38,7 @@ impl<T: Drop> Shared<T> {
     /// ```text
     /// shared.try_recv(&rt)   answers  Ok(None)   in a new channel
     /// ```
+    #[inline]
     pub fn try_recv<R: Wait>(&self, rt: &R) -> Result<Option<T>, ReceiveError> {
         let mut locked = self.hold(rt);
         let (answer, owed) = steps::try_recv(&mut locked.core);
@@ -96,10 +97,12 @@ impl<T: Drop> Shared<T> {
     /// ```text
     /// shared.recv_blocking(&rt)   answers  Ok(7)   where 7 was sent
     /// ```
+    #[inline]
     pub fn recv_blocking<R: Wait>(&self, rt: &R) -> Result<T, ReceiveError> {
-        match self.try_recv(rt)? {
-            Some(message) => Ok(message),
-            None => self.recv_waiting(rt),
+        match self.try_recv(rt) {
+            Ok(Some(message)) => Ok(message),
+            Ok(None) => self.recv_waiting(rt),
+            Err(error) => Err(error),
         }
     }
 

@@ -53,6 +53,7 @@ impl<T: Drop> Shared<T> {
     /// ```text
     /// shared.offer(&rt, 1)   answers  Full(1)   at capacity 0, where nobody waits for a message
     /// ```
+    #[inline]
     pub fn offer<R: Wait>(&self, rt: &R, message: T) -> Offered<T>
         ensures back { IfSome (back_of result) (λ back. back ≡ message) }
     {
@@ -88,6 +89,7 @@ impl<T: Drop> Shared<T> {
     /// ```text
     /// shared.send_blocking(&rt, 7)   answers  Ok(())   in a channel with a place
     /// ```
+    #[inline]
     pub fn send_blocking<R: Wait>(&self, rt: &R, message: T) -> Result<(), SendError> {
         match self.offer(rt, message) {
             Offered::Entered => Ok(()),

@@ -79,6 +79,7 @@ impl<'a, T: Drop> ReceiveFuture<'a, T> {
     }
 
     /// Takes the front message, where the lock is free.
+    #[inline]
     fn begin(&mut self, cx: &mut Context<'_>) -> Poll<Result<T, ReceiveError>>
         requires { receive_is_over self.old ≡ true }
         ensures ends { IfReady result (λ _. receive_is_over self.new ≡ true) }
@@ -86,10 +87,42 @@ impl<'a, T: Drop> ReceiveFuture<'a, T> {
         ensures registered { OnPending result (Covers cx.new (λ s. s ≡ receive_source self.new)) }
         ensures kept { Keeps cx.old cx.new }
     {
-        let Some((mut locked, left)) = self.shared.try_hold() else {
+        let Some(mut locked) = self.shared.try_lock() else {
             self.state = State::Zero(());
             return cx.yield_now();
         };
+        if !self.shared.is_quiet() {
+            return self.begin_noticed(locked, cx);
+        }
+        let (answer, owed) = steps::try_recv(&mut locked.core);
+        match answer {
+            Ok(Some(message)) => {
+                locked.give_back(owed);
+                Poll::Ready(Ok(message))
+            },
+            Ok(None) => self.start_quiet(locked, owed, cx),
+            Err(error) => {
+                locked.give_back(owed);
+                Poll::Ready(Err(error))
+            },
+        }
+    }
+
+    /// The same, with the lock held, where there are notices.
+    #[cold]
+    fn begin_noticed(
+        &mut self,
+        locked: Locked<'_, T>,
+        cx: &mut Context<'_>,
+    ) -> Poll<Result<T, ReceiveError>>
+        requires { receive_is_over self.old ≡ true }
+        ensures ends { IfReady result (λ _. receive_is_over self.new ≡ true) }
+        ensures goes_on { OnPending result (receive_is_over self.new ≡ false) }
+        ensures registered { OnPending result (Covers cx.new (λ s. s ≡ receive_source self.new)) }
+        ensures kept { Keeps cx.old cx.new }
+    {
+        let mut locked = locked;
+        let left = locked.take_left();
         let (answer, owed) = steps::try_recv(&mut locked.core);
         let answer = match answer {
             Ok(None) => return self.start(locked, left, owed, cx),
@@ -100,7 +133,26 @@ impl<'a, T: Drop> ReceiveFuture<'a, T> {
         Poll::Ready(answer)
     }
 
+    /// Starts the wait, where there was no notice.
+    #[cold]
+    fn start_quiet(
+        &mut self,
+        locked: Locked<'_, T>,
+        owed: Owed<T>,
+        cx: &mut Context<'_>,
+    ) -> Poll<Result<T, ReceiveError>>
+        requires over { receive_is_over self.old ≡ true }
+        requires empty { IsEmpty (line_of (core_under locked)) }
+        ensures ends { IfReady result (λ _. receive_is_over self.new ≡ true) }
+        ensures goes_on { OnPending result (receive_is_over self.new ≡ false) }
+        ensures registered { OnPending result (Covers cx.new (λ s. s ≡ receive_source self.new)) }
+        ensures kept { Keeps cx.old cx.new }
+    {
+        self.start(locked, Left::nothing(), owed, cx)
+    }
+
     /// Starts the wait of a receive that found no message, with the lock held.
+    #[cold]
     fn start(
         &mut self,
         locked: Locked<'_, T>,
@@ -132,6 +184,7 @@ impl<'a, T: Drop> ReceiveFuture<'a, T> {
     }
 
     /// Looks for the end of the wait.
+    #[cold]
     fn wait(&mut self, started: Started<T>, cx: &mut Context<'_>) -> Poll<Result<T, ReceiveError>>
         requires { receive_is_over self.old ≡ true }
         ensures ends { IfReady result (λ _. receive_is_over self.new ≡ true) }

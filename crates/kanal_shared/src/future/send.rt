@@ -61,6 +61,7 @@ impl<'a, T: Drop> SendFuture<'a, T> {
     }
 
     /// Offers the message, where the lock is free.
+    #[inline]
     fn begin(&mut self, message: T, cx: &mut Context<'_>) -> Poll<Result<(), SendError>>
         requires { send_is_over self.old ≡ true }
         ensures ends { IfReady result (λ _. send_is_over self.new ≡ true) }
@@ -68,10 +69,43 @@ impl<'a, T: Drop> SendFuture<'a, T> {
         ensures registered { OnPending result (Covers cx.new (λ s. s ≡ send_source self.new)) }
         ensures kept { Keeps cx.old cx.new }
     {
-        let Some((mut locked, left)) = self.shared.try_hold() else {
+        let Some(mut locked) = self.shared.try_lock() else {
             self.state = State::Zero(message);
             return cx.yield_now();
         };
+        if !self.shared.is_quiet() {
+            return self.begin_noticed(locked, message, cx);
+        }
+        let (offered, owed) = steps::try_send(&mut locked.core, message);
+        match offered {
+            Offered::Entered => {
+                locked.give_back(owed);
+                Poll::Ready(Ok(()))
+            },
+            Offered::Full(message) => self.start_quiet(locked, owed, message, cx),
+            Offered::Refused(error, _message) => {
+                locked.give_back(owed);
+                Poll::Ready(Err(error))
+            },
+        }
+    }
+
+    /// The same, with the lock held, where there are notices.
+    #[cold]
+    fn begin_noticed(
+        &mut self,
+        locked: Locked<'_, T>,
+        message: T,
+        cx: &mut Context<'_>,
+    ) -> Poll<Result<(), SendError>>
+        requires { send_is_over self.old ≡ true }
+        ensures ends { IfReady result (λ _. send_is_over self.new ≡ true) }
+        ensures goes_on { OnPending result (send_is_over self.new ≡ false) }
+        ensures registered { OnPending result (Covers cx.new (λ s. s ≡ send_source self.new)) }
+        ensures kept { Keeps cx.old cx.new }
+    {
+        let mut locked = locked;
+        let left = locked.take_left();
         let (offered, owed) = steps::try_send(&mut locked.core, message);
         let (answer, _message) = match offered {
             Offered::Full(message) => return self.start(locked, left, owed, message, cx),
@@ -82,7 +116,27 @@ impl<'a, T: Drop> SendFuture<'a, T> {
         Poll::Ready(answer)
     }
 
+    /// Starts the wait, where there was no notice.
+    #[cold]
+    fn start_quiet(
+        &mut self,
+        locked: Locked<'_, T>,
+        owed: Owed<T>,
+        message: T,
+        cx: &mut Context<'_>,
+    ) -> Poll<Result<(), SendError>>
+        requires over { send_is_over self.old ≡ true }
+        requires full { IsFull (line_of (core_under locked)) }
+        ensures ends { IfReady result (λ _. send_is_over self.new ≡ true) }
+        ensures goes_on { OnPending result (send_is_over self.new ≡ false) }
+        ensures registered { OnPending result (Covers cx.new (λ s. s ≡ send_source self.new)) }
+        ensures kept { Keeps cx.old cx.new }
+    {
+        self.start(locked, Left::nothing(), owed, message, cx)
+    }
+
     /// Starts the wait of a message for which there was no place, with the lock held.
+    #[cold]
     fn start(
         &mut self,
         locked: Locked<'_, T>,
@@ -115,6 +169,7 @@ impl<'a, T: Drop> SendFuture<'a, T> {
     }
 
     /// Looks for the end of the wait.
+    #[cold]
     fn wait(&mut self, started: Started<T>, cx: &mut Context<'_>) -> Poll<Result<(), SendError>>
         requires { send_is_over self.old ≡ true }
         ensures ends { IfReady result (λ _. send_is_over self.new ≡ true) }

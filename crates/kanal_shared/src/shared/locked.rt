@@ -82,6 +82,13 @@ impl<T: Drop> Drop for Left<T> {
 }
 
 impl<T: Drop> Left<T> {
+    /// Of a lock under which there was no notice.
+    pub(crate) fn nothing() -> Self
+        ensures nobody { takes_nothing result }
+    {
+        Left { taken: None }
+    }
+
     /// Settles what the notices took out. The lock is released.
     #[inline]
     fn settle(self) {
@@ -129,18 +136,33 @@ impl<T: Drop> Locked<'_, T> {
     /// ```
     #[inline]
     pub fn give_back(self, owed: Owed<T>) {
+        if !owed.is_nothing() {
+            return self.give_back_owing(owed);
+        }
+        owed.settle(); // Nobody is told: so a value with nothing in it goes, and needs no drop.
         let shared = self.shared;
         self.release();
-        shared.finish(owed);
+        if !shared.is_quiet() {
+            shared.look();
+        }
+    }
+
+    /// The same, where a wait was ended.
+    #[cold]
+    fn give_back_owing(self, owed: Owed<T>) {
+        let shared = self.shared;
+        self.release();
+        owed.settle();
+        shared.look();
     }
 
     /// The same, of a lock that one try got: what the notices took out is settled first.
-    #[inline]
     pub(crate) fn give_back_left(self, left: Left<T>, owed: Owed<T>) {
         let shared = self.shared;
         self.release();
         left.settle();
-        shared.finish(owed);
+        owed.settle();
+        shared.look();
     }
 
     /// Releases the lock, and hands back what the step owes: the caller settles that later.
@@ -154,6 +176,14 @@ impl<T: Drop> Locked<'_, T> {
     pub fn give_back_unlooked(self, owed: Owed<T>) -> Owed<T> {
         self.release();
         owed
+    }
+
+    /// Applies the notices under a lock that one try got. What they take out goes back with the lock.
+    #[cold]
+    pub(crate) fn take_left(&mut self) -> Left<T> {
+        Left {
+            taken: Some(self.shared.apply(&mut self.core)),
+        }
     }
 
     /// Applies the notices. Where they take something out, the lock is released, and that is settled.
@@ -193,6 +223,18 @@ impl<T: Drop> Shared<T> {
     /// ```
     #[inline]
     pub fn hold<R: Wait>(&self, rt: &R) -> Locked<'_, T> {
+        if let Some(core) = self.core.try_lock() {
+            if self.is_quiet() {
+                return self.locked(core);
+            }
+            drop(core);
+        }
+        self.hold_anew(rt)
+    }
+
+    /// The same, where the lock was held or there are notices.
+    #[cold]
+    fn hold_anew<R: Wait>(&self, rt: &R) -> Locked<'_, T> {
         for _ in rt.forever() {
             let core = match self.core.try_lock() {
                 Some(core) => core,
@@ -209,6 +251,13 @@ impl<T: Drop> Shared<T> {
         unreachable!()
     }
 
+    /// Tries once to get the lock, and applies no notice; `None` where it is held.
+    #[inline]
+    pub(crate) fn try_lock(&self) -> Option<Locked<'_, T>> {
+        let core = self.core.try_lock()?;
+        Some(self.locked(core))
+    }
+
     /// The token of the lock that was got.
     #[inline]
     fn locked<'a>(&'a self, core: MutexGuard<'a, Core<T>>) -> Locked<'a, T> {
@@ -220,15 +269,14 @@ impl<T: Drop> Shared<T> {
     }
 
     /// Tries once to get the lock, and applies the notices; `None` where it is held.
-    #[inline]
     pub(crate) fn try_hold(&self) -> Option<(Locked<'_, T>, Left<T>)> {
-        let mut core = self.core.try_lock()?;
-        let taken = if self.is_quiet() {
-            None
+        let mut locked = self.try_lock()?;
+        let left = if self.is_quiet() {
+            Left::nothing()
         } else {
-            Some(self.apply(&mut core))
+            locked.take_left()
         };
-        Some((self.locked(core), Left { taken }))
+        Some((locked, left))
     }
 
     /// Waits for a lock that was held: with pauses between the tries, then with naps, and then asleep.
@@ -277,18 +325,8 @@ impl<T: Drop> Shared<T> {
 
     /// Whether there are no notices.
     #[inline]
-    fn is_quiet(&self) -> bool {
+    pub(crate) fn is_quiet(&self) -> bool {
         self.notices.load(SeqCst) == 0
-    }
-
-    /// The end of each call that had the lock, which is released: tells those whose waits it ended, and
-    /// looks for new notices.
-    #[inline]
-    fn finish(&self, owed: Owed<T>) {
-        owed.settle();
-        if !self.is_quiet() {
-            self.look();
-        }
     }
 
     /// Applies notices while there are some and the lock is free, and looks at most 64 times.

@@ -2,7 +2,7 @@
 use super::given::ends;
 use crate::tests::asked::{NONE_WITHOUT_PLACES, ONE_IN_TWO_PLACES, answers};
 use crate::tests::given::{equal, holds};
-use kanal::error::{CloseError, ReceiveErrorTimeout, SendErrorTimeout};
+use kanal::error::{CloseError, ReceiveError, ReceiveErrorTimeout, SendErrorTimeout};
 use kanal::{AsyncReceiver, SystemClock};
 use std::sync::Wait;
 use std::time::Duration;

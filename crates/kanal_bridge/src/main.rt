@@ -47,9 +47,9 @@ fn square_each<R>(
 where
     R: Wait + RandomSource + AllocGlobal,
 {
-    let all = numbers.stream().for_each(|number| squares
-        .send(number.wrapping_mul(number))
-        .map(|_sent| ()));
+    let all = numbers
+        .stream()
+        .for_each(|n| squares.send(n.wrapping_mul(n)).map(|_sent| ()));
     block_on(rt, all)
 }
 

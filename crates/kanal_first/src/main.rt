@@ -25,7 +25,7 @@ fn main(rt: HostRuntime) -> Result<()> {
     let thread = count(rt, sender)?;
     for _ in rt.forever() {
         let Ok(number) = receiver.recv(&rt) else {
-            break
+            break;
         };
         println!(rt; "{number}")?;
     }

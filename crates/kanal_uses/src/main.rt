@@ -1,7 +1,9 @@
 //! Short uses of a channel, one function each, in the order in which a reader meets them: between
-//! threads, between tasks, from one to the other, with a deadline, in a loop, and to the end.
+//! threads, between tasks, from one to the other, with a deadline, in a loop, and to the end; and the
+//! callers of the pages CALLING.md.
 #![tactic(auto)]
 
+mod callers;
 mod ends;
 mod loops;
 mod tasks;
@@ -9,6 +11,24 @@ mod threads;
 mod timed;
 
 use anyhow::Result;
+use callers::Square;
+use std::alloc::AllocGlobal;
+use std::sync::Wait;
+use std::thread::Threads;
+
+/// The callers of the pages for callers, each with what it answers.
+fn call_each<R: Threads + Wait + AllocGlobal + Print + Sync>(rt: &R) -> Result<()> {
+    let (sender, _receiver) = kanal::bounded::<u64>(rt.alloc(), 1)?;
+    println!(rt; "{}", callers::offer(rt, &sender, 7).1.is_none())?;
+    println!(rt; "{}", callers::through(rt.alloc(), 8).unwrap_or(0))?;
+    println!(rt; "{}", callers::handed(rt.alloc(), 9).unwrap_or(0))?;
+    println!(rt; "{}", callers::one_message(rt, rt.alloc()).unwrap_or(0))?;
+    let jobs = [Square(2), Square(3)];
+    for value in callers::by_two(rt, rt.alloc(), jobs.as_slice())? {
+        println!(rt; "{value}")?;
+    }
+    Ok(())
+}
 
 fn main(rt: HostRuntime) -> Result<()> {
     threads::words_from_a_thread(rt)?;
@@ -23,5 +43,6 @@ fn main(rt: HostRuntime) -> Result<()> {
     ends::sealed(&rt)?;
     ends::closed(&rt)?;
     ends::last_sender_dropped(&rt)?;
-    ends::last_receiver_dropped(&rt)
+    ends::last_receiver_dropped(&rt)?;
+    call_each(&rt)
 }

@@ -1,7 +1,7 @@
 //! Calls that serve or end a wait of the other side, each seen by the task that waits.
 use crate::tests::given::{channel, equal, holds, new_task};
 use futures::task::Poll;
-use kanal_core::error::ReceiveError;
+use kanal_core::error::{ReceiveError, SendError};
 use kanal_shared::Shared;
 use kanal_steps::owed::Owed;
 use kanal_steps::steps;
@@ -90,6 +90,32 @@ fn a_call_applies_the_notices_that_it_finds(rt: HostRuntime) {
     let shared = channel::<u64>(&rt, 1);
     drop_unlooked(&rt, &shared);
     equal(&rt, shared.try_recv(&rt), Err(ReceiveError::SendClosed));
+}
+
+#[test]
+fn a_poll_of_a_receive_applies_the_notices_that_it_finds(rt: HostRuntime) {
+    let shared = channel::<u64>(&rt, 1);
+    drop_unlooked(&rt, &shared);
+    let task = new_task(&rt);
+    let mut receiving = shared.recv();
+    equal(
+        &rt,
+        task.poll(&mut receiving),
+        Poll::Ready(Err(ReceiveError::SendClosed)),
+    );
+}
+
+#[test]
+fn a_poll_of_a_send_applies_the_notices_that_it_finds(rt: HostRuntime) {
+    let shared = channel::<u64>(&rt, 1);
+    drop_unlooked(&rt, &shared);
+    let task = new_task(&rt);
+    let mut sending = shared.send(7);
+    equal(
+        &rt,
+        task.poll(&mut sending),
+        Poll::Ready(Err(SendError::Sealed)),
+    );
 }
 
 /// Two futures wait; one is dropped under the lock, and the other still waits after it.

@@ -8,11 +8,12 @@ use anyhow::{Context, Result};
 use std::fs;
 
 /// The files, which lie in the folder that the program runs in.
-const FILES: [&str; 4] = [
+const FILES: [&str; 5] = [
     "scripts-first.txt",
     "scripts-waits.txt",
     "scripts-full.txt",
     "scripts-sealed.txt",
+    "scripts-examples.txt",
 ];
 
 fn main(rt: HostRuntime) -> Result<()> {

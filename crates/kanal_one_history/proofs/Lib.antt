@@ -1,0 +1,5 @@
+pub mod Telling
+pub mod Noting
+pub mod Pairing
+pub mod Settling
+pub mod Backs

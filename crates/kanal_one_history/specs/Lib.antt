@@ -1,0 +1,4 @@
+pub mod Calls
+pub mod Made
+pub mod Makes
+pub mod Results

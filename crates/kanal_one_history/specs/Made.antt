@@ -1,0 +1,76 @@
+-- What a step of the core told, before it is in the history.
+use Rattle.std.specs.Prelude.{◌≡◌, ℕ, Bool, true, false, List, [], length, map, ◌⊎◌}
+use Rattle.kanal_core.specs.declared.internal.outcome.Outcome.{Outcome}
+use Rattle.kanal_core.specs.Line.{Line}
+use Rattle.kanal_core.specs.Channel.{settlement, settlements}
+use Rattle.kanal_core.specs.Calls.{IsFull, IsEmpty}
+use Rattle.kanal_journal.specs.declared.journal.event.Event.{Event}
+use Rattle.kanal_journal.specs.declared.journal.event.Event.TheVariants.{Send, Recv, Drain, Withdraw}
+use Rattle.kanal_journal.specs.declared.journal.event.Reply.{Reply}
+use Rattle.kanal_journal.specs.declared.journal.event.Reply.TheVariants.{Cleared}
+use Rattle.kanal_journal.specs.Steps.{Told, Tells, MayRefuse}
+use Rattle.kanal_one_history.specs.declared.call.Call.{Call}
+use Rattle.kanal_one_history.specs.declared.steps.Made.{Made}
+use Rattle.kanal_one_history.specs.declared.steps.Made.TheVariants.{One, All, Shut}
+use Rattle.kanal_one_history.specs.declared.steps.Tried.{Tried}
+use Rattle.kanal_one_history.specs.declared.steps.Tried.TheVariants.{Told as WasTold, MustWait as HasToWait}
+use Rattle.kanal_one_history.specs.Calls.{call_of}
+
+module _ {T : Type 0} where
+  -- a send or a receive that waits where it must
+  abbrev pub may_wait : Event T → Bool
+  may_wait (Send m) = true
+  may_wait Recv = true
+  may_wait event = false
+
+  -- a call that needs nothing but the core, and never waits
+  abbrev pub is_plain : Event T → Bool
+  is_plain (Send m) = false
+  is_plain Recv = false
+  is_plain Drain = false
+  is_plain (Withdraw t) = false
+  is_plain event = true
+
+  -- the call finds that it must wait: there is no place for its message, or no message for it
+  abbrev pub MustWait : Line T → Event T → Type 0
+  MustWait l (Send m) = IsFull l
+  MustWait l Recv = IsEmpty l
+  MustWait l event = ⊥
+
+  -- there may be no memory for the call: a line may be refused so, or the call finds that it must wait
+  abbrev pub MayLack : Line T → Event T → Type 0
+  MayLack l event = MayRefuse l event ⊎ MustWait l event
+
+module _ {T W : Type 0} where
+  -- the reply
+  abbrev pub reply_of : Made T W → Reply T
+  reply_of (One reply settled) = reply
+  reply_of (All reply ended) = reply
+  reply_of (Shut closing) = Cleared (length closing.cleared)
+
+  -- the tickets that it settled
+  abbrev pub settled_of : Made T W → List (ℕ × Outcome T)
+  settled_of (One reply settled) = settlements settled
+  settled_of (All reply ended) = map settlement ended
+  settled_of (Shut closing) = map settlement closing.ended
+
+  -- the messages that it cleared
+  abbrev pub cleared_of : Made T W → List T
+  cleared_of (One reply settled) = []
+  cleared_of (All reply ended) = []
+  cleared_of (Shut closing) = closing.cleared
+
+  -- all that it tells, with the line after it
+  abbrev pub told_of : Line T → Made T W → Told T
+  told_of line made =
+      record { line = line; reply = reply_of made; settled = settled_of made; drained = []; cleared = cleared_of made }
+
+  -- the call of this event of which it tells
+  abbrev pub call_from : Event T → Made T W → Call T
+  call_from event made =
+      record { event = event; reply = reply_of made; settled = settled_of made; drained = []; cleared = cleared_of made }
+
+  -- the event was made; or it must wait, comes back, and nothing changed
+  abbrev pub Tries : Line T → Event T → Tried T W → Line T → Type 0
+  Tries old event (WasTold made) new = Tells old event (told_of new made)
+  Tries old event (HasToWait back) new = (back ≡ event) × (new ≡ old) × MustWait old event

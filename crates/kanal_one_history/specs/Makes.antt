@@ -1,0 +1,89 @@
+-- What a call does to the pass that makes it.
+use Rattle.std.specs.Prelude.{◌≡◌, ℕ, ◌⊎◌, true, false, List, [], ◌∷◌, ◌++◌, length, Option}
+use mathlib.Core.List.{IsPrefix}
+use Rattle.kanal_board.specs.Views.{Known}
+use Rattle.kanal_core.specs.declared.internal.outcome.Outcome.{Outcome}
+use Rattle.kanal_journal.specs.declared.journal.event.Event.{Event}
+use Rattle.kanal_journal.specs.declared.journal.event.Reply.{Reply}
+use Rattle.kanal_journal.specs.declared.journal.event.Reply.TheVariants.{Waits}
+use Rattle.kanal_journal.specs.Steps.{step}
+use Rattle.kanal_journal.specs.Replays.{is_no_memory, no_memory}
+use Rattle.kanal_one_history.specs.declared.call.Call.{Call}
+use Rattle.kanal_one_history.specs.declared.blocking.Came.{Came}
+use Rattle.kanal_one_history.specs.declared.blocking.Came.TheVariants.{Replied, Settled, Lacking}
+use Rattle.kanal_one_history.specs.declared.steps.Made.{Made}
+use Rattle.kanal_one_history.specs.declared.steps.Tried.{Tried}
+use Rattle.kanal_one_history.specs.declared.steps.Tried.TheVariants.{Told as WasTold, MustWait as HasToWait}
+use Rattle.kanal_one_history.specs.Calls.{call_of, line_after, HasSettled}
+use Rattle.kanal_one_history.specs.Made.{MayLack, MustWait, reply_of, settled_of, call_from}
+
+module _ {T : Type 0} where
+  -- the pass made this call: it is the last of a history that goes on from what the pass had seen, its place is the pass's own, and one line of messages tells so after all the calls before it
+  pub record Makes (capacity : Option ℕ) (old new : Known (Call T)) (call : Call T) : Type 0 where
+    pub before : List (Call T)
+    pub seen : IsPrefix old.log before
+    pub last : new.log ≡ before ++ call ∷ []
+    pub own : new.own ≡ length before ∷ old.own
+    pub told : call ≡ call_of call.event (step (line_after capacity before) call.event)
+
+  -- the pass has seen more of the history, and made no call
+  pub record Looks (old new : Known (Call T)) : Type 0 where
+    pub seen : IsPrefix old.log new.log
+    pub own : new.own ≡ old.own
+
+  -- there was no memory for the call, which is in no history: what the pass has seen now ends where there may be none for it
+  pub record Lacks (capacity : Option ℕ) (old new : Known (Call T)) (event : Event T) : Type 0 where
+    pub looks : Looks old new
+    pub may : MayLack (line_after capacity new.log) event
+
+  -- the pass made a call of this event, and the answer is what its reply reads as
+  pub record IsReplied {R : Type 0} (capacity : Option ℕ) (old new : Known (Call T)) (event : Event T) (read : Reply T → R) (answer : R) : Type 0 where
+    pub call : Call T
+    pub made : Makes capacity old new call
+    pub asked : call.event ≡ event
+    pub reads : answer ≡ read call.reply
+
+  -- the pass made a call of this event, which waited under a ticket; a call of the history settled the ticket so, and the pass has learnt of that
+  pub record HasWaited (capacity : Option ℕ) (old new : Known (Call T)) (event : Event T) (outcome : Outcome T) : Type 0 where
+    pub ticket : ℕ
+    pub mid : Known (Call T)
+    pub waits : IsReplied capacity old mid event (λ reply. reply) (Waits ticket)
+    pub learns : Looks mid new
+    pub settled : HasSettled new.log (ticket, outcome)
+
+  -- a call that never waits: it was made, or there was no memory for it
+  abbrev pub Comes : {R : Type 0} → Option ℕ → Known (Call T) → Known (Call T) → Event T → (Reply T → R) → R → R → Type 0
+  Comes capacity old new event read refused answer =
+      IsReplied capacity old new event read answer ⊎ (Lacks capacity old new event × (answer ≡ refused))
+
+  -- the same, where the reply itself is the answer
+  abbrev pub IsAnswered : Option ℕ → Known (Call T) → Known (Call T) → Event T → Reply T → Type 0
+  IsAnswered capacity old new event reply = Comes capacity old new event (λ reply. reply) (no_memory event) reply
+
+  -- its wait was settled, and the answer is what became of it
+  abbrev pub IsSettled : {R : Type 0} → Option ℕ → Known (Call T) → Known (Call T) → Event T → (Outcome T → R) → R → Type 0
+  IsSettled capacity old new event read answer = (outcome : Outcome T) × HasWaited capacity old new event outcome × (answer ≡ read outcome)
+
+  -- a call that may wait: it was made at once, it waited and was settled, or there was no memory for it
+  abbrev pub Finishes : {R : Type 0} → Option ℕ → Known (Call T) → Known (Call T) → Event T → (Reply T → R) → (Outcome T → R) → R → R → Type 0
+  Finishes capacity old new event read ended refused answer =
+      IsReplied capacity old new event read answer
+      ⊎ IsSettled capacity old new event ended answer
+      ⊎ (Lacks capacity old new event × (answer ≡ refused))
+
+  -- what a call came to that waits where it must
+  abbrev pub HasCome : Option ℕ → Known (Call T) → Known (Call T) → Event T → Came T → Type 0
+  HasCome capacity old new event (Replied reply) = IsAnswered capacity old new event reply
+  HasCome capacity old new event (Settled outcome) = HasWaited capacity old new event outcome
+  HasCome capacity old new event Lacking = Lacks capacity old new event
+
+module _ {T W : Type 0} where
+  -- the call is in the history; or there was no memory, and it is in none
+  pub record IsNoted (capacity : Option ℕ) (old new : Known (Call T)) (event : Event T) (made : Made T W) : Type 0 where
+    pub stands : is_no_memory (reply_of made) ≡ false → Makes capacity old new (call_from event made)
+    pub lacks : is_no_memory (reply_of made) ≡ true → Lacks capacity old new event × (reply_of made ≡ no_memory event) × (settled_of made ≡ [])
+
+  -- the same of a call that waits where it must; one that must comes back, and the pass has seen that it must
+  abbrev pub IsTried : Option ℕ → Known (Call T) → Known (Call T) → Event T → Tried T W → Type 0
+  IsTried capacity old new event (WasTold made) = IsNoted capacity old new event made
+  IsTried capacity old new event (HasToWait back) = (back ≡ event) × Looks old new × MustWait (line_after capacity new.log) event

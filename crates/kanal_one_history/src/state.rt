@@ -1,0 +1,157 @@
+//! What lies under the lock: the core, and the keeper of the history that leaves it.
+//!
+//! Stands on the steps and on a board's keeper. Each call lends the core to one step and puts the call
+//! that was made into the history, before the lock is given back; a call that is refused for memory is
+//! in no history. Nothing else writes the history.
+ghost use Rattle.std.specs.Prelude.{◌≡◌, ◌∷◌, ◌++◌, [], true, false};
+ghost use Rattle.kanal_board.specs.Views.{known};
+ghost use Rattle.kanal_core.specs.Channel.{line_of};
+ghost use Rattle.kanal_core.specs.Line.{Line};
+ghost use Rattle.kanal_journal.specs.Replays.{is_no_memory};
+ghost use Rattle.kanal_journal.specs.Runs.{opening_line};
+ghost use Rattle.kanal_journal.specs.Steps.{Tells};
+ghost use Rattle.kanal_one_history.specs.Calls.{IsLegal, line_after};
+ghost use Rattle.kanal_one_history.specs.Made.{call_from, is_plain, may_wait, reply_of, told_of};
+ghost use Rattle.kanal_one_history.specs.Makes.{IsNoted, IsTried};
+
+use crate::call::Call;
+use crate::delivered::Settler;
+use crate::pass::Pass;
+use crate::steps;
+use crate::steps::{Made, Tried};
+use kanal_board::{Board, EntryOf, Keeper, Naming, Said};
+use kanal_core::internal::ChannelInternal;
+use kanal_journal::journal::Event;
+use std::marker::Model;
+
+/// The entry of a call: what was asked, and what the step told.
+struct OfCall;
+
+impl<T, W> EntryOf<Said<Event<T>>, Made<T, W>, Call<T>> for OfCall {
+    ghost use Rattle.kanal_one_history.specs.Made.{call_from};
+
+    ghost entry = { λ event made. call_from event made };
+}
+
+/// The core, and the keeper of the history. Contracts see the calls of the history.
+///
+/// Its type keeps that the core's line is the line after the history, and that the history is legal.
+#[derive(Drop)]
+pub(crate) struct State<T, J: Naming> {
+    core: ChannelInternal<T, Settler<T, J>>,
+    keeper: Keeper<Call<T>, J>,
+}
+
+impl<T, J: Naming> Model for State<T, J> {
+    ghost use Rattle.std.specs.Prelude.{◌≡◌, List};
+    ghost use Rattle.kanal_core.specs.Channel.{line_of};
+    ghost use Rattle.kanal_one_history.specs.declared.call.Call.{Call};
+    ghost use Rattle.kanal_one_history.specs.Calls.{IsLegal, line_after};
+
+    ghost Value = { List (Call T) };
+
+    ghost view = { λ s. s.keeper };
+
+    ghost invariant = { λ s. (line_of s.core ≡ line_after J.capacity s.keeper)
+        × IsLegal J.capacity s.keeper };
+}
+
+/// Puts the call that was made into the history, and shows it to the pass; or shows what is there, where
+/// there was no memory for the call.
+fn note<T: Drop, W: Drop, J: Naming>(
+    keeper: &mut Keeper<Call<T>, J>,
+    board: &Board<Call<T>, J>,
+    pass: &mut Pass<T, J>,
+    asked: &Said<Event<T>>,
+    made: &Made<T, W>,
+)
+    requires legal { IsLegal J.capacity keeper.old }
+    requires told { (new : Line _) × Tells (line_after J.capacity keeper.old) asked.now
+        (told_of new made.now) }
+    ensures added { is_no_memory (reply_of made.now) ≡ false
+        → keeper.new ≡ keeper.old ++ call_from asked.now made.now ∷ [] }
+    ensures same { is_no_memory (reply_of made.now) ≡ true → keeper.new ≡ keeper.old }
+    ensures noted { IsNoted J.capacity pass.old pass.new asked.now made.now }
+{
+    if made.lacks_memory() {
+        keeper.show(board, &mut pass.front);
+    } else {
+        keeper.append_of::<Said<Event<T>>, Made<T, W>, OfCall>(board, &mut pass.front, asked, made);
+    }
+}
+
+impl<T: Drop, J: Naming> State<T, J> {
+    /// A new core with an empty history.
+    pub(crate) fn new(
+        core: ChannelInternal<T, Settler<T, J>>,
+        keeper: Keeper<Call<T>, J>,
+    ) -> State<T, J>
+        requires empty { keeper ≡ [] }
+        requires core { line_of core ≡ opening_line J.capacity }
+        ensures { result ≡ [] }
+    {
+        State { core, keeper }
+    }
+
+    /// A pass that has seen all, and owns nothing.
+    pub(crate) fn pass(&mut self, board: &Board<Call<T>, J>) -> Pass<T, J>
+        ensures all { result ≡ known self.old [] }
+        ensures same { self.new ≡ self.old }
+    {
+        Pass {
+            front: self.keeper.read(board),
+        }
+    }
+
+    /// Makes a call that never waits.
+    pub(crate) fn call(
+        &mut self,
+        board: &Board<Call<T>, J>,
+        pass: &mut Pass<T, J>,
+        event: Event<T>,
+    ) -> Made<T, Settler<T, J>>
+        requires plain { is_plain event ≡ true }
+        ensures noted { IsNoted J.capacity pass.old pass.new event result }
+    {
+        let asked = Said::of(&event);
+        let made = steps::make(&mut self.core, event);
+        note(&mut self.keeper, board, pass, &asked, &made);
+        made
+    }
+
+    /// Makes a send or a receive, unless it must wait: the pass has seen that it must then.
+    pub(crate) fn start(
+        &mut self,
+        board: &Board<Call<T>, J>,
+        pass: &mut Pass<T, J>,
+        event: Event<T>,
+    ) -> Tried<T, Settler<T, J>>
+        requires waits { may_wait event ≡ true }
+        ensures tried { IsTried J.capacity pass.old pass.new event result }
+    {
+        let asked = Said::of(&event);
+        let tried = steps::start(&mut self.core, event);
+        match &tried {
+            Tried::Told(made) => note(&mut self.keeper, board, pass, &asked, made),
+            Tried::MustWait(_back) => self.keeper.show(board, &mut pass.front),
+        }
+        tried
+    }
+
+    /// Makes a send or a receive, and starts its wait with the settler where it must.
+    pub(crate) fn wait(
+        &mut self,
+        board: &Board<Call<T>, J>,
+        pass: &mut Pass<T, J>,
+        event: Event<T>,
+        settler: Settler<T, J>,
+    ) -> (Made<T, Settler<T, J>>, Option<Settler<T, J>>)
+        requires waits { may_wait event ≡ true }
+        ensures noted { IsNoted J.capacity pass.old pass.new event result.0 }
+    {
+        let asked = Said::of(&event);
+        let (made, back) = steps::make_waiting(&mut self.core, event, settler);
+        note(&mut self.keeper, board, pass, &asked, &made);
+        (made, back)
+    }
+}

@@ -1,0 +1,5 @@
+//! Tests of a channel with one history.
+#![tactic(auto)]
+
+#[cfg(test)]
+mod tests;

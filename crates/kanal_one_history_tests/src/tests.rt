@@ -1,0 +1,5 @@
+//! The tests of a channel with one history, and what they share.
+mod given;
+mod passes;
+mod rows;
+mod threads;

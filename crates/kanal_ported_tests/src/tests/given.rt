@@ -18,7 +18,7 @@ pub const PLACES: usize = 10_000;
 pub const THREADS: u64 = 8;
 
 /// How often a test looks whether others have come as far as it wants, before it fails.
-pub const TURNS: u32 = 1_000_000;
+pub const TURNS: u32 = 100_000_000;
 
 /// Ends the test, and shows both values, unless the answer is the expected one.
 pub fn equal<A: PartialEq + Debug + Drop>(rt: &impl Abort, answer: A, expected: A) {

@@ -2,13 +2,15 @@
 //!
 //! `kanal_bench SCENARIO CAPACITY COUNT`: SCENARIO is `seq` (one thread sends and receives in turn),
 //! `spsc` (one thread sends, one receives), `mpsc` (four send, one receives) or `mpmc` (four send,
-//! four receive); `async-seq`, `async-spsc` and `async-mpmc` are the same in tasks, one a thread. A
-//! further one, `wait`, waits for a message that nobody sends, for COUNT milliseconds of the system's
-//! clock, and prints how that ended. CAPACITY is a number, or `u` for a channel without limit. Each of
-//! k senders sends the numbers 0, 1, .. below COUNT / k. It joins all threads before it prints.
+//! four receive); `async-seq`, `async-spsc` and `async-mpmc` are the same in tasks, one a thread, and
+//! `history-seq` is `seq` on a channel with one history. A further one, `wait`, waits for a message
+//! that nobody sends, for COUNT milliseconds of the system's clock, and prints how that ended. CAPACITY
+//! is a number, or `u` for a channel without limit. Each of k senders sends the numbers 0, 1, .. below
+//! COUNT / k. It joins all threads before it prints.
 #![tactic(auto)]
 
 mod crowd;
+mod one_history;
 mod tasks;
 mod threads;
 
@@ -44,6 +46,8 @@ enum Work {
     TaskInTurn,
     /// Tasks, one a thread.
     InTasks(Crowd),
+    /// One thread, which sends and receives in turn on a channel with one history.
+    InOneHistory,
 }
 
 impl Scenario {
@@ -57,6 +61,7 @@ impl Scenario {
             "async-seq" => Some(Scenario::Messages(Work::TaskInTurn)),
             "async-spsc" => Some(Scenario::Messages(Work::InTasks(ONE_TO_ONE))),
             "async-mpmc" => Some(Scenario::Messages(Work::InTasks(FOUR_TO_FOUR))),
+            "history-seq" => Some(Scenario::Messages(Work::InOneHistory)),
             "wait" => Some(Scenario::Wait),
             _ => None,
         }
@@ -64,7 +69,10 @@ impl Scenario {
 
     /// Whether it can't end without a buffer.
     fn wants_a_buffer(self) -> bool {
-        matches!(self, Scenario::Messages(Work::InTurn | Work::TaskInTurn))
+        matches!(
+            self,
+            Scenario::Messages(Work::InTurn | Work::TaskInTurn | Work::InOneHistory)
+        )
     }
 }
 
@@ -116,11 +124,11 @@ impl Order {
     fn of(scenario: &str, capacity: &str, count: &str) -> Result<Self> {
         let Some(scenario) = Scenario::named(scenario) else {
             bail!(
-                "the scenario is seq, spsc, mpsc, mpmc, async-seq, async-spsc, async-mpmc or wait"
+                "the scenario is seq, spsc, mpsc, mpmc, async-seq, async-spsc, async-mpmc, history-seq or wait"
             );
         };
         if scenario.wants_a_buffer() && capacity == "0" {
-            bail!("seq and async-seq want a capacity above 0");
+            bail!("seq, async-seq and history-seq want a capacity above 0");
         }
         let Ok(count) = count.parse::<u64>() else {
             bail!("the count is a number");
@@ -160,6 +168,7 @@ where
         Work::InTasks(crowd) => {
             tasks::in_threads(rt, alloc, capacity.open_async(alloc)?, crowd, count)
         },
+        Work::InOneHistory => one_history::in_turn(&rt, alloc, capacity, count),
     }
 }
 

@@ -1,0 +1,63 @@
+//! The scenario of one thread on a channel with one history, beside that of the plain handles.
+ghost use Rattle.std.specs.Prelude.{◌≡◌, Some, None};
+ghost use Rattle.kanal_board.specs.Boards.{table_of};
+
+use crate::Capacity;
+use anyhow::Result;
+use kanal_one_history::{Call, Channel, Naming, Opened, Pass};
+use std::alloc::Global;
+use std::marker::Brand;
+use std::sync::Wait;
+
+/// Sends the numbers below the count, receives each at once, and answers their sum.
+fn add_up<J: Naming, R: Wait>(
+    rt: &R,
+    channel: &Channel<u64, J>,
+    mut pass: Pass<u64, J>,
+    count: u64,
+) -> Result<u64> {
+    let mut sum = 0u64;
+    for number in 0..count {
+        channel.send(rt, &mut pass, number)?;
+        sum = sum.wrapping_add(channel.recv(rt, &mut pass)?);
+    }
+    Ok(sum)
+}
+
+/// The same on a new channel for so many messages.
+fn bounded<J: Naming, R: Wait>(
+    rt: &R,
+    alloc: Global,
+    capacity: usize,
+    opened: Opened<Call<u64>>,
+    count: u64,
+) -> Result<u64>
+    requires name { table_of opened ≡ J.table }
+    requires capacity { J.capacity ≡ Some capacity }
+{
+    let (channel, pass) = Channel::<u64, J>::bounded(alloc, capacity, opened)?;
+    add_up(rt, &channel, pass, count)
+}
+
+/// The same on a new channel without limit.
+fn unbounded<J: Naming, R: Wait>(
+    rt: &R,
+    alloc: Global,
+    opened: Opened<Call<u64>>,
+    count: u64,
+) -> Result<u64>
+    requires name { table_of opened ≡ J.table }
+    requires capacity { J.capacity ≡ None }
+{
+    let (channel, pass) = Channel::<u64, J>::unbounded(alloc, opened);
+    add_up(rt, &channel, pass, count)
+}
+
+/// Sends and receives in turn, in this thread.
+pub fn in_turn<R: Wait>(rt: &R, alloc: Global, capacity: Capacity, count: u64) -> Result<u64> {
+    let opened = Opened::new(alloc)?;
+    match capacity {
+        Capacity::Limited(places) => bounded::<Brand, _>(rt, alloc, places, opened, count),
+        Capacity::Unlimited => unbounded::<Brand, _>(rt, alloc, opened, count),
+    }
+}

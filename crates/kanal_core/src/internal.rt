@@ -69,7 +69,7 @@ fn pop_sender<T, W>(waiters: &mut WaitList<T, W>) -> (T, Settled<T, W>)
 }
 
 /// Moves the oldest waiting sender's message to the buffer's back, where it has a place.
-#[inline]
+#[inline(always)]
 fn let_in<T, W>(buffer: &mut Buffer<T>, waiters: &mut WaitList<T, W>) -> Option<Settled<T, W>>
     requires { sender_first waiters.old ≡ true → HasOnePlace buffer.old }
     ensures { LetsIn buffer.old waiters.old result buffer.new waiters.new }

@@ -45,6 +45,7 @@ pub use steps::Steps;
 use wait_list::WaitList;
 
 /// Gives the message to the oldest waiting receiver.
+#[cold]
 fn hand_over<T, W>(waiters: &mut WaitList<T, W>, message: T) -> Settled<T, W>
     requires one { receiver_first waiters.old ≡ true }
     ensures { HandsOver waiters.old message result waiters.new }
@@ -56,6 +57,7 @@ fn hand_over<T, W>(waiters: &mut WaitList<T, W>, message: T) -> Settled<T, W>
 }
 
 /// Takes the oldest waiting sender's message.
+#[cold]
 fn pop_sender<T, W>(waiters: &mut WaitList<T, W>) -> (T, Settled<T, W>)
     requires one { sender_first waiters.old ≡ true }
     ensures { TakesSender waiters.old result.0 result.1 waiters.new }
@@ -67,6 +69,7 @@ fn pop_sender<T, W>(waiters: &mut WaitList<T, W>) -> (T, Settled<T, W>)
 }
 
 /// Moves the oldest waiting sender's message to the buffer's back, where it has a place.
+#[inline(always)]
 fn let_in<T, W>(buffer: &mut Buffer<T>, waiters: &mut WaitList<T, W>) -> Option<Settled<T, W>>
     requires { sender_first waiters.old ≡ true → HasOnePlace buffer.old }
     ensures { LetsIn buffer.old waiters.old result buffer.new waiters.new }
@@ -214,6 +217,7 @@ impl<T, W> ChannelInternal<T, W> {
     /// core.offer(1)   answers  Entered
     /// core.offer(2)   answers  Full(2)
     /// ```
+    #[inline(always)]
     pub fn offer(&mut self, message: T) -> Offer<T, W>
         ensures step { Offers (line_of self.old) message result (line_of self.new) }
         ensures entered { HasEntered result → (self.old.receivers ≢ 0) × (self.old.senders ≢ 0)
@@ -255,6 +259,7 @@ impl<T, W> ChannelInternal<T, W> {
     /// core.take()   answers  Got(1, None)   where 1 was in the buffer and nobody waits
     /// core.take()   answers  Empty          after that
     /// ```
+    #[inline(always)]
     pub fn take(&mut self) -> Take<T, W>
         ensures step { Takes (line_of self.old) result (line_of self.new) }
         ensures waiter { OldestLeft self.old.waiters (let_in result) self.new.waiters }
@@ -270,6 +275,7 @@ impl<T, W> ChannelInternal<T, W> {
     }
 
     /// Takes the oldest waiting sender's message, where the buffer is empty.
+    #[cold]
     fn take_waiting(&mut self) -> Take<T, W>
         requires open { self.old.receivers ≢ 0 }
         requires empty { self.old.buffer ≡ [] }

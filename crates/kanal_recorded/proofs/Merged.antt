@@ -1,13 +1,14 @@
--- A merged journal has as many entries as the lists together.
-use Rattle.std.proofs.Common.{◌≡◌, ℕ, zero, suc, ◌+◌, ◌<◌, Bool, true, false, cond, nat_eq, List, [], ◌∷◌, length, get_or, refl, sym, ap, ◌∙◌, arith}
+-- A merged journal has as many entries as the lists together, and lists of its entries that are as many are merged in it.
+use Rattle.std.proofs.Common.{◌≡◌, ℕ, zero, suc, ◌+◌, ◌<◌, ◌≤◌, Bool, true, false, cond, nat_eq, List, [], ◌∷◌, length, get_or, refl, sym, ap, ◌∙◌, arith}
 use Rattle.std.specs.Prelude.{◌≢◌}
 use Rattle.std.specs.List.{All, AllPairs, Any, sum_by}
 use Rattle.std.proofs.lemmas.Bool.Decides.{nat_tests}
 use Rattle.std.proofs.lemmas.List.{length-map}
 use Rattle.std.proofs.lemmas.List.Sums.{sum_by-cons}
+use Rattle.std.proofs.lemmas.List.Elements.{All-cons, All-nil}
 use Rattle.kanal_journal.specs.declared.journal.recorder.Entry.{Entry}
 use Rattle.kanal_recorded.specs.Passes.{Calls}
-use Rattle.kanal_recorded.specs.Merges.{Placed, placed, calls_of, IsOwn, IsMerged}
+use Rattle.kanal_recorded.specs.Merges.{Placed, placed, calls_of, IsOwn, IsAmong, IsMerged}
 
 same-test : (a b : ℕ) → a ≡ b → nat_eq a b ≡ true
 same-test a b h = grind (arith, nat_tests, h)
@@ -81,3 +82,71 @@ module _ {T : Type 0} where
 
   pub counted : (es : List (Entry T)) (ps : List (Calls T)) → IsMerged es ps → sum_by (λ p. length p.notes) ps ≡ length es
   counted es ps m = notes_total ps es m.own ∙ total_is ps es m.apart m.known
+
+  one_hit_at_most : (b : Bool) (q : ℕ) (p : Calls T) (ps : List (Calls T)) → nat_eq q p.party ≡ b → (q ≡ p.party → hits q ps ≡ 0) → hits q ps ≤ 1 → cond b 1 0 + hits q ps ≤ 1
+  one_hit_at_most true q p ps is none most = omega (arith, none (grind (arith, nat_tests, is)))
+  one_hit_at_most false q p ps is none most = omega (arith, most)
+
+  hits_most : (q : ℕ) (ps : List (Calls T)) → AllPairs (λ a b. a.party ≢ b.party) ps → hits q ps ≤ 1
+  hits_most q [] a = omega arith
+  hits_most q (p ∷ ps) a =
+      let rest : hits q ps ≤ 1 = hits_most q ps (λ i j d m n. a (suc i) (suc j) d (omega arith) (omega arith)) in
+      one_hit_at_most (nat_eq q p.party) q p ps refl (λ here. no_hits q ps (λ k d m. λ w. a 0 (suc k) d (omega arith) (omega arith) (sym here ∙ w))) rest
+
+  total_most : (ps : List (Calls T)) (es : List (Entry T)) → AllPairs (λ a b. a.party ≢ b.party) ps → total ps es ≤ length es
+  total_most ps [] a = omega (arith, total_nil ps)
+  total_most ps (e ∷ es) a = omega (arith, total_cons ps e es, hits_most e.party ps a, total_most ps es a)
+
+  any_there : (q : ℕ) (p : Calls T) (ps : List (Calls T)) → Any (λ x. x.party ≡ q) ps → Any (λ x. x.party ≡ q) (p ∷ ps)
+  any_there q p ps h = (suc h.0, h.1, omega (arith, h.2), h.3, h.4)
+
+  any_hit_by : (b : Bool) (q : ℕ) (p : Calls T) (ps : List (Calls T)) → nat_eq q p.party ≡ b → (hits q ps ≡ 1 → Any (λ x. x.party ≡ q) ps) → cond b 1 0 + hits q ps ≡ 1 → Any (λ x. x.party ≡ q) (p ∷ ps)
+  any_hit_by true q p ps is rest one =
+      let here : p.party ≡ q = grind (arith, nat_tests, is) in
+      (0, p, omega arith, refl, here)
+  any_hit_by false q p ps is rest one = any_there q p ps (rest (omega (arith, one)))
+
+  any_hit : (q : ℕ) (ps : List (Calls T)) → hits q ps ≡ 1 → Any (λ p. p.party ≡ q) ps
+  any_hit q [] h = absurd (omega (arith, h))
+  any_hit q (p ∷ ps) h = any_hit_by (nat_eq q p.party) q p ps refl (any_hit q ps) h
+
+  all_known : (ps : List (Calls T)) (es : List (Entry T)) → AllPairs (λ a b. a.party ≢ b.party) ps → total ps es ≡ length es → All (λ e. Any (λ p. p.party ≡ e.party) ps) es
+  all_known ps [] a h = All-nil (λ (e : Entry T). Any (λ (p : Calls T). p.party ≡ e.party) ps)
+  all_known ps (e ∷ es) a h =
+      let parts = total_cons ps e es in
+      let one : hits e.party ps ≤ 1 = hits_most e.party ps a in
+      let most : total ps es ≤ length es = total_most ps es a in
+      All-cons (λ (x : Entry T). Any (λ (p : Calls T). p.party ≡ x.party) ps) e es
+      (any_hit e.party ps (omega (arith, parts, one, most, h)))
+      (all_known ps es a (omega (arith, parts, one, most, h)))
+
+  notes_most : (ps : List (Calls T)) (es : List (Entry T)) → All (IsAmong es) ps → sum_by (λ p. length p.notes) ps ≤ total ps es
+  notes_most [] es h = omega arith
+  notes_most (p ∷ ps) es h =
+      let head = sum_by-cons (λ (v : Calls T). length v.notes) p ps in
+      let here : length p.notes ≤ count p.party es = omega (arith, (h 0 p (omega arith)).0, calls_length p.party 0 es) in
+      let rest : sum_by (λ (v : Calls T). length v.notes) ps ≤ total ps es = notes_most ps es (λ k d l. h (suc k) d (omega arith)) in
+      omega (arith, head, here, rest)
+
+  all_own : (ps : List (Calls T)) (es : List (Entry T)) → All (IsAmong es) ps → sum_by (λ p. length p.notes) ps ≡ total ps es → All (IsOwn es) ps
+  all_own [] es h same = All-nil (IsOwn es)
+  all_own (p ∷ ps) es h same =
+      let head = sum_by-cons (λ (v : Calls T). length v.notes) p ps in
+      let among = h 0 p (omega arith) in
+      let calls = calls_length p.party 0 es in
+      let here : length p.notes ≤ count p.party es = omega (arith, among.0, calls) in
+      let tail : All (IsAmong es) ps = λ k d l. h (suc k) d (omega arith) in
+      let rest : sum_by (λ (v : Calls T). length v.notes) ps ≤ total ps es = notes_most ps es tail in
+      All-cons (IsOwn es) p ps
+      (among.1 (omega (arith, head, here, rest, calls, same)))
+      (all_own ps es tail (omega (arith, head, here, rest, same)))
+
+  pub merged : (es : List (Entry T)) (ps : List (Calls T)) → AllPairs (λ a b. a.party ≢ b.party) ps → sum_by (λ p. length p.notes) ps ≡ length es → All (IsAmong es) ps → IsMerged es ps
+  merged es ps a same among =
+      let most : total ps es ≤ length es = total_most ps es a in
+      let notes : sum_by (λ (v : Calls T). length v.notes) ps ≤ total ps es = notes_most ps es among in
+      record {
+        apart = a;
+        known = all_known ps es a (omega (arith, most, notes, same));
+        own = all_own ps es among (omega (arith, most, notes, same));
+      }

@@ -1,5 +1,5 @@
 -- One journal that is made of several parties' calls.
-use Rattle.std.specs.Prelude.{◌≡◌, ◌≢◌, ℕ, ◌+◌, ◌<◌, ◌≤◌, Bool, true, nat_eq, cond, List, [], ◌∷◌, map, Option, slice_index_or}
+use Rattle.std.specs.Prelude.{◌≡◌, ◌≢◌, ℕ, ◌+◌, ◌<◌, ◌≤◌, Bool, true, nat_eq, cond, List, [], ◌∷◌, length, map, Option, slice_index_or}
 use Rattle.std.specs.List.{All, AllPairs, Any}
 use Rattle.kanal_journal.specs.declared.journal.event.Event.{Event}
 use Rattle.kanal_journal.specs.declared.journal.event.Reply.{Reply}
@@ -36,9 +36,13 @@ module _ {T : Type 0} where
   abbrev pub IsOwn : List (Entry T) → Calls T → Type 0
   IsOwn entries p = (map placed p.notes ≡ calls_of p.party 0 entries) × All (λ n. n.seen ≤ n.place) p.notes
 
-  -- the note is of this entry, which is at this place
-  abbrev pub IsNoteOf : Entry T → ℕ → Note T → Type 0
-  IsNoteOf e place n = (n.event ≡ e.event) × (n.reply ≡ e.reply) × (n.place ≡ place) × (n.seen ≤ n.place)
+  -- the pass has no more notes than the journal has calls of its party, and its list is what the journal has if there are as many
+  abbrev pub IsAmong : List (Entry T) → Calls T → Type 0
+  IsAmong entries p = (length p.notes ≤ length (calls_of p.party 0 entries)) × (length p.notes ≡ length (calls_of p.party 0 entries) → IsOwn entries p)
+
+  -- the note is of this entry, and its place is not before what was seen
+  abbrev pub IsNoteOf : Entry T → Note T → Type 0
+  IsNoteOf e n = (n.event ≡ e.event) × (n.reply ≡ e.reply) × (n.seen ≤ n.place)
 
   -- no pass before this one has its party
   abbrev pub IsApart : List (Calls T) → ℕ → Type 0

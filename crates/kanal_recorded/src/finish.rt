@@ -3,21 +3,24 @@
 //! Stands on the passes' lists and on the journal's entries, and asks for no memory. It is the one
 //! place that compares messages, by the type's own `==`.
 ghost use Rattle.std.specs.Prelude.{◌≡◌, ◌≢◌, ◌<◌, true, length};
-ghost use Rattle.std.specs.List.{All, AllPairs, Any};
-ghost use Rattle.kanal_recorded.specs.Merges.{IsMerged, IsApart, IsNoteOf, IsOwn, IsIdentity};
+ghost use Rattle.std.specs.List.{All, AllPairs, sum_by};
+ghost use Rattle.kanal_recorded.specs.Merges.{IsMerged, IsAmong, IsApart, IsNoteOf, IsIdentity};
 
 use crate::pass::{Note, Pass};
 use kanal_journal::journal::{Entry, Event, Reply};
 
 /// Whether the entries are the passes' calls, each where its pass has kept it.
+///
+/// Notes of two passes, or two of one pass, are never of one entry. So the lists are all that the
+/// journal has if they have together as many notes as it has entries.
 pub(crate) fn is_merged<T: Copy + Eq>(entries: &[Entry<T>], passes: &[Pass<T>]) -> bool
     requires { IsIdentity T.eq }
     ensures { result ≡ true → IsMerged entries.now passes.now }
 {
-    if !are_apart(passes) || !are_known(entries, passes) {
+    if !are_apart(passes) || !are_as_many(passes, entries.len()) {
         return false;
     }
-    are_own(entries, passes)
+    are_among(entries, passes)
 }
 
 /// Whether no two passes have one party.
@@ -45,64 +48,62 @@ fn is_apart<T: Copy>(passes: &[Pass<T>], later: usize) -> bool
     true
 }
 
-/// Whether one of the passes has the party.
-fn has_party<T: Copy>(passes: &[Pass<T>], party: u32) -> bool
-    ensures { result ≡ true → Any (λ p. p.party ≡ party) passes.now }
+/// Whether the passes' lists have so many notes together.
+fn are_as_many<T: Copy>(passes: &[Pass<T>], entries: usize) -> bool
+    ensures { result ≡ true → sum_by (λ p. length p.notes) passes.now ≡ entries }
 {
-    passes.iter().any(|pass| pass.party() == party)
-}
-
-/// Whether each entry's party has a pass.
-fn are_known<T: Copy>(entries: &[Entry<T>], passes: &[Pass<T>]) -> bool
-    ensures { result ≡ true → All (λ e. Any (λ p. p.party ≡ e.party) passes.now) entries.now }
-{
-    for entry in entries {
-        if !has_party(passes, entry.party) {
+    let mut left = entries;
+    for pass in passes {
+        let count = pass.notes().len();
+        if count > left {
             return false;
         }
+        left -= count;
     }
-    true
+    left == 0
 }
 
-/// Whether each pass's list is what the journal has of its party.
-fn are_own<T: Copy + Eq>(entries: &[Entry<T>], passes: &[Pass<T>]) -> bool
+/// Whether each pass's list is of entries of its party.
+fn are_among<T: Copy + Eq>(entries: &[Entry<T>], passes: &[Pass<T>]) -> bool
     requires { IsIdentity T.eq }
-    ensures { result ≡ true → All (IsOwn entries.now) passes.now }
+    ensures { result ≡ true → All (IsAmong entries.now) passes.now }
 {
     for pass in passes {
-        if !is_own(entries, pass.party(), pass.notes()) {
+        if !is_among(entries, pass.party(), pass.notes()) {
             return false;
         }
     }
     true
 }
 
-/// Whether the notes are the party's entries, in order, at the places kept, none of which is before
-/// what was seen.
-fn is_own<T: Copy + Eq>(entries: &[Entry<T>], party: u32, notes: &[Note<T>]) -> bool
+/// Whether the notes are of entries of the party, in order, at the places kept, none of which is
+/// before what was seen.
+fn is_among<T: Copy + Eq>(entries: &[Entry<T>], party: u32, notes: &[Note<T>]) -> bool
     requires { IsIdentity T.eq }
-    ensures { result ≡ true → IsOwn entries.now
+    ensures { result ≡ true → IsAmong entries.now
         (record { party = party; notes = notes.now; seen = 0 }) }
 {
-    let mut k: usize = 0;
-    for (i, e) in entries.iter().enumerate() {
-        if e.party == party {
-            if k >= notes.len() || !is_note_of(e, i, &notes[k]) {
-                return false;
-            }
-            k += 1;
+    let mut next: usize = 0;
+    for note in notes {
+        let place = note.place;
+        if place < next || place >= entries.len() {
+            return false;
         }
+        let entry = &entries[place];
+        if entry.party != party || !is_note_of(entry, note) {
+            return false;
+        }
+        next = place + 1;
     }
-    k == notes.len()
+    true
 }
 
-/// Whether the note is of this entry, which stands at this place.
-fn is_note_of<T: Copy + Eq>(entry: &Entry<T>, place: usize, note: &Note<T>) -> bool
+/// Whether the note is of this entry, which stands at the note's place.
+fn is_note_of<T: Copy + Eq>(entry: &Entry<T>, note: &Note<T>) -> bool
     requires { IsIdentity T.eq }
-    ensures { result ≡ true → IsNoteOf entry.now place note.now }
+    ensures { result ≡ true → IsNoteOf entry.now note.now }
 {
-    note.place == place
-        && note.seen <= place
+    note.seen <= note.place
         && is_event(&entry.event, &note.event)
         && is_reply(&entry.reply, &note.reply)
 }

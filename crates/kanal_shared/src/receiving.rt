@@ -38,7 +38,7 @@ impl<T: Drop> Shared<T> {
     /// ```text
     /// shared.try_recv(&rt)   answers  Ok(None)   in a new channel
     /// ```
-    #[inline]
+    #[inline(always)]
     pub fn try_recv<R: Wait>(&self, rt: &R) -> Result<Option<T>, ReceiveError> {
         let mut locked = self.hold(rt);
         let (answer, owed) = steps::try_recv(&mut locked.core);

@@ -53,7 +53,7 @@ impl<T: Drop> Shared<T> {
     /// ```text
     /// shared.offer(&rt, 1)   answers  Full(1)   at capacity 0, where nobody waits for a message
     /// ```
-    #[inline]
+    #[inline(always)]
     pub fn offer<R: Wait>(&self, rt: &R, message: T) -> Offered<T>
         ensures back { IfSome (back_of result) (λ back. back ≡ message) }
     {

@@ -74,6 +74,7 @@ pub enum Received<T> {
 /// try_send(&mut core, 7)   answers  Entered   in a new core for one message
 /// try_send(&mut core, 8)   answers  Full(8)   after that
 /// ```
+#[inline(always)]
 pub fn try_send<T: Drop>(core: &mut Core<T>, message: T) -> (Offered<T>, Owed<T>)
     ensures step { TriesToSend (line_of core.old) message result.0 (settled_in result.1)
         (line_of core.new) }
@@ -101,6 +102,7 @@ pub fn try_send<T: Drop>(core: &mut Core<T>, message: T) -> (Offered<T>, Owed<T>
 /// try_recv(&mut core)   answers  Ok(None)      in a new core
 /// try_recv(&mut core)   answers  Ok(Some(7))   after 7 entered
 /// ```
+#[inline(always)]
 pub fn try_recv<T: Drop>(core: &mut Core<T>) -> (Result<Option<T>, ReceiveError>, Owed<T>)
     ensures step { TriesToReceive (line_of core.old) result.0 (settled_in result.1)
         (line_of core.new) }

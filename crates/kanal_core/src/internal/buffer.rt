@@ -78,6 +78,7 @@ impl<T> Buffer<T> {
     }
 
     /// Whether one more message is within the limit.
+    #[inline]
     pub fn has_place(&self) -> bool
         ensures { result ≡ is_below (length self.now.messages) self.now.limit }
     {
@@ -114,6 +115,7 @@ impl<T> Buffer<T> {
     }
 
     /// Takes the front message out.
+    #[inline]
     pub fn pop_front(&mut self) -> Option<T>
         ensures { MatchOption result ((self.old.messages ≡ []) × (self.new ≡ self.old))
             (λ m. (self.old.messages ≡ m ∷ self.new.messages) × (self.new.limit ≡ self.old.limit)) }

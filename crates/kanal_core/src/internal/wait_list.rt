@@ -82,6 +82,7 @@ impl<T, W> WaitList<T, W> {
     }
 
     /// The oldest waiter.
+    #[inline]
     fn front(&self) -> Option<&Waiter<T, W>>
         ensures { option_copied result ≡ slice_get self.now 0 }
     {
@@ -91,6 +92,7 @@ impl<T, W> WaitList<T, W> {
     }
 
     /// Whether receivers wait, where all that wait are of one side.
+    #[inline]
     pub fn receiver_first(&self) -> bool
         ensures { result ≡ receiver_first self.now }
     {
@@ -101,6 +103,7 @@ impl<T, W> WaitList<T, W> {
     }
 
     /// Whether senders wait, where all that wait are of one side.
+    #[inline]
     pub fn sender_first(&self) -> bool
         ensures { result ≡ sender_first self.now }
     {

@@ -2,4 +2,6 @@ pub mod Telling
 pub mod Noting
 pub mod Pairing
 pub mod Settling
+pub mod Ending
+pub mod Draining
 pub mod Backs

@@ -1,8 +1,8 @@
 -- A legal history is paired.
-use Rattle.std.proofs.Common.{◌≡◌, ℕ, zero, suc, List, [], ◌∷◌, ◌++◌, length, take, Option, refl, ap, sym, ◌∙◌, inl, subst}
+use Rattle.std.proofs.Common.{◌≡◌, ℕ, zero, suc, List, [], ◌∷◌, length, take, Option, sym, inl, subst}
 use Rattle.kanal_core.specs.Line.{Line}
-use Rattle.kanal_journal.specs.Steps.{Told, step}
-use Rattle.kanal_journal.specs.Runs.{opening, opening_line}
+use Rattle.kanal_journal.specs.Steps.{step}
+use Rattle.kanal_journal.specs.Runs.{opening_line}
 use Rattle.kanal_journal.specs.Paired.{History, Paired}
 use Rattle.kanal_journal.proofs.Holding.{Holds, holds_paired}
 use Rattle.kanal_journal.proofs.Along.{holds-opening}

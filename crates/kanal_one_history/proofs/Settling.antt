@@ -1,14 +1,14 @@
 -- What a history has settled.
-use Rattle.std.proofs.Common.{◌≡◌, ℕ, ◌⊎◌, Bool, true, false, true≢false, List, [], ◌∷◌, ◌++◌, length, Option, refl, ap, sym, ◌∙◌, inl, inr, subst, append_assoc}
+use Rattle.std.proofs.Common.{◌≡◌, ℕ, Bool, true, false, true≢false, List, [], ◌∷◌, ◌++◌, length, Option, refl, ap, sym, ◌∙◌, inl, inr, subst, append_assoc}
 use Rattle.std.proofs.lemmas.Bool.{cases_Bool}
 use mathlib.Core.List.{IsPrefix}
 use Rattle.kanal_board.specs.Views.{Known}
-use Rattle.kanal_board.proofs.Fronts.{prefix_more, prefix_trans}
+use Rattle.kanal_board.proofs.Fronts.{prefix_trans}
 use Rattle.kanal_core.specs.declared.internal.outcome.Outcome.{Outcome}
 use Rattle.kanal_journal.specs.declared.journal.event.Event.{Event}
 use Rattle.kanal_journal.specs.declared.journal.event.Reply.{Reply}
-use Rattle.kanal_journal.specs.declared.journal.event.Reply.TheVariants.{Waits}
 use Rattle.kanal_journal.specs.Replays.{is_no_memory, no_memory}
+use Rattle.kanal_journal.specs.Steps.{IsWait}
 use Rattle.kanal_one_history.specs.declared.call.Call.{Call}
 use Rattle.kanal_one_history.specs.declared.steps.Made.{Made}
 use Rattle.kanal_one_history.specs.Calls.{IsIn, HasSettled, HaveSettled}
@@ -17,7 +17,7 @@ use Rattle.kanal_journal.specs.declared.journal.event.Event.TheVariants.{Send, T
 use Rattle.kanal_one_history.specs.Made.{MayLack, settled_of, reply_of}
 use Rattle.kanal_one_history.specs.declared.blocking.Came.{Came}
 use Rattle.kanal_one_history.specs.declared.blocking.Came.TheVariants.{Replied, Settled, Lacking}
-use Rattle.kanal_one_history.specs.Makes.{Makes, Looks, Lacks, IsReplied, HasWaited, IsNoted, IsAnswered, HasCome, Finishes, Comes}
+use Rattle.kanal_one_history.specs.Makes.{Makes, Looks, Lacks, IsReplied, HasWaited, IsNoted, IsAnswered, HasReplied, HasCome, Finishes, Comes}
 
 off : false ≡ true → ⊥
 off e = true≢false (sym e)
@@ -87,7 +87,7 @@ module _ {T : Type 0} where
 
   -- what a call came to that began where the pass had looked
   pub come_from : (capacity : Option ℕ) (old mid new : Known (Call T)) (event : Event T) (came : Came T) → Looks old mid → HasCome capacity mid new event came → HasCome capacity old new event came
-  come_from capacity old mid new event (Replied reply) looks c = answered-from capacity old mid new event reply looks c
+  come_from capacity old mid new event (Replied reply) looks c = (answered-from capacity old mid new event reply looks c.0, c.1)
   come_from capacity old mid new event (Settled outcome) looks c = waited-from capacity old mid new event outcome looks c
   come_from capacity old mid new event Lacking looks c = lacks-from capacity old mid new event looks c
 
@@ -98,23 +98,19 @@ module _ {T : Type 0} where
         | inr clear ↦ inl (record { call = _; made = n.stands clear; asked = refl; reads = refl })
       ]
 
-  -- a call that waits, and whose wait a history settled that the pass has learnt of
-  pub noted_waits : {W : Type 0} (capacity : Option ℕ) (old mid new : Known (Call T)) (event : Event T) (made : Made T W) (ticket : ℕ) (outcome : Outcome T)
-      → IsNoted capacity old mid event made → Waits ticket ≡ reply_of made → Looks mid new → HasSettled new.log (ticket, outcome) → HasWaited capacity old new event outcome
-  noted_waits capacity old mid new event made ticket outcome n is looks settled =
-      record {
-        ticket = ticket;
-        mid = mid;
-        waits = record { call = _; made = n.stands (ap is_no_memory (sym is)); asked = refl; reads = is };
-        learns = looks;
-        settled = settled;
-      }
+  -- a call that was noted and doesn't wait, once those are told whose waits it settled
+  pub noted_replied : {W : Type 0} (capacity : Option ℕ) (old mid new : Known (Call T)) (event : Event T) (made : Made T W) (reply : Reply T)
+      → IsNoted capacity old mid event made → (IsWait (reply_of made) → ⊥) → new ≡ mid → reply ≡ reply_of made → HasReplied capacity old new event reply
+  noted_replied capacity old mid new event made reply n clear same is =
+      let here : HasReplied capacity old mid event (reply_of made) = (noted_answered capacity old mid event made n, clear) in
+      subst (λ pass. HasReplied capacity old pass event reply) (sym same) (subst (λ x. HasReplied capacity old mid event x) (sym is) here)
 
   -- the answer of a call that waits where it must, as its replies and outcomes read
   pub finishes_replied : {R : Type 0} (capacity : Option ℕ) (old new : Known (Call T)) (event : Event T) (read : Reply T → R) (ended : Outcome T → R) (refused answer : R) (reply : Reply T)
-      → IsAnswered capacity old new event reply → read (no_memory event) ≡ refused → answer ≡ read reply → Finishes capacity old new event read ended refused answer
-  finishes_replied capacity old new event read ended refused answer reply (inl r) none is = inl (record { call = r.call; made = r.made; asked = r.asked; reads = is ∙ ap read r.reads })
-  finishes_replied capacity old new event read ended refused answer reply (inr r) none is = inr (inr (r.0, is ∙ (ap read r.1 ∙ none)))
+      → HasReplied capacity old new event reply → read (no_memory event) ≡ refused → answer ≡ read reply → Finishes capacity old new event read ended refused answer
+  finishes_replied capacity old new event read ended refused answer reply (inl r, clear) none is =
+      inl (record { replied = record { call = r.call; made = r.made; asked = r.asked; reads = is ∙ ap read r.reads }; clear = subst (λ x. IsWait x → ⊥) r.reads clear })
+  finishes_replied capacity old new event read ended refused answer reply (inr r, clear) none is = inr (inr (r.0, is ∙ (ap read r.1 ∙ none)))
 
   -- and of one that never waits
   pub comes_replied : {R : Type 0} (capacity : Option ℕ) (old new : Known (Call T)) (event : Event T) (read : Reply T → R) (refused answer : R) (reply : Reply T)

@@ -1,21 +1,30 @@
 -- What a call does to the pass that makes it.
-use Rattle.std.specs.Prelude.{◌≡◌, ℕ, ◌⊎◌, true, false, List, [], ◌∷◌, ◌++◌, length, Option}
+use Rattle.std.specs.Prelude.{◌≡◌, ℕ, ◌⊎◌, true, false, List, [], ◌∷◌, ◌++◌, length, Option, Some, None, Result, Err, IfOk}
 use mathlib.Core.List.{IsPrefix}
 use Rattle.kanal_board.specs.Views.{Known}
 use Rattle.kanal_core.specs.declared.internal.outcome.Outcome.{Outcome}
+use Rattle.kanal_core.specs.declared.error.ReceiveError.{ReceiveError}
+use Rattle.kanal_core.specs.declared.error.ReceiveError.TheVariants.{NoMemory}
+use Rattle.kanal_core.specs.Tickets.{number_of}
 use Rattle.kanal_journal.specs.declared.journal.event.Event.{Event}
+use Rattle.kanal_journal.specs.declared.journal.event.Event.TheVariants.{Withdraw, Drain}
 use Rattle.kanal_journal.specs.declared.journal.event.Reply.{Reply}
-use Rattle.kanal_journal.specs.declared.journal.event.Reply.TheVariants.{Waits}
-use Rattle.kanal_journal.specs.Steps.{step}
+use Rattle.kanal_journal.specs.declared.journal.event.Reply.TheVariants.{Waits, Withdrawn}
+use Rattle.kanal_journal.specs.Steps.{step, IsWait}
 use Rattle.kanal_journal.specs.Replays.{is_no_memory, no_memory}
 use Rattle.kanal_one_history.specs.declared.call.Call.{Call}
 use Rattle.kanal_one_history.specs.declared.blocking.Came.{Came}
 use Rattle.kanal_one_history.specs.declared.blocking.Came.TheVariants.{Replied, Settled, Lacking}
+use Rattle.kanal_one_history.specs.declared.blocking.Begun.{Begun}
+use Rattle.kanal_one_history.specs.declared.blocking.Begun.TheVariants.{Replied as BegunReplied, Waits as BegunWaits, Lacking as BegunLacking}
+use Rattle.kanal_one_history.specs.declared.timed.Timed.{Timed}
+use Rattle.kanal_one_history.specs.declared.timed.Timed.TheVariants.{Replied as TimedReplied, Settled as TimedSettled, Withdrawn as TimedWithdrawn, Lacking as TimedLacking}
 use Rattle.kanal_one_history.specs.declared.steps.Made.{Made}
 use Rattle.kanal_one_history.specs.declared.steps.Tried.{Tried}
 use Rattle.kanal_one_history.specs.declared.steps.Tried.TheVariants.{Told as WasTold, MustWait as HasToWait}
 use Rattle.kanal_one_history.specs.Calls.{call_of, line_after, HasSettled}
-use Rattle.kanal_one_history.specs.Made.{MayLack, MustWait, reply_of, settled_of, call_from}
+use Rattle.kanal_one_history.specs.Results.{InTime, drained_by}
+use Rattle.kanal_one_history.specs.Made.{MayLack, MustWait, reply_of, settled_of, call_from, withdrawal}
 
 module _ {T : Type 0} where
   -- the pass made this call: it is the last of a history that goes on from what the pass had seen, its place is the pass's own, and one line of messages tells so after all the calls before it
@@ -43,6 +52,11 @@ module _ {T : Type 0} where
     pub asked : call.event ≡ event
     pub reads : answer ≡ read call.reply
 
+  -- the same, and the call did not have to wait
+  pub record IsAtOnce {R : Type 0} (capacity : Option ℕ) (old new : Known (Call T)) (event : Event T) (read : Reply T → R) (answer : R) : Type 0 where
+    pub replied : IsReplied capacity old new event read answer
+    pub clear : IsWait replied.call.reply → ⊥
+
   -- the pass made a call of this event, which waited under a ticket; a call of the history settled the ticket so, and the pass has learnt of that
   pub record HasWaited (capacity : Option ℕ) (old new : Known (Call T)) (event : Event T) (outcome : Outcome T) : Type 0 where
     pub ticket : ℕ
@@ -50,6 +64,26 @@ module _ {T : Type 0} where
     pub waits : IsReplied capacity old mid event (λ reply. reply) (Waits ticket)
     pub learns : Looks mid new
     pub settled : HasSettled new.log (ticket, outcome)
+
+  -- the pass made a call of this event, which waited under a ticket, and then a call by which it took that wait back
+  pub record HasWithdrawn (capacity : Option ℕ) (old new : Known (Call T)) (event : Event T) : Type 0 where
+    pub ticket : ℕ
+    pub mid : Known (Call T)
+    pub back : Option T
+    pub waits : IsReplied capacity old mid event (λ reply. reply) (Waits ticket)
+    pub withdraws : IsReplied capacity mid new (Withdraw ticket) (λ reply. reply) (Withdrawn back)
+
+  -- the pass made a drain: behind what the vector had held are the messages that were drained, and the answer is their number
+  pub record HasDrained (capacity : Option ℕ) (old new : Known (Call T)) (before after : List T) (answer : Result ℕ ReceiveError) : Type 0 where
+    pub replied : IsReplied capacity old new Drain drained_by answer
+    pub moved : after ≡ before ++ replied.call.drained
+    pub count : IfOk answer (λ n. n ≡ length replied.call.drained)
+
+  -- a drain: it was made; or there was no memory for it, and the vector holds what it held
+  abbrev pub Drains : Option ℕ → Known (Call T) → Known (Call T) → List T → List T → Result ℕ ReceiveError → Type 0
+  Drains capacity old new before after answer =
+      HasDrained capacity old new before after answer
+      ⊎ (Lacks capacity old new Drain × (after ≡ before) × (answer ≡ Err NoMemory))
 
   -- a call that never waits: it was made, or there was no memory for it
   abbrev pub Comes : {R : Type 0} → Option ℕ → Known (Call T) → Known (Call T) → Event T → (Reply T → R) → R → R → Type 0
@@ -67,15 +101,45 @@ module _ {T : Type 0} where
   -- a call that may wait: it was made at once, it waited and was settled, or there was no memory for it
   abbrev pub Finishes : {R : Type 0} → Option ℕ → Known (Call T) → Known (Call T) → Event T → (Reply T → R) → (Outcome T → R) → R → R → Type 0
   Finishes capacity old new event read ended refused answer =
-      IsReplied capacity old new event read answer
+      IsAtOnce capacity old new event read answer
       ⊎ IsSettled capacity old new event ended answer
       ⊎ (Lacks capacity old new event × (answer ≡ refused))
 
+  -- a call with a deadline, as one that may wait; or it waited and the pass took the wait back; or no moment is so late: it is in no history then, and the pass is as it was
+  abbrev pub FinishesInTime : {R : Type 0} → Option ℕ → Known (Call T) → Known (Call T) → Event T → InTime T R → R → Type 0
+  FinishesInTime capacity old new event answers answer =
+      Finishes capacity old new event answers.by_reply answers.by_outcome answers.no_memory answer
+      ⊎ (HasWithdrawn capacity old new event × (answer ≡ answers.late))
+      ⊎ ((new ≡ old) × (answer ≡ answers.no_moment))
+
+  -- what a call came to that was answered at once
+  abbrev pub HasReplied : Option ℕ → Known (Call T) → Known (Call T) → Event T → Reply T → Type 0
+  HasReplied capacity old new event reply = IsAnswered capacity old new event reply × (IsWait reply → ⊥)
+
   -- what a call came to that waits where it must
   abbrev pub HasCome : Option ℕ → Known (Call T) → Known (Call T) → Event T → Came T → Type 0
-  HasCome capacity old new event (Replied reply) = IsAnswered capacity old new event reply
+  HasCome capacity old new event (Replied reply) = HasReplied capacity old new event reply
   HasCome capacity old new event (Settled outcome) = HasWaited capacity old new event outcome
   HasCome capacity old new event Lacking = Lacks capacity old new event
+
+  -- what a call with a deadline came to
+  abbrev pub HasPassed : Option ℕ → Known (Call T) → Known (Call T) → Event T → Timed T → Type 0
+  HasPassed capacity old new event (TimedReplied reply) = HasReplied capacity old new event reply
+  HasPassed capacity old new event (TimedSettled outcome) = HasWaited capacity old new event outcome
+  HasPassed capacity old new event TimedWithdrawn = HasWithdrawn capacity old new event
+  HasPassed capacity old new event TimedLacking = Lacks capacity old new event
+
+  -- how a wait with a deadline ended: it was settled and the pass has learnt of that, or the pass took it back
+  abbrev pub HasEnded : Option ℕ → Known (Call T) → Known (Call T) → ℕ → Option (Outcome T) → Type 0
+  HasEnded capacity old new ticket (Some outcome) = Looks old new × HasSettled new.log (ticket, outcome)
+  HasEnded capacity old new ticket None = (back : Option T) × Makes capacity old new (withdrawal ticket back)
+
+module _ {T : Type 0} {J : Type 0} where
+  -- what the start of a wait came to
+  abbrev pub HasBegun : Option ℕ → Known (Call T) → Known (Call T) → Event T → Begun T J → Type 0
+  HasBegun capacity old new event (BegunReplied reply) = HasReplied capacity old new event reply
+  HasBegun capacity old new event (BegunWaits ticket waiting) = IsReplied capacity old new event (λ reply. reply) (Waits (number_of ticket))
+  HasBegun capacity old new event BegunLacking = Lacks capacity old new event
 
 module _ {T W : Type 0} where
   -- the call is in the history; or there was no memory, and it is in none
@@ -83,7 +147,7 @@ module _ {T W : Type 0} where
     pub stands : is_no_memory (reply_of made) ≡ false → Makes capacity old new (call_from event made)
     pub lacks : is_no_memory (reply_of made) ≡ true → Lacks capacity old new event × (reply_of made ≡ no_memory event) × (settled_of made ≡ [])
 
-  -- the same of a call that waits where it must; one that must comes back, and the pass has seen that it must
+  -- the same of a call that waits where it must, and didn't have to; one that must comes back, and the pass has seen that it must
   abbrev pub IsTried : Option ℕ → Known (Call T) → Known (Call T) → Event T → Tried T W → Type 0
-  IsTried capacity old new event (WasTold made) = IsNoted capacity old new event made
+  IsTried capacity old new event (WasTold made) = IsNoted capacity old new event made × (IsWait (reply_of made) → ⊥)
   IsTried capacity old new event (HasToWait back) = (back ≡ event) × Looks old new × MustWait (line_after capacity new.log) event

@@ -6,16 +6,16 @@
 ghost use Rattle.std.specs.Prelude.{◌≡◌, true};
 ghost use Rattle.kanal_one_history.specs.Calls.{HasSettled, HaveSettled, line_after};
 ghost use Rattle.kanal_one_history.specs.Made.{MustWait, is_plain, may_wait, reply_of, settled_of};
-ghost use Rattle.kanal_one_history.specs.Makes.{HasCome, IsAnswered, Looks};
+ghost use Rattle.kanal_one_history.specs.Makes.{HasBegun, HasCome, IsAnswered, Looks};
 
 use crate::channel::Channel;
 use crate::delivered::{Delivered, Settler, settle, settle_all};
 use crate::pass::Pass;
-use crate::steps::{Made, Tried};
+use crate::steps::{Kept, Made, Tried};
 use crate::waiting::Waiting;
 use kanal_board::Naming;
 use kanal_cell::signal;
-use kanal_core::internal::{Closing, Outcome};
+use kanal_core::internal::{Closing, Outcome, Ticket};
 use kanal_journal::journal::{Event, Reply};
 use std::alloc::Global;
 use std::sync::Wait;
@@ -32,6 +32,17 @@ pub(crate) enum Came<T> {
     Lacking,
 }
 
+/// What the start of a wait came to.
+#[derive(Drop)]
+pub(crate) enum Begun<T, J: Naming> {
+    /// The call was answered at once.
+    Replied(Reply<T>),
+    /// It waits, under this ticket.
+    Waits(Ticket, Waiting<Delivered<T, J>>),
+    /// There was no memory for the wait. Its message is dropped.
+    Lacking,
+}
+
 /// What a wait needs: the blocked call's half, and the settler for the core.
 fn ends<T: Drop, J: Naming>(alloc: Global) -> Option<(Waiting<Delivered<T, J>>, Settler<T, J>)> {
     let (end, settling) = signal::new(alloc).ok()?;
@@ -41,7 +52,7 @@ fn ends<T: Drop, J: Naming>(alloc: Global) -> Option<(Waiting<Delivered<T, J>>, 
 
 impl<T: Drop, J: Naming> Channel<T, J> {
     /// Tells those whose waits the call settled, and drops what it cleared. The lock is released.
-    fn settle(&self, pass: &mut Pass<T, J>, made: Made<T, Settler<T, J>>) -> Reply<T>
+    pub(crate) fn settle(&self, pass: &mut Pass<T, J>, made: Made<T, Settler<T, J>>) -> Reply<T>
         requires seen { HaveSettled pass.old.log (settled_of made) }
         ensures reply { result ≡ reply_of made }
         ensures same { pass.new ≡ pass.old }
@@ -64,6 +75,10 @@ impl<T: Drop, J: Naming> Channel<T, J> {
                 drop(cleared);
                 Reply::Cleared(count)
             },
+            Made::Drained(count, ended, _moved) => {
+                settle_all(&self.board, pass, ended);
+                Reply::Drained(count)
+            },
         }
     }
 
@@ -78,7 +93,7 @@ impl<T: Drop, J: Naming> Channel<T, J> {
     }
 
     /// Makes a call that waits where it must.
-    #[tactic(auto, using(crate::proofs::Settling::noted_settled, crate::proofs::Settling::noted_answered, crate::proofs::Settling::come_from))]
+    #[tactic(auto, using(crate::proofs::Settling::noted_settled, crate::proofs::Settling::come_from))]
     pub(crate) fn blocking<R: Wait>(
         &self,
         rt: &R,
@@ -95,41 +110,65 @@ impl<T: Drop, J: Naming> Channel<T, J> {
         }
     }
 
-    /// Makes a call, with what a wait needs in hand, that the pass has seen must wait.
+    /// Makes a call that the pass has seen must wait, and waits.
     #[cold]
-    #[tactic(auto, using(crate::proofs::Settling::noted_settled, crate::proofs::Settling::noted_answered, crate::proofs::Settling::noted_waits))]
+    #[tactic(auto, using(crate::proofs::Ending::has_waited))]
     fn wait<R: Wait>(&self, rt: &R, pass: &mut Pass<T, J>, event: Event<T>) -> Came<T>
         requires waits { may_wait event ≡ true }
         requires must { MustWait (line_after J.capacity pass.old.log) event }
         ensures come { HasCome J.capacity pass.old pass.new event result }
     {
-        let Some((waiting, settler)) = ends(self.alloc) else {
-            return Came::Lacking;
-        };
-        let (made, back) = self.state.lock(rt).wait(&self.board, pass, event, settler);
-        drop(back);
-        match self.settle(pass, made) {
-            Reply::Waits(ticket) => Came::Settled(self.learn_of(rt, pass, waiting, ticket)),
-            reply => Came::Replied(reply),
+        match self.begin(rt, pass, event) {
+            Begun::Replied(reply) => Came::Replied(reply),
+            Begun::Waits(ticket, waiting) => {
+                let delivered = waiting.outcome(rt);
+                Came::Settled(self.learn_of(rt, pass, delivered, ticket.number()))
+            },
+            Begun::Lacking => Came::Lacking,
         }
     }
 
-    /// Waits for what becomes of the wait with the ticket, and learns of it.
+    /// Makes a call, with what a wait needs in hand, that the pass has seen must wait.
+    #[tactic(auto, using(crate::proofs::Settling::noted_settled, crate::proofs::Ending::noted_waits))]
+    pub(crate) fn begin<R: Wait>(
+        &self,
+        rt: &R,
+        pass: &mut Pass<T, J>,
+        event: Event<T>,
+    ) -> Begun<T, J>
+        requires waits { may_wait event ≡ true }
+        requires must { MustWait (line_after J.capacity pass.old.log) event }
+        ensures begun { HasBegun J.capacity pass.old pass.new event result }
+    {
+        let Some((waiting, settler)) = ends(self.alloc) else {
+            return Begun::Lacking;
+        };
+        let (made, kept) = self.state.lock(rt).wait(&self.board, pass, event, settler);
+        let reply = self.settle(pass, made);
+        match kept {
+            Kept::Ticket(ticket) => Begun::Waits(ticket, waiting),
+            Kept::Back(settler) => {
+                drop(settler);
+                Begun::Replied(reply)
+            },
+        }
+    }
+
+    /// Learns what became of the wait with the ticket.
     ///
     /// What is settled through a cell is its own ticket's; that it is isn't known by a type, so it is
     /// looked at, and another's would never be answered.
     #[tactic(auto, using(crate::proofs::Settling::settled_longer))]
-    fn learn_of<R: Wait>(
+    pub(crate) fn learn_of<R: Wait>(
         &self,
         rt: &R,
         pass: &mut Pass<T, J>,
-        waiting: Waiting<Delivered<T, J>>,
+        delivered: Delivered<T, J>,
         ticket: u64,
     ) -> Outcome<T>
         ensures looks { Looks pass.old pass.new }
         ensures settled { HasSettled pass.new.log (ticket, result) }
     {
-        let delivered = waiting.outcome(rt);
         if delivered.ticket() == ticket {
             let (outcome, seen) = delivered.into_parts();
             pass.learn(&self.board, seen);

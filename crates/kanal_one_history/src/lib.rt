@@ -8,8 +8,8 @@
 //!
 //! Stands on `kanal_core` for the channel and its lock, on `kanal_journal` for what events and replies
 //! are and for what one line of messages tells of them, on `kanal_cell` for waits, and on `kanal_board`
-//! for the history. What is said here is of calls and of what passes told each other; of the order in real time, and of progress,
-//! nothing is.
+//! for the history; its clocks are those of `kanal_shared`. What is said here is of calls and of what
+//! passes told each other; of the order in real time, and of progress, nothing is.
 #![tactic(auto)]
 
 mod blocking;
@@ -22,9 +22,11 @@ mod sending;
 mod sides;
 mod state;
 mod steps;
+mod timed;
 mod waiting;
 
 pub use call::Call;
 pub use channel::Channel;
 pub use kanal_board::{Naming, Opened};
+pub use kanal_shared::{Clock, SystemClock};
 pub use pass::Pass;

@@ -1,18 +1,22 @@
 //! Receiving on a channel with one history.
 //!
-//! Stands on `blocking`. Each call here is one event, and its answer is what the reply reads as.
-ghost use Rattle.std.specs.Prelude.{◌≡◌, Err};
-ghost use Rattle.kanal_one_history.specs.Makes.{Finishes, IsReplied};
-ghost use Rattle.kanal_one_history.specs.Results.{asked_by, receive_error, received_after, received_by};
+//! Stands on `blocking` and `timed`. Each call here is one event, and its answer is what the reply reads as.
+ghost use Rattle.std.specs.Prelude.{◌≡◌, ◌⊎◌, Err, IfErr};
+ghost use Rattle.kanal_one_history.specs.Makes.{Drains, Finishes, FinishesInTime, IsReplied};
+ghost use Rattle.kanal_one_history.specs.Results.{answer_in_time, asked_by, drained_by, receive_error, receive_in_time, received_after, received_by, timed_receive_error, timed_received_after, timed_received_by};
 
 use crate::blocking::Came;
 use crate::channel::Channel;
 use crate::pass::Pass;
+use crate::timed::{Timed, deadline};
 use kanal_board::Naming;
-use kanal_core::error::ReceiveError;
+use kanal_core::error::{ReceiveError, ReceiveErrorTimeout};
 use kanal_core::internal::{Outcome, Reason};
 use kanal_journal::journal::{Event, Refusal, Reply};
+use kanal_shared::Clock;
 use std::sync::Wait;
+use std::time;
+use std::time::Duration;
 
 /// Why a receive is refused.
 fn receive_error(reason: Refusal) -> ReceiveError
@@ -61,6 +65,65 @@ fn received_after<T: Drop>(outcome: Outcome<T>) -> Result<T, ReceiveError>
     }
 }
 
+/// The answer of a drain.
+fn drained_by<T: Drop>(reply: Reply<T>) -> Result<usize, ReceiveError>
+    ensures { result ≡ drained_by reply }
+{
+    match reply {
+        Reply::Drained(count) => Ok(count),
+        Reply::Refused(reason, _back) => Err(receive_error(reason)),
+        _ => Err(ReceiveError::Closed),
+    }
+}
+
+/// Why a receive with a deadline is refused.
+fn timed_receive_error(reason: Refusal) -> ReceiveErrorTimeout
+    ensures { result ≡ timed_receive_error reason }
+{
+    match reason {
+        Refusal::SendClosed => ReceiveErrorTimeout::SendClosed,
+        Refusal::Timeout => ReceiveErrorTimeout::Timeout,
+        Refusal::NoMemory => ReceiveErrorTimeout::NoMemory,
+        Refusal::TooMany => ReceiveErrorTimeout::TooMany,
+        _ => ReceiveErrorTimeout::Closed,
+    }
+}
+
+/// The answer of a receive with a deadline.
+fn timed_received_by<T: Drop>(reply: Reply<T>) -> Result<T, ReceiveErrorTimeout>
+    ensures { result ≡ timed_received_by reply }
+{
+    match reply {
+        Reply::Got(message) => Ok(message),
+        Reply::Refused(reason, _back) => Err(timed_receive_error(reason)),
+        _ => Err(ReceiveErrorTimeout::Closed),
+    }
+}
+
+/// What the end of its wait answers a receive with a deadline.
+fn timed_received_after<T: Drop>(outcome: Outcome<T>) -> Result<T, ReceiveErrorTimeout>
+    ensures { result ≡ timed_received_after outcome }
+{
+    match outcome {
+        Outcome::Given(message) => Ok(message),
+        Outcome::Ended(Reason::SendClosed, _back) => Err(ReceiveErrorTimeout::SendClosed),
+        Outcome::Ended(_, _back) => Err(ReceiveErrorTimeout::Closed),
+        Outcome::Taken => Err(ReceiveErrorTimeout::Closed),
+    }
+}
+
+/// The answer of a receive with a deadline, for what it came to.
+fn received_in_time<T: Drop>(timed: Timed<T>) -> Result<T, ReceiveErrorTimeout>
+    ensures { result ≡ answer_in_time receive_in_time timed }
+{
+    match timed {
+        Timed::Replied(reply) => timed_received_by(reply),
+        Timed::Settled(outcome) => timed_received_after(outcome),
+        Timed::Withdrawn => Err(ReceiveErrorTimeout::Timeout),
+        Timed::Lacking => Err(ReceiveErrorTimeout::NoMemory),
+    }
+}
+
 impl<T: Drop, J: Naming> Channel<T, J> {
     /// Receives a message, and waits where there is none.
     ///
@@ -77,7 +140,6 @@ impl<T: Drop, J: Naming> Channel<T, J> {
     /// ```text
     /// channel.recv(rt, &mut pass)   answers  Ok(7)   where 7 was sent
     /// ```
-    #[tactic(auto, using(crate::proofs::Settling::finishes_replied))]
     pub fn recv<R: Wait>(&self, rt: &R, pass: &mut Pass<T, J>) -> Result<T, ReceiveError>
         ensures received { Finishes J.capacity pass.old pass.new Event.Recv received_by
             received_after (Err ReceiveError.NoMemory) result }
@@ -87,6 +149,70 @@ impl<T: Drop, J: Naming> Channel<T, J> {
             Came::Settled(outcome) => received_after(outcome),
             Came::Lacking => Err(ReceiveError::NoMemory),
         }
+    }
+
+    /// Receives a message, and waits where there is none, until the deadline, which is the clock's moment
+    /// now and the duration together. Where the clock stands past it when it is read again, only what is
+    /// there is received.
+    ///
+    /// `Ok(message)` where it got the front of the line at once, or it waited and was given the message, of
+    /// which the pass has learnt then.
+    ///
+    /// # Errors
+    /// As `recv`, and `Timeout` where it waited, the deadline came, and the wait was taken back: that is a
+    /// second call of the pass; or where the deadline had passed and no message was there, whoever sends.
+    /// `DeadlineOutOfRange` where no moment is so late: the call is in no history then, and the pass is as
+    /// it was.
+    ///
+    /// # Examples
+    /// ```text
+    /// channel.recv_timeout(rt, &mut pass, Duration::from_nanos(1), &clock)
+    ///     answers  Err(Timeout)   where nobody sends
+    /// ```
+    #[tactic(auto, using(crate::proofs::Settling::free_replied))]
+    pub fn recv_timeout<R: Wait + time::Clock, C: Clock>(
+        &self,
+        rt: &R,
+        pass: &mut Pass<T, J>,
+        duration: Duration,
+        clock: &C,
+    ) -> Result<T, ReceiveErrorTimeout>
+        ensures received { FinishesInTime J.capacity pass.old pass.new Event.Recv receive_in_time result
+            ⊎ IsReplied J.capacity pass.old pass.new Event.RecvLate timed_received_by result }
+    {
+        let Some(deadline) = deadline(clock, duration) else {
+            return Err(ReceiveErrorTimeout::DeadlineOutOfRange);
+        };
+        if clock.now() > deadline {
+            return timed_received_by(self.call(rt, pass, Event::RecvLate));
+        }
+        received_in_time(self.timed(rt, pass, Event::Recv, clock, deadline))
+    }
+
+    /// Moves all messages to the vector's end, those of waiting senders too, and answers how many they
+    /// were. What the vector had stays its beginning. It waits for the lock alone.
+    ///
+    /// # Errors
+    /// `Closed` where no receiver is left. `NoMemory` where the vector had too little room and there was no
+    /// memory for more: the call is in no history then, and the pass has seen that a line may refuse it so.
+    /// The vector holds what it held.
+    ///
+    /// # Examples
+    /// ```text
+    /// channel.drain_into(rt, &mut pass, &mut messages)   answers  Ok(2)   where two messages were there
+    /// ```
+    #[tactic(auto, using(crate::proofs::Settling::noted_settled, crate::proofs::Draining::noted_drains, crate::proofs::Draining::refused_holds))]
+    pub fn drain_into<R: Wait>(
+        &self,
+        rt: &R,
+        pass: &mut Pass<T, J>,
+        into: &mut Vec<T>,
+    ) -> Result<usize, ReceiveError>
+        ensures drained { Drains J.capacity pass.old pass.new into.old.items into.new.items result }
+        ensures refused { IfErr result (λ _. into.new.items ≡ into.old.items) }
+    {
+        let made = self.state.lock(rt).drain(&self.board, pass, into);
+        drained_by(self.settle(pass, made))
     }
 
     /// Receives the front message, if there is one; `Ok(None)` says that there is none. It waits for the

@@ -1,18 +1,22 @@
 //! Sending on a channel with one history.
 //!
-//! Stands on `blocking`. Each call here is one event, and its answer is what the reply reads as.
+//! Stands on `blocking` and `timed`. Each call here is one event, and its answer is what the reply reads as.
 ghost use Rattle.std.specs.Prelude.{◌≡◌, ◌≢◌, IfSome, IsSome, None, Ok, Err, true};
-ghost use Rattle.kanal_one_history.specs.Makes.{Comes, Finishes};
-ghost use Rattle.kanal_one_history.specs.Results.{back_by, entered_by, send_error, sent_after, sent_by};
+ghost use Rattle.kanal_one_history.specs.Makes.{Comes, Finishes, FinishesInTime};
+ghost use Rattle.kanal_one_history.specs.Results.{answer_in_time, back_by, entered_by, send_error, send_in_time, sent_after, sent_by, timed_send_error, timed_sent_after, timed_sent_by};
 
 use crate::blocking::Came;
 use crate::channel::Channel;
 use crate::pass::Pass;
+use crate::timed::{Timed, deadline};
 use kanal_board::Naming;
-use kanal_core::error::SendError;
+use kanal_core::error::{SendError, SendErrorTimeout};
 use kanal_core::internal::{Outcome, Reason};
 use kanal_journal::journal::{Event, Refusal, Reply};
+use kanal_shared::Clock;
 use std::sync::Wait;
+use std::time;
+use std::time::Duration;
 
 /// Why a send is refused.
 fn send_error(reason: Refusal) -> SendError
@@ -70,6 +74,54 @@ fn sent_after<T: Drop>(outcome: Outcome<T>) -> Result<(), SendError>
     }
 }
 
+/// Why a send with a deadline is refused.
+fn timed_send_error(reason: Refusal) -> SendErrorTimeout
+    ensures { result ≡ timed_send_error reason }
+{
+    match reason {
+        Refusal::ReceiveClosed => SendErrorTimeout::ReceiveClosed,
+        Refusal::Sealed => SendErrorTimeout::Sealed,
+        Refusal::NoMemory => SendErrorTimeout::NoMemory,
+        Refusal::TooMany => SendErrorTimeout::TooMany,
+        _ => SendErrorTimeout::Closed,
+    }
+}
+
+/// The answer of a send with a deadline.
+fn timed_sent_by<T: Drop>(reply: Reply<T>) -> Result<(), SendErrorTimeout>
+    ensures { result ≡ timed_sent_by reply }
+{
+    match reply {
+        Reply::Sent => Ok(()),
+        Reply::Refused(reason, _back) => Err(timed_send_error(reason)),
+        _ => Err(SendErrorTimeout::Closed),
+    }
+}
+
+/// What the end of its wait answers a send with a deadline.
+fn timed_sent_after<T: Drop>(outcome: Outcome<T>) -> Result<(), SendErrorTimeout>
+    ensures { result ≡ timed_sent_after outcome }
+{
+    match outcome {
+        Outcome::Taken => Ok(()),
+        Outcome::Ended(Reason::ReceiveClosed, _back) => Err(SendErrorTimeout::ReceiveClosed),
+        Outcome::Ended(_, _back) => Err(SendErrorTimeout::Closed),
+        Outcome::Given(_message) => Err(SendErrorTimeout::Closed),
+    }
+}
+
+/// The answer of a send with a deadline, for what it came to.
+fn sent_in_time<T: Drop>(timed: Timed<T>) -> Result<(), SendErrorTimeout>
+    ensures { result ≡ answer_in_time send_in_time timed }
+{
+    match timed {
+        Timed::Replied(reply) => timed_sent_by(reply),
+        Timed::Settled(outcome) => timed_sent_after(outcome),
+        Timed::Withdrawn => Err(SendErrorTimeout::Timeout),
+        Timed::Lacking => Err(SendErrorTimeout::NoMemory),
+    }
+}
+
 impl<T: Drop, J: Naming> Channel<T, J> {
     /// Sends the message, and waits where there is no place for it.
     ///
@@ -86,7 +138,6 @@ impl<T: Drop, J: Naming> Channel<T, J> {
     /// ```text
     /// channel.send(rt, &mut pass, 7)   answers  Ok(())   in a channel with a place
     /// ```
-    #[tactic(auto, using(crate::proofs::Settling::finishes_replied))]
     pub fn send<R: Wait>(&self, rt: &R, pass: &mut Pass<T, J>, message: T) -> Result<(), SendError>
         ensures sent { Finishes J.capacity pass.old pass.new (Event.Send message) sent_by sent_after
             (Err SendError.NoMemory) result }
@@ -96,6 +147,38 @@ impl<T: Drop, J: Naming> Channel<T, J> {
             Came::Settled(outcome) => sent_after(outcome),
             Came::Lacking => Err(SendError::NoMemory),
         }
+    }
+
+    /// Sends the message, and waits where there is no place for it, until the deadline, which is the
+    /// clock's moment now and the duration together.
+    ///
+    /// `Ok(())` where it entered: at once, or it waited and was taken, of which the pass has learnt then.
+    ///
+    /// # Errors
+    /// As `send`, and `Timeout` where it waited, the deadline came, and the wait was taken back: that is a
+    /// second call of the pass. `DeadlineOutOfRange` where no moment is so late: the call is in no history
+    /// then, and the pass is as it was. The message is dropped.
+    ///
+    /// # Examples
+    /// ```text
+    /// channel.send_timeout(rt, &mut pass, 7, Duration::from_nanos(1), &clock)
+    ///     answers  Err(Timeout)   where nobody receives at capacity 0
+    /// ```
+    pub fn send_timeout<R: Wait + time::Clock, C: Clock>(
+        &self,
+        rt: &R,
+        pass: &mut Pass<T, J>,
+        message: T,
+        duration: Duration,
+        clock: &C,
+    ) -> Result<(), SendErrorTimeout>
+        ensures sent { FinishesInTime J.capacity pass.old pass.new (Event.Send message)
+            send_in_time result }
+    {
+        let Some(deadline) = deadline(clock, duration) else {
+            return Err(SendErrorTimeout::DeadlineOutOfRange);
+        };
+        sent_in_time(self.timed(rt, pass, Event::Send(message), clock, deadline))
     }
 
     /// Sends the message if it can enter at once; `Ok(false)` says that there is no place for it, and the

@@ -3,24 +3,25 @@
 //! Stands on the steps and on a board's keeper. Each call lends the core to one step and puts the call
 //! that was made into the history, before the lock is given back; a call that is refused for memory is
 //! in no history. Nothing else writes the history.
-ghost use Rattle.std.specs.Prelude.{◌≡◌, ◌∷◌, ◌++◌, [], true, false};
+ghost use Rattle.std.specs.Prelude.{◌≡◌, ◌∷◌, ◌++◌, [], true, false, IfNone, IfSome};
 ghost use Rattle.kanal_board.specs.Views.{known};
 ghost use Rattle.kanal_core.specs.Channel.{line_of};
 ghost use Rattle.kanal_core.specs.Line.{Line};
+ghost use Rattle.kanal_core.specs.Tickets.{number_of};
 ghost use Rattle.kanal_journal.specs.Replays.{is_no_memory};
 ghost use Rattle.kanal_journal.specs.Runs.{opening_line};
 ghost use Rattle.kanal_journal.specs.Steps.{Tells};
 ghost use Rattle.kanal_one_history.specs.Calls.{IsLegal, line_after};
-ghost use Rattle.kanal_one_history.specs.Made.{call_from, is_plain, may_wait, reply_of, told_of};
-ghost use Rattle.kanal_one_history.specs.Makes.{IsNoted, IsTried};
+ghost use Rattle.kanal_one_history.specs.Made.{Keeps, call_from, drained_of, is_plain, may_wait, reply_of, told_of, withdrawal};
+ghost use Rattle.kanal_one_history.specs.Makes.{IsNoted, IsTried, Makes};
 
 use crate::call::Call;
 use crate::delivered::Settler;
 use crate::pass::Pass;
 use crate::steps;
-use crate::steps::{Made, Tried};
+use crate::steps::{Kept, Made, Tried};
 use kanal_board::{Board, EntryOf, Keeper, Naming, Said};
-use kanal_core::internal::ChannelInternal;
+use kanal_core::internal::{ChannelInternal, Ticket, Waiter};
 use kanal_journal::journal::Event;
 use std::marker::Model;
 
@@ -31,6 +32,16 @@ impl<T, W> EntryOf<Said<Event<T>>, Made<T, W>, Call<T>> for OfCall {
     ghost use Rattle.kanal_one_history.specs.Made.{call_from};
 
     ghost entry = { λ event made. call_from event made };
+}
+
+/// The entry of a withdrawal: the ticket that was asked for, and the wait that left.
+struct OfWithdrawal;
+
+impl<T, W> EntryOf<Ticket, Waiter<T, W>, Call<T>> for OfWithdrawal {
+    ghost use Rattle.kanal_core.specs.Tickets.{number_of};
+    ghost use Rattle.kanal_one_history.specs.Made.{withdrawal};
+
+    ghost entry = { λ ticket waiter. withdrawal (number_of ticket) waiter.message };
 }
 
 /// The core, and the keeper of the history. Contracts see the calls of the history.
@@ -145,13 +156,53 @@ impl<T: Drop, J: Naming> State<T, J> {
         pass: &mut Pass<T, J>,
         event: Event<T>,
         settler: Settler<T, J>,
-    ) -> (Made<T, Settler<T, J>>, Option<Settler<T, J>>)
+    ) -> (Made<T, Settler<T, J>>, Kept<Settler<T, J>>)
         requires waits { may_wait event ≡ true }
         ensures noted { IsNoted J.capacity pass.old pass.new event result.0 }
+        ensures kept { Keeps (reply_of result.0) result.1 }
     {
         let asked = Said::of(&event);
-        let (made, back) = steps::make_waiting(&mut self.core, event, settler);
+        let (made, kept) = steps::make_waiting(&mut self.core, event, settler);
         note(&mut self.keeper, board, pass, &asked, &made);
-        (made, back)
+        (made, kept)
+    }
+
+    /// Takes the wait with this ticket back, if it waits; where it doesn't, that is no call, and
+    /// nothing changes.
+    pub(crate) fn withdraw(
+        &mut self,
+        board: &Board<Call<T>, J>,
+        pass: &mut Pass<T, J>,
+        ticket: Ticket,
+    ) -> Option<Waiter<T, Settler<T, J>>>
+        ensures made { IfSome result (λ w. Makes J.capacity pass.old pass.new
+            (withdrawal (number_of ticket) w.message)) }
+        ensures same { IfNone result (pass.new ≡ pass.old) }
+    {
+        let waiter = steps::withdraw(&mut self.core, ticket)?;
+        let keeper = &mut self.keeper;
+        keeper.append_of::<Ticket, Waiter<T, Settler<T, J>>, OfWithdrawal>(
+            board,
+            &mut pass.front,
+            &ticket,
+            &waiter,
+        );
+        Some(waiter)
+    }
+
+    /// Moves the whole line to the vector's end.
+    pub(crate) fn drain(
+        &mut self,
+        board: &Board<Call<T>, J>,
+        pass: &mut Pass<T, J>,
+        into: &mut Vec<T>,
+    ) -> Made<T, Settler<T, J>>
+        ensures noted { IsNoted J.capacity pass.old pass.new Event.Drain result }
+        ensures moved { into.new.items ≡ into.old.items ++ drained_of result }
+    {
+        let asked = Said::of(&Event::Drain);
+        let made = steps::drain(&mut self.core, into);
+        note(&mut self.keeper, board, pass, &asked, &made);
+        made
     }
 }

@@ -4,16 +4,28 @@
 //! two), says in the line's terms what that told, and hands out all that left the core. Nothing is
 //! settled, noted or dropped here, since the lock is held. The core of a channel with one history is
 //! changed by these steps and by nothing else.
-ghost use Rattle.std.specs.Prelude.{◌≡◌, ◌==◌, ◌&&◌, length, true, false, Some, None};
+ghost use Rattle.std.specs.Prelude.{◌≡◌, ◌==◌, ◌&&◌, ◌++◌, length, true, false, Some, None, IfNone, IfSome};
 ghost use Rattle.kanal_core.specs.Channel.{line_of};
+ghost use Rattle.kanal_core.specs.Tickets.{number_of};
 ghost use Rattle.kanal_core.specs.Calls.{IsFull, IsEmpty};
 ghost use Rattle.kanal_journal.specs.Steps.{Tells, answer as answer_of};
 ghost use Rattle.kanal_journal.specs.Replays.{is_no_memory};
-ghost use Rattle.kanal_one_history.specs.Made.{MustWait, Tries, is_plain, may_wait, reply_of, told_of};
+ghost use Rattle.kanal_one_history.specs.Made.{Keeps, MustWait, Tries, drained_of, is_plain, may_wait, reply_of, told_of, withdrawn};
 
-use kanal_core::error::WaitError;
-use kanal_core::internal::{ChannelInternal, Closing, Ended, Offer, Settled, Take};
+use kanal_board::Said;
+use kanal_core::error::{DrainError, WaitError};
+use kanal_core::internal::{
+    ChannelInternal, Closing, Ended, Offer, Settled, Steps, Take, Ticket, Waiter,
+};
 use kanal_journal::journal::{Ask, Event, Refusal, Reply, Side};
+use std::marker::Brand;
+
+/// What a vector held before a drain and after it, for proofs alone. It has no bytes.
+#[derive(Drop)]
+pub(crate) struct Moved<T> {
+    before: Said<Vec<T>>,
+    after: Said<Vec<T>>,
+}
 
 /// What a step of the core told.
 #[derive(Drop)]
@@ -24,6 +36,8 @@ pub(crate) enum Made<T, W> {
     All(Reply<T>, Ended<T, W>),
     /// A close, with the waits that it ended and the messages that it cleared.
     Shut(Closing<T, W>),
+    /// A drain of so many messages, with the waits that it settled and what it moved.
+    Drained(usize, Ended<T, W>, Moved<T>),
 }
 
 /// Whether the reply says that there was no memory.
@@ -42,6 +56,7 @@ impl<T: Drop, W: Drop> Made<T, W> {
             Made::One(reply, _settled) => says_no_memory(reply),
             Made::All(reply, _ended) => says_no_memory(reply),
             Made::Shut(_closing) => false,
+            Made::Drained(_count, _ended, _moved) => false,
         }
     }
 }
@@ -53,6 +68,15 @@ pub(crate) enum Tried<T, W> {
     Told(Made<T, W>),
     /// It must wait, and comes back.
     MustWait(Event<T>),
+}
+
+/// What the caller of a call that may wait has in hand then.
+#[derive(Drop)]
+pub(crate) enum Kept<W> {
+    /// The ticket under which the call waits.
+    Ticket(Ticket),
+    /// What was brought for a wait: the call doesn't wait.
+    Back(W),
 }
 
 /// A reply that settles no wait.
@@ -151,31 +175,43 @@ fn wait_send<T: Drop, W: Drop>(
     core: &mut ChannelInternal<T, W>,
     message: T,
     w: W,
-) -> (Made<T, W>, Option<W>)
+) -> (Made<T, W>, Kept<W>)
     requires full { IsFull (line_of core.old) }
     ensures told { Tells (line_of core.old) (Event.Send message)
         (told_of (line_of core.new) result.0) }
+    ensures kept { Keeps (reply_of result.0) result.1 }
 {
     match core.wait_send(message, w) {
-        Ok(ticket) => (only(Reply::Waits(ticket.number())), None),
+        Ok(ticket) => (only(Reply::Waits(ticket.number())), Kept::Ticket(ticket)),
         Err((WaitError::TooMany, back, w)) => {
-            (only(Reply::Refused(Refusal::TooMany, Some(back))), Some(w))
+            (
+                only(Reply::Refused(Refusal::TooMany, Some(back))),
+                Kept::Back(w),
+            )
         },
         Err((WaitError::NoMemory, back, w)) => {
-            (only(Reply::Refused(Refusal::NoMemory, Some(back))), Some(w))
+            (
+                only(Reply::Refused(Refusal::NoMemory, Some(back))),
+                Kept::Back(w),
+            )
         },
     }
 }
 
 /// Starts the wait of a receive that found no message.
-fn wait_recv<T: Drop, W: Drop>(core: &mut ChannelInternal<T, W>, w: W) -> (Made<T, W>, Option<W>)
+fn wait_recv<T: Drop, W: Drop>(core: &mut ChannelInternal<T, W>, w: W) -> (Made<T, W>, Kept<W>)
     requires empty { IsEmpty (line_of core.old) }
     ensures told { Tells (line_of core.old) Event.Recv (told_of (line_of core.new) result.0) }
+    ensures kept { Keeps (reply_of result.0) result.1 }
 {
     match core.wait_recv(w) {
-        Ok(ticket) => (only(Reply::Waits(ticket.number())), None),
-        Err((WaitError::TooMany, w)) => (only(Reply::Refused(Refusal::TooMany, None)), Some(w)),
-        Err((WaitError::NoMemory, w)) => (only(Reply::Refused(Refusal::NoMemory, None)), Some(w)),
+        Ok(ticket) => (only(Reply::Waits(ticket.number())), Kept::Ticket(ticket)),
+        Err((WaitError::TooMany, w)) => {
+            (only(Reply::Refused(Refusal::TooMany, None)), Kept::Back(w))
+        },
+        Err((WaitError::NoMemory, w)) => {
+            (only(Reply::Refused(Refusal::NoMemory, None)), Kept::Back(w))
+        },
     }
 }
 
@@ -184,10 +220,11 @@ fn wait<T: Drop, W: Drop>(
     core: &mut ChannelInternal<T, W>,
     event: Event<T>,
     w: W,
-) -> (Made<T, W>, Option<W>)
+) -> (Made<T, W>, Kept<W>)
     requires waits { may_wait event ≡ true }
     requires must { MustWait (line_of core.old) event }
     ensures told { Tells (line_of core.old) event (told_of (line_of core.new) result.0) }
+    ensures kept { Keeps (reply_of result.0) result.1 }
 {
     match event {
         Event::Send(message) => wait_send(core, message, w),
@@ -201,13 +238,46 @@ pub(crate) fn make_waiting<T: Drop, W: Drop>(
     core: &mut ChannelInternal<T, W>,
     event: Event<T>,
     w: W,
-) -> (Made<T, W>, Option<W>)
+) -> (Made<T, W>, Kept<W>)
     requires waits { may_wait event ≡ true }
     ensures told { Tells (line_of core.old) event (told_of (line_of core.new) result.0) }
+    ensures kept { Keeps (reply_of result.0) result.1 }
 {
     match start(core, event) {
-        Tried::Told(made) => (made, Some(w)),
+        Tried::Told(made) => (made, Kept::Back(w)),
         Tried::MustWait(event) => wait(core, event, w),
+    }
+}
+
+/// Takes the wait with this ticket back, if it waits.
+pub(crate) fn withdraw<T: Drop, W: Drop>(
+    core: &mut ChannelInternal<T, W>,
+    ticket: Ticket,
+) -> Option<Waiter<T, W>>
+    ensures told { IfSome result (λ w. Tells (line_of core.old) (Event.Withdraw (number_of ticket))
+        (withdrawn (line_of core.new) w.message)) }
+    ensures missing { IfNone result (core.new ≡ core.old) }
+{
+    let mut steps = Steps::<Brand>::idle();
+    core.withdraw(ticket, &mut steps)
+}
+
+/// Moves the whole line to the vector's end.
+pub(crate) fn drain<T: Drop, W: Drop>(
+    core: &mut ChannelInternal<T, W>,
+    into: &mut Vec<T>,
+) -> Made<T, W>
+    ensures told { Tells (line_of core.old) Event.Drain (told_of (line_of core.new) result) }
+    ensures moved { into.new.items ≡ into.old.items ++ drained_of result }
+{
+    let before = Said::of(&*into);
+    match core.drain_into(into) {
+        Ok((count, ended)) => {
+            let after = Said::of(&*into);
+            Made::Drained(count, ended, Moved { before, after })
+        },
+        Err(DrainError::Closed) => only(Reply::Refused(Refusal::Closed, None)),
+        Err(DrainError::NoMemory) => only(Reply::Refused(Refusal::NoMemory, None)),
     }
 }
 

@@ -1,19 +1,25 @@
 //! How a blocked call waits: it looks for what became of its wait with pauses, then with yields, and
-//! then sleeps until it is told.
+//! then sleeps until it is told or its deadline comes.
 //!
-//! Stands on the cell's waiting end and on parking. The types keep that an end is put to sleep once. What
-//! is asked for memory is there before the wait starts, so nothing is refused here.
+//! Stands on the cell's waiting end, on parking and on clocks. The types keep that an end is put to sleep
+//! once. What is asked for memory is there before the wait starts, so nothing is refused here.
 ghost use Rattle.kanal_cell.specs.CellRule.{HasNotLeft, MaySleep};
 ghost use Rattle.kanal_cell.specs.CellEnds.{wait_view};
 
 use crossbeam_utils::Backoff;
 use crossbeam_utils::sync::{Parker, Unparker};
 use kanal_cell::signal::WaitEnd;
+use kanal_shared::Clock;
 use std::alloc::{AllocError, Global};
 use std::sync::Wait;
+use std::time;
+use std::time::Duration;
 
 /// How often a call looks with yields between before it sleeps.
 const YIELDS: u32 = 64;
+
+/// How long a call with a deadline sleeps at most before it reads its clock again, in nanoseconds.
+const NAP: u64 = 1_000_000;
 
 /// A waiting end that has neither slept nor had its outcome.
 #[derive(Drop)]
@@ -56,11 +62,30 @@ impl<P: Drop> Asleep<P> {
     }
 }
 
+/// Whether a blocked call has put its sleeper into the cell.
+#[derive(Drop)]
+enum Watch<P> {
+    /// It has not.
+    Awake(Awake<P>, Unparker),
+    /// It has.
+    Asleep(Asleep<P>),
+}
+
+/// What looking at a cell until a deadline came to.
+#[derive(Drop)]
+enum Looked<P> {
+    /// The outcome.
+    Outcome(P),
+    /// The deadline passed.
+    Late(Awake<P>),
+    /// Neither yet.
+    Early(Awake<P>),
+}
+
 /// A blocked call's half of its wait: the cell's waiting end, and what it sleeps with.
 #[derive(Drop)]
 pub(crate) struct Waiting<P> {
-    awake: Awake<P>,
-    sleeper: Unparker,
+    watch: Watch<P>,
     parker: Parker,
 }
 
@@ -71,26 +96,52 @@ impl<P: Drop> Waiting<P> {
     {
         let parker = Parker::new(alloc)?;
         let sleeper = parker.unparker().clone()?;
-        let awake = Awake { end };
-        Ok(Waiting {
-            awake,
-            sleeper,
-            parker,
-        })
+        let watch = Watch::Awake(Awake { end }, sleeper);
+        Ok(Waiting { watch, parker })
     }
 
     /// Waits for the outcome.
     pub(crate) fn outcome<R: Wait>(self, rt: &R) -> P {
-        let Waiting {
-            awake,
-            sleeper,
-            parker,
-        } = self;
-        match look(awake) {
-            Ok(outcome) => outcome,
-            Err(awake) => match awake.sleep(sleeper) {
+        let Waiting { watch, parker } = self;
+        match watch {
+            Watch::Awake(awake, sleeper) => match look(awake) {
                 Ok(outcome) => outcome,
-                Err(asleep) => park(rt, &parker, asleep),
+                Err(awake) => match awake.sleep(sleeper) {
+                    Ok(outcome) => outcome,
+                    Err(asleep) => park(rt, &parker, asleep),
+                },
+            },
+            Watch::Asleep(asleep) => park(rt, &parker, asleep),
+        }
+    }
+
+    /// Waits for the outcome until the deadline; the rest of the wait where that passed.
+    pub(crate) fn outcome_until<R: Wait + time::Clock, C: Clock>(
+        self,
+        rt: &R,
+        clock: &C,
+        deadline: u64,
+    ) -> Result<P, Self> {
+        let Waiting { watch, parker } = self;
+        let asleep = match watch {
+            Watch::Awake(awake, sleeper) => match look_until(awake, clock, deadline) {
+                Looked::Outcome(outcome) => return Ok(outcome),
+                Looked::Late(awake) => {
+                    let watch = Watch::Awake(awake, sleeper);
+                    return Err(Waiting { watch, parker });
+                },
+                Looked::Early(awake) => match awake.sleep(sleeper) {
+                    Ok(outcome) => return Ok(outcome),
+                    Err(asleep) => asleep,
+                },
+            },
+            Watch::Asleep(asleep) => asleep,
+        };
+        match park_until(rt, &parker, asleep, clock, deadline) {
+            Ok(outcome) => Ok(outcome),
+            Err(asleep) => {
+                let watch = Watch::Asleep(asleep);
+                Err(Waiting { watch, parker })
             },
         }
     }
@@ -110,6 +161,24 @@ fn look<P: Drop>(awake: Awake<P>) -> Result<P, Awake<P>> {
     Err(awake)
 }
 
+/// The same, while the clock is below the deadline, and once after that.
+fn look_until<P: Drop, C: Clock>(awake: Awake<P>, clock: &C, deadline: u64) -> Looked<P> {
+    let backoff = Backoff::new();
+    let mut awake = awake;
+    for _ in 0..YIELDS {
+        let is_late = clock.now() >= deadline;
+        match awake.poll() {
+            Ok(outcome) => return Looked::Outcome(outcome),
+            Err(back) => awake = back,
+        }
+        if is_late {
+            return Looked::Late(awake);
+        }
+        backoff.snooze();
+    }
+    Looked::Early(awake)
+}
+
 /// Sleeps until the outcome is there.
 fn park<P: Drop, R: Wait>(rt: &R, parker: &Parker, asleep: Asleep<P>) -> P {
     let mut asleep = asleep;
@@ -118,6 +187,30 @@ fn park<P: Drop, R: Wait>(rt: &R, parker: &Parker, asleep: Asleep<P>) -> P {
         if let Some(outcome) = asleep.poll() {
             return outcome;
         }
+    }
+    unreachable!()
+}
+
+/// The same, while the clock is below the deadline, and looks once after that. It sleeps for at most
+/// a millisecond of real time before it reads the clock again, and for no longer than is left.
+fn park_until<P: Drop, R: Wait + time::Clock, C: Clock>(
+    rt: &R,
+    parker: &Parker,
+    asleep: Asleep<P>,
+    clock: &C,
+    deadline: u64,
+) -> Result<P, Asleep<P>> {
+    let mut asleep = asleep;
+    for _ in rt.forever() {
+        let now = clock.now();
+        if let Some(outcome) = asleep.poll() {
+            return Ok(outcome);
+        }
+        if now >= deadline {
+            return Err(asleep);
+        }
+        let left = deadline - now;
+        parker.park_timeout(rt, Duration::from_nanos(left.min(NAP)));
     }
     unreachable!()
 }

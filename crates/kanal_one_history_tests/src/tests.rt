@@ -1,5 +1,8 @@
 //! The tests of a channel with one history, and what they share.
+mod deadlines;
+mod drained;
 mod given;
 mod passes;
 mod rows;
 mod threads;
+mod timed;

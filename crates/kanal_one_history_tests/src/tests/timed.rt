@@ -1,0 +1,153 @@
+//! Calls with a deadline, by one pass and by clocks that are told what to say.
+ghost use Rattle.std.specs.Prelude.{◌≡◌, Some};
+ghost use Rattle.kanal_board.specs.Boards.{table_of};
+
+use crate::tests::given::{board, equal};
+use kanal_core::error::{NewError, ReceiveErrorTimeout, SendErrorTimeout};
+use kanal_one_history::{Call, Channel, Clock, Naming, Opened, Pass};
+use std::alloc::Global;
+use std::cell::Cell;
+use std::marker::Brand;
+use std::process::Abort;
+use std::sync::Wait;
+use std::time;
+use std::time::Duration;
+
+/// A clock that stands at one moment.
+#[derive(Drop)]
+struct Still {
+    moment: u64,
+}
+
+impl Clock for Still {
+    fn now(&self) -> u64 {
+        self.moment
+    }
+}
+
+/// A clock that rises by one each call, from 0.
+#[derive(Drop)]
+struct Rising {
+    next: Cell<u64>,
+}
+
+impl Clock for Rising {
+    fn now(&self) -> u64 {
+        let now = self.next.get();
+        self.next.set(now.wrapping_add(1));
+        now
+    }
+}
+
+/// A full channel: the send waits until its deadline, and its message is gone then.
+fn full<J: Naming, R: Wait + time::Clock + Abort>(
+    rt: &R,
+    channel: &Channel<u64, J>,
+    pass: &mut Pass<u64, J>,
+) {
+    let none = Duration::from_nanos(0);
+    let still = Still { moment: 5 };
+    equal(rt, channel.send_timeout(rt, pass, 1, none, &still), Ok(()));
+    equal(
+        rt,
+        channel.send_timeout(rt, pass, 7, none, &still),
+        Err(SendErrorTimeout::Timeout),
+    );
+    equal(rt, channel.recv_timeout(rt, pass, none, &still), Ok(1));
+    equal(rt, channel.try_recv(rt, pass), Ok(None));
+    equal(
+        rt,
+        channel.recv_timeout(rt, pass, none, &still),
+        Err(ReceiveErrorTimeout::Timeout),
+    );
+}
+
+/// An empty channel without senders: what a receive answers depends on whether its deadline passed.
+fn left<J: Naming, R: Wait + time::Clock + Abort>(
+    rt: &R,
+    channel: &Channel<u64, J>,
+    pass: &mut Pass<u64, J>,
+) {
+    let none = Duration::from_nanos(0);
+    let rising = Rising { next: Cell::new(0) };
+    channel.drop_sender(rt, pass);
+    equal(
+        rt,
+        channel.recv_timeout(rt, pass, none, &Still { moment: 0 }),
+        Err(ReceiveErrorTimeout::SendClosed),
+    );
+    equal(
+        rt,
+        channel.recv_timeout(rt, pass, none, &rising),
+        Err(ReceiveErrorTimeout::Timeout),
+    );
+    equal(
+        rt,
+        channel.send_timeout(rt, pass, 1, none, &rising),
+        Err(SendErrorTimeout::Sealed),
+    );
+}
+
+/// No moment is so late: the channel isn't looked at.
+fn too_late<J: Naming, R: Wait + time::Clock + Abort>(
+    rt: &R,
+    channel: &Channel<u64, J>,
+    pass: &mut Pass<u64, J>,
+) {
+    let last = Still { moment: u64::MAX };
+    let one = Duration::from_nanos(1);
+    equal(rt, channel.close(rt, pass), Ok(()));
+    equal(
+        rt,
+        channel.recv_timeout(rt, pass, one, &last),
+        Err(ReceiveErrorTimeout::DeadlineOutOfRange),
+    );
+    equal(
+        rt,
+        channel.send_timeout(rt, pass, 1, one, &last),
+        Err(SendErrorTimeout::DeadlineOutOfRange),
+    );
+    let none = Duration::from_nanos(0);
+    equal(
+        rt,
+        channel.recv_timeout(rt, pass, none, &last),
+        Err(ReceiveErrorTimeout::Closed),
+    );
+    equal(
+        rt,
+        channel.send_timeout(rt, pass, 1, none, &last),
+        Err(SendErrorTimeout::Closed),
+    );
+}
+
+/// Makes the calls of one row on a new channel for one message.
+fn bounded<J: Naming, R: Wait + time::Clock + Abort>(
+    rt: &R,
+    alloc: Global,
+    capacity: usize,
+    row: u8,
+    opened: Opened<Call<u64>>,
+) -> Result<(), NewError>
+    requires name { table_of opened ≡ J.table }
+    requires capacity { J.capacity ≡ Some capacity }
+{
+    let (channel, mut pass) = Channel::<u64, J>::bounded(alloc, capacity, opened)?;
+    match row {
+        0 => full(rt, &channel, &mut pass),
+        1 => left(rt, &channel, &mut pass),
+        _ => too_late(rt, &channel, &mut pass),
+    }
+    Ok(())
+}
+
+#[test]
+fn rows_with_a_deadline(rt: HostRuntime) {
+    for row in 0..3u8 {
+        let opened = board(&rt, rt.alloc());
+        equal(
+            &rt,
+            bounded::<Brand, _>(&rt, rt.alloc(), 1, row, opened),
+            Ok(()),
+        );
+    }
+}

@@ -186,20 +186,6 @@ impl<T: Drop> Locked<'_, T> {
         }
     }
 
-    /// Applies the notices. Where they take something out, the lock is released, and that is settled.
-    #[cold]
-    fn catch_up(self) -> Option<Self> {
-        let mut locked = self;
-        let taken = locked.shared.apply(&mut locked.core);
-        if taken.is_nothing() {
-            taken.settle();
-            return Some(locked);
-        }
-        locked.release();
-        taken.settle();
-        None
-    }
-
     /// Releases the lock: for the ways out above, and for a look.
     #[inline]
     fn release(self) {
@@ -223,32 +209,52 @@ impl<T: Drop> Shared<T> {
     /// ```
     #[inline]
     pub fn hold<R: Wait>(&self, rt: &R) -> Locked<'_, T> {
+        let core = self.guard(rt);
+        self.locked(core)
+    }
+
+    /// The guard of the lock, with no notice left to apply.
+    #[inline]
+    fn guard<R: Wait>(&self, rt: &R) -> MutexGuard<'_, Core<T>> {
         if let Some(core) = self.core.try_lock() {
             if self.is_quiet() {
-                return self.locked(core);
+                return core;
             }
             drop(core);
         }
-        self.hold_anew(rt)
+        self.guard_anew(rt)
     }
 
     /// The same, where the lock was held or there are notices.
     #[cold]
-    fn hold_anew<R: Wait>(&self, rt: &R) -> Locked<'_, T> {
+    fn guard_anew<R: Wait>(&self, rt: &R) -> MutexGuard<'_, Core<T>> {
         for _ in rt.forever() {
             let core = match self.core.try_lock() {
                 Some(core) => core,
                 None => self.contend(rt),
             };
-            let locked = self.locked(core);
             if self.is_quiet() {
-                return locked;
+                return core;
             }
-            if let Some(locked) = locked.catch_up() {
-                return locked;
+            if let Some(core) = self.catch_up(core) {
+                return core;
             }
         }
         unreachable!()
+    }
+
+    /// Applies the notices. Where they take something out, the lock is released, and that is settled.
+    #[cold]
+    fn catch_up<'a>(&'a self, core: MutexGuard<'a, Core<T>>) -> Option<MutexGuard<'a, Core<T>>> {
+        let mut core = core;
+        let taken = self.apply(&mut core);
+        if taken.is_nothing() {
+            taken.settle();
+            return Some(core);
+        }
+        drop(core);
+        taken.settle();
+        None
     }
 
     /// Tries once to get the lock, and applies no notice; `None` where it is held.

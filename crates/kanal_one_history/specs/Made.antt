@@ -73,6 +73,13 @@ module _ {T W : Type 0} where
   drained_of (Shut closing) = []
   drained_of (Drained count ended moved) = drop (length moved.before.items) moved.after.items
 
+  -- it is a drain that was made
+  abbrev pub is_drained : Made T W → Bool
+  is_drained (One reply settled) = false
+  is_drained (All reply ended) = false
+  is_drained (Shut closing) = false
+  is_drained (Drained count ended moved) = true
+
   -- the messages that it cleared
   abbrev pub cleared_of : Made T W → List T
   cleared_of (One reply settled) = []

@@ -52,6 +52,7 @@ fn ends<T: Drop, J: Naming>(alloc: Global) -> Option<(Waiting<Delivered<T, J>>, 
 
 impl<T: Drop, J: Naming> Channel<T, J> {
     /// Tells those whose waits the call settled, and drops what it cleared. The lock is released.
+    #[inline(always)]
     pub(crate) fn settle(&self, pass: &mut Pass<T, J>, made: Made<T, Settler<T, J>>) -> Reply<T>
         requires seen { HaveSettled pass.old.log (settled_of made) }
         ensures reply { result ≡ reply_of made }
@@ -93,6 +94,7 @@ impl<T: Drop, J: Naming> Channel<T, J> {
     }
 
     /// Makes a call that waits where it must.
+    #[inline(always)]
     #[tactic(auto, using(crate::proofs::Settling::noted_settled, crate::proofs::Settling::come_from))]
     pub(crate) fn blocking<R: Wait>(
         &self,

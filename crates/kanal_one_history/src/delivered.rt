@@ -83,6 +83,7 @@ impl<T: Drop, J: Naming> Settler<T, J> {
 }
 
 /// Tells a waiter what became of its wait, which this pass has seen. The lock is released.
+#[cold]
 pub(crate) fn settle<T: Drop, J: Naming>(
     board: &Board<Call<T>, J>,
     pass: &mut Pass<T, J>,
@@ -101,6 +102,7 @@ pub(crate) fn settle<T: Drop, J: Naming>(
 }
 
 /// Tells all waiters of a step, oldest first. The lock is released.
+#[cold]
 pub(crate) fn settle_all<T: Drop, J: Naming>(
     board: &Board<Call<T>, J>,
     pass: &mut Pass<T, J>,

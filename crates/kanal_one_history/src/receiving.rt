@@ -1,7 +1,8 @@
 //! Receiving on a channel with one history.
 //!
 //! Stands on `blocking` and `timed`. Each call here is one event, and its answer is what the reply reads as.
-ghost use Rattle.std.specs.Prelude.{◌≡◌, ◌⊎◌, Err, IfErr};
+ghost use Rattle.std.specs.Prelude.{◌≡◌, ◌⊎◌, Err, IfErr, OnErr};
+ghost use Rattle.std.specs.Vec.{vec_capacity};
 ghost use Rattle.kanal_one_history.specs.Makes.{Drains, Finishes, FinishesInTime, IsReplied};
 ghost use Rattle.kanal_one_history.specs.Results.{answer_in_time, asked_by, drained_by, receive_error, receive_in_time, received_after, received_by, timed_receive_error, timed_received_after, timed_received_by};
 
@@ -19,6 +20,7 @@ use std::time;
 use std::time::Duration;
 
 /// Why a receive is refused.
+#[cold]
 fn receive_error(reason: Refusal) -> ReceiveError
     ensures { result ≡ receive_error reason }
 {
@@ -31,6 +33,7 @@ fn receive_error(reason: Refusal) -> ReceiveError
 }
 
 /// The answer of a receive that waits where it must.
+#[inline(always)]
 fn received_by<T: Drop>(reply: Reply<T>) -> Result<T, ReceiveError>
     ensures { result ≡ received_by reply }
 {
@@ -54,6 +57,7 @@ fn asked_by<T: Drop>(reply: Reply<T>) -> Result<Option<T>, ReceiveError>
 }
 
 /// What the end of a receiver's wait answers.
+#[cold]
 fn received_after<T: Drop>(outcome: Outcome<T>) -> Result<T, ReceiveError>
     ensures { result ≡ received_after outcome }
 {
@@ -195,13 +199,13 @@ impl<T: Drop, J: Naming> Channel<T, J> {
     /// # Errors
     /// `Closed` where no receiver is left. `NoMemory` where the vector had too little room and there was no
     /// memory for more: the call is in no history then, and the pass has seen that a line may refuse it so.
-    /// The vector holds what it held.
+    /// The vector holds what it held, and has the room that it had.
     ///
     /// # Examples
     /// ```text
     /// channel.drain_into(rt, &mut pass, &mut messages)   answers  Ok(2)   where two messages were there
     /// ```
-    #[tactic(auto, using(crate::proofs::Settling::noted_settled, crate::proofs::Draining::noted_drains, crate::proofs::Draining::refused_holds))]
+    #[tactic(auto, using(crate::proofs::Settling::noted_settled, crate::proofs::Draining::noted_drains, crate::proofs::Draining::refused_holds, crate::proofs::Draining::refused_keeps_room))]
     pub fn drain_into<R: Wait>(
         &self,
         rt: &R,
@@ -210,6 +214,7 @@ impl<T: Drop, J: Naming> Channel<T, J> {
     ) -> Result<usize, ReceiveError>
         ensures drained { Drains J.capacity pass.old pass.new into.old.items into.new.items result }
         ensures refused { IfErr result (λ _. into.new.items ≡ into.old.items) }
+        ensures no_growth { OnErr result (vec_capacity into.new ≡ vec_capacity into.old) }
     {
         let made = self.state.lock(rt).drain(&self.board, pass, into);
         drained_by(self.settle(pass, made))

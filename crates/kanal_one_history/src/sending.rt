@@ -19,6 +19,7 @@ use std::time;
 use std::time::Duration;
 
 /// Why a send is refused.
+#[cold]
 fn send_error(reason: Refusal) -> SendError
     ensures { result ≡ send_error reason }
 {
@@ -32,6 +33,7 @@ fn send_error(reason: Refusal) -> SendError
 }
 
 /// The answer of a send that waits where it must.
+#[inline(always)]
 fn sent_by<T: Drop>(reply: Reply<T>) -> Result<(), SendError>
     ensures { result ≡ sent_by reply }
 {
@@ -63,6 +65,7 @@ fn restored<T: Drop>(reply: Reply<T>, option: &mut Option<T>) -> Result<bool, Se
 }
 
 /// What the end of a sender's wait answers.
+#[cold]
 fn sent_after<T: Drop>(outcome: Outcome<T>) -> Result<(), SendError>
     ensures { result ≡ sent_after outcome }
 {

@@ -4,6 +4,7 @@
 //! that was made into the history, before the lock is given back; a call that is refused for memory is
 //! in no history. Nothing else writes the history.
 ghost use Rattle.std.specs.Prelude.{◌≡◌, ◌∷◌, ◌++◌, [], true, false, IfNone, IfSome};
+ghost use Rattle.std.specs.Vec.{vec_capacity};
 ghost use Rattle.kanal_board.specs.Views.{known};
 ghost use Rattle.kanal_core.specs.Channel.{line_of};
 ghost use Rattle.kanal_core.specs.Line.{Line};
@@ -12,7 +13,7 @@ ghost use Rattle.kanal_journal.specs.Replays.{is_no_memory};
 ghost use Rattle.kanal_journal.specs.Runs.{opening_line};
 ghost use Rattle.kanal_journal.specs.Steps.{Tells};
 ghost use Rattle.kanal_one_history.specs.Calls.{IsLegal, line_after};
-ghost use Rattle.kanal_one_history.specs.Made.{Keeps, call_from, drained_of, is_plain, may_wait, reply_of, told_of, withdrawal};
+ghost use Rattle.kanal_one_history.specs.Made.{Keeps, call_from, drained_of, is_drained, is_plain, may_wait, reply_of, told_of, withdrawal};
 ghost use Rattle.kanal_one_history.specs.Makes.{IsNoted, IsTried, Makes};
 
 use crate::call::Call;
@@ -69,6 +70,7 @@ impl<T, J: Naming> Model for State<T, J> {
 
 /// Puts the call that was made into the history, and shows it to the pass; or shows what is there, where
 /// there was no memory for the call.
+#[inline(always)]
 fn note<T: Drop, W: Drop, J: Naming>(
     keeper: &mut Keeper<Call<T>, J>,
     board: &Board<Call<T>, J>,
@@ -131,6 +133,7 @@ impl<T: Drop, J: Naming> State<T, J> {
     }
 
     /// Makes a send or a receive, unless it must wait: the pass has seen that it must then.
+    #[inline(always)]
     pub(crate) fn start(
         &mut self,
         board: &Board<Call<T>, J>,
@@ -199,6 +202,8 @@ impl<T: Drop, J: Naming> State<T, J> {
     ) -> Made<T, Settler<T, J>>
         ensures noted { IsNoted J.capacity pass.old pass.new Event.Drain result }
         ensures moved { into.new.items ≡ into.old.items ++ drained_of result }
+        ensures no_growth { is_drained result ≡ false
+            → vec_capacity into.new ≡ vec_capacity into.old }
     {
         let asked = Said::of(&Event::Drain);
         let made = steps::drain(&mut self.core, into);

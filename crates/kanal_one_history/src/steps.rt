@@ -5,12 +5,13 @@
 //! settled, noted or dropped here, since the lock is held. The core of a channel with one history is
 //! changed by these steps and by nothing else.
 ghost use Rattle.std.specs.Prelude.{◌≡◌, ◌==◌, ◌&&◌, ◌++◌, length, true, false, Some, None, IfNone, IfSome};
+ghost use Rattle.std.specs.Vec.{vec_capacity};
 ghost use Rattle.kanal_core.specs.Channel.{line_of};
 ghost use Rattle.kanal_core.specs.Tickets.{number_of};
 ghost use Rattle.kanal_core.specs.Calls.{IsFull, IsEmpty};
 ghost use Rattle.kanal_journal.specs.Steps.{Tells, answer as answer_of};
 ghost use Rattle.kanal_journal.specs.Replays.{is_no_memory};
-ghost use Rattle.kanal_one_history.specs.Made.{Keeps, MustWait, Tries, drained_of, is_plain, may_wait, reply_of, told_of, withdrawn};
+ghost use Rattle.kanal_one_history.specs.Made.{Keeps, MustWait, Tries, drained_of, is_drained, is_plain, may_wait, reply_of, told_of, withdrawn};
 
 use kanal_board::Said;
 use kanal_core::error::{DrainError, WaitError};
@@ -41,6 +42,7 @@ pub(crate) enum Made<T, W> {
 }
 
 /// Whether the reply says that there was no memory.
+#[inline(always)]
 fn says_no_memory<T>(reply: &Reply<T>) -> bool
     ensures { result ≡ is_no_memory reply.now }
 {
@@ -49,6 +51,7 @@ fn says_no_memory<T>(reply: &Reply<T>) -> bool
 
 impl<T: Drop, W: Drop> Made<T, W> {
     /// Whether the reply says that there was no memory.
+    #[inline(always)]
     pub(crate) fn lacks_memory(&self) -> bool
         ensures { result ≡ is_no_memory (reply_of self.now) }
     {
@@ -80,6 +83,7 @@ pub(crate) enum Kept<W> {
 }
 
 /// A reply that settles no wait.
+#[inline(always)]
 fn only<T: Drop, W: Drop>(reply: Reply<T>) -> Made<T, W>
     ensures { result ≡ Made.One reply None }
 {
@@ -127,6 +131,7 @@ fn recv_late<T: Drop, W: Drop>(core: &mut ChannelInternal<T, W>) -> Made<T, W>
 }
 
 /// Offers the message of a call that waits where there is no place for it.
+#[inline(always)]
 fn offer<T: Drop, W: Drop>(core: &mut ChannelInternal<T, W>, message: T) -> Tried<T, W>
     ensures step { Tries (line_of core.old) (Event.Send message) result (line_of core.new) }
 {
@@ -143,6 +148,7 @@ fn offer<T: Drop, W: Drop>(core: &mut ChannelInternal<T, W>, message: T) -> Trie
 }
 
 /// Asks for a message, for a call that waits where there is none.
+#[inline(always)]
 fn take<T: Drop, W: Drop>(core: &mut ChannelInternal<T, W>) -> Tried<T, W>
     ensures step { Tries (line_of core.old) Event.Recv result (line_of core.new) }
 {
@@ -156,6 +162,7 @@ fn take<T: Drop, W: Drop>(core: &mut ChannelInternal<T, W>) -> Tried<T, W>
 }
 
 /// Makes a send or a receive, unless it must wait.
+#[inline(always)]
 pub(crate) fn start<T: Drop, W: Drop>(
     core: &mut ChannelInternal<T, W>,
     event: Event<T>,
@@ -269,6 +276,7 @@ pub(crate) fn drain<T: Drop, W: Drop>(
 ) -> Made<T, W>
     ensures told { Tells (line_of core.old) Event.Drain (told_of (line_of core.new) result) }
     ensures moved { into.new.items ≡ into.old.items ++ drained_of result }
+    ensures no_growth { is_drained result ≡ false → vec_capacity into.new ≡ vec_capacity into.old }
 {
     let before = Said::of(&*into);
     match core.drain_into(into) {

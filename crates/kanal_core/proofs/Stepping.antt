@@ -1,5 +1,5 @@
 -- Each call of the core, as a step of its line.
-use Rattle.std.proofs.Common.{◌≡◌, ℕ, ◌+◌, ◌≤◌, ◌⊎◌, suc, true, false, not, List, [], ◌∷◌, ◌++◌, length, map, filter, take, drop, Option, Some, None, refl, ap, ◌∙◌, inl, inr, arith, append-nil, append_assoc, length-append}
+use Rattle.std.proofs.Common.{◌≡◌, ℕ, ◌+◌, ◌≤◌, ◌⊎◌, suc, true, false, not, List, [], ◌∷◌, ◌++◌, length, map, filter, take, drop, Option, Some, None, IfSome, MatchOption, refl, ap, ◌∙◌, inl, inr, arith, append-nil, append_assoc, length-append}
 use Rattle.std.specs.Option.{option_map}
 use Rattle.std.proofs.lemmas.List.Elements.{filter_map-append}
 use Rattle.std.proofs.lemmas.Bool.{cases_Bool}
@@ -81,6 +81,11 @@ takes-alone W c s r n m ms some_receiver =
       message = refl;
       moves = rw append-nil (leave-bare (line_of (row {W = W} c s r n (m ∷ ms) [])) m ms);
     }
+
+-- the front is taken where there is one, and nobody waits
+pub popped : {T : Type 0} (W A B : Type 0) (c : Option ℕ) (s r n : ℕ) (ms new : List T) (ws : List (Waiter T W)) (got : Option T) → (r ≡ 0 → ⊥) → ws ≡ [] → MatchOption got ((ms ≡ []) × A) (λ m. (ms ≡ m ∷ new) × B) → IfSome got (λ m. TakesFront (line_of (row c s r n ms ws)) m [] (line_of (row c s r n new ws)))
+popped W A B c s r n ms new ws None some_receiver alone e = tt
+popped W A B c s r n ms new ws (Some m) some_receiver alone e = rw (alone, e.0) (takes-alone W c s r n m new some_receiver)
 
 module _ {T W : Type 0} (s r n : ℕ) (first : Waiter T W) (new : List (Waiter T W)) (m : T) (sent : T) (e : first.message ≡ Some sent) (a : AllSend new) where
   let-in-moves : (ms : List T) → MovesTo (leave (line_of (row (Some (suc (length ms))) s r n (m ∷ ms) (first ∷ new))) (bare m ∷ []) (map bare ms ++ waiting sent first.ticket.number ∷ entries new)) ((first.ticket.number, Taken) ∷ []) (line_of (row (Some (suc (length ms))) s r n (ms ++ sent ∷ []) new))

@@ -27,6 +27,7 @@ use std::alloc::Global;
 use std::marker::Model;
 use std::sync::ledger::Ledger;
 
+mod alone;
 mod buffer;
 mod draining;
 mod handles;

@@ -56,6 +56,7 @@ impl<T, W> Slots<T, W> {
     }
 
     /// How many slots are in use.
+    #[inline(always)]
     pub fn len(&self) -> usize
         ensures { result ≡ slab_len self.now.slab }
     {

@@ -4,7 +4,7 @@
 //! is named by its ticket, which has the place of its slot, so that one which leaves is found at
 //! once; no other module reads that place. A place is used again after its waiter has left, and the
 //! ticket's number then tells the two apart.
-ghost use Rattle.std.specs.Prelude.{◌≡◌, ◌+◌, ◌≤◌, ℕ, [], ◌++◌, cond, drop, length, map, slice_get, IfErr, IfNone, IfOk, IfSome, option_copied};
+ghost use Rattle.std.specs.Prelude.{◌≡◌, ◌+◌, ◌≤◌, ◌↔◌, ℕ, [], ◌++◌, cond, true, drop, length, map, slice_get, IfErr, IfNone, IfOk, IfSome, option_copied};
 ghost use Rattle.std.specs.Vec.{vec_capacity, vec_len};
 ghost use Rattle.std.specs.Borrow.{sem};
 ghost use Rattle.std.specs.Fn.{FnReturnsAt};
@@ -91,6 +91,14 @@ impl<T, W> WaitList<T, W> {
         Some(&slot.waiter)
     }
 
+    /// Whether nobody waits.
+    #[inline(always)]
+    pub fn is_empty(&self) -> bool
+        ensures { (result ≡ true) ↔ (self.now ≡ []) }
+    {
+        self.len() == 0
+    }
+
     /// Whether receivers wait, where all that wait are of one side.
     #[inline]
     pub fn receiver_first(&self) -> bool
@@ -114,6 +122,7 @@ impl<T, W> WaitList<T, W> {
     }
 
     /// How many wait.
+    #[inline(always)]
     fn len(&self) -> usize
         ensures { result ≡ length self.now }
     {

@@ -9,7 +9,7 @@ ghost use Rattle.kanal_shared.specs.Drains.{GoesOnBy};
 mod timed;
 
 use crate::sending::wait;
-use crate::shared::Shared;
+use crate::shared::{Locked, Shared};
 use kanal_core::error::ReceiveError;
 use kanal_core::internal::{Outcome, Reason};
 use kanal_steps::seat::Seat;
@@ -27,6 +27,15 @@ pub(crate) fn answer_of<T: Drop>(outcome: Outcome<T>) -> Result<T, ReceiveError>
     }
 }
 
+/// Takes the front message under the lock, where it did not leave the buffer by itself.
+#[cold]
+fn try_recv_held<T: Drop>(locked: Locked<'_, T>) -> Result<Option<T>, ReceiveError> {
+    let mut locked = locked;
+    let (answer, owed) = steps::try_recv(&mut locked.core);
+    locked.give_back(owed);
+    answer
+}
+
 impl<T: Drop> Shared<T> {
     /// Receives the front message, if there is one; `Ok(None)` says that there is none. It waits for
     /// the lock.
@@ -41,9 +50,13 @@ impl<T: Drop> Shared<T> {
     #[inline(always)]
     pub fn try_recv<R: Wait>(&self, rt: &R) -> Result<Option<T>, ReceiveError> {
         let mut locked = self.hold(rt);
-        let (answer, owed) = steps::try_recv(&mut locked.core);
-        locked.give_back(owed);
-        answer
+        match locked.core.pop() {
+            Some(message) => {
+                locked.give_back_quiet();
+                Ok(Some(message))
+            },
+            None => try_recv_held(locked),
+        }
     }
 
     /// The same, where the lock is free: it waits for nobody. `Ok(None)` says that there is none or

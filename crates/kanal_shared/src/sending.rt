@@ -11,7 +11,7 @@ ghost use Rattle.kanal_shared.specs.Waits.{end_at};
 mod timed;
 
 use crate::backoff::Waiting;
-use crate::shared::Shared;
+use crate::shared::{Locked, Shared};
 use kanal_cell::signal;
 use kanal_core::error::SendError;
 use kanal_core::internal::{Outcome, Reason};
@@ -42,6 +42,17 @@ pub(crate) fn wait<T: Drop>(alloc: Global) -> Option<(Waiting<Outcome<T>>, Box<S
     Some((waiting, seat))
 }
 
+/// Offers the message under the lock, where it did not enter by itself.
+#[cold]
+fn offer_held<T: Drop>(locked: Locked<'_, T>, message: T) -> Offered<T>
+    ensures back { IfSome (back_of result) (λ back. back ≡ message) }
+{
+    let mut locked = locked;
+    let (offered, owed) = steps::try_send(&mut locked.core, message);
+    locked.give_back(owed);
+    offered
+}
+
 impl<T: Drop> Shared<T> {
     /// Offers the message: it enters where there is a place for it, and comes back otherwise. It waits
     /// for the lock.
@@ -58,9 +69,13 @@ impl<T: Drop> Shared<T> {
         ensures back { IfSome (back_of result) (λ back. back ≡ message) }
     {
         let mut locked = self.hold(rt);
-        let (offered, owed) = steps::try_send(&mut locked.core, message);
-        locked.give_back(owed);
-        offered
+        match locked.core.push(message) {
+            Ok(()) => {
+                locked.give_back_quiet();
+                Offered::Entered
+            },
+            Err(message) => offer_held(locked, message),
+        }
     }
 
     /// The same, where the lock is free: it waits for nobody. Where the lock is held there is no place.

@@ -94,17 +94,12 @@ impl<'a, T: Drop> ReceiveFuture<'a, T> {
         if !self.shared.is_quiet() {
             return self.begin_noticed(locked, cx);
         }
-        let (answer, owed) = steps::try_recv(&mut locked.core);
-        match answer {
-            Ok(Some(message)) => {
-                locked.give_back(owed);
+        match locked.core.pop() {
+            Some(message) => {
+                locked.give_back_quiet();
                 Poll::Ready(Ok(message))
             },
-            Ok(None) => self.start_quiet(locked, owed, cx),
-            Err(error) => {
-                locked.give_back(owed);
-                Poll::Ready(Err(error))
-            },
+            None => self.begin_quiet(locked, cx),
         }
     }
 
@@ -123,6 +118,40 @@ impl<'a, T: Drop> ReceiveFuture<'a, T> {
     {
         let mut locked = locked;
         let left = locked.take_left();
+        self.begin_held(locked, left, cx)
+    }
+
+    /// The same, where there were none, and no message left the buffer by itself.
+    #[cold]
+    fn begin_quiet(
+        &mut self,
+        locked: Locked<'_, T>,
+        cx: &mut Context<'_>,
+    ) -> Poll<Result<T, ReceiveError>>
+        requires { receive_is_over self.old ≡ true }
+        ensures ends { IfReady result (λ _. receive_is_over self.new ≡ true) }
+        ensures goes_on { OnPending result (receive_is_over self.new ≡ false) }
+        ensures registered { OnPending result (Covers cx.new (λ s. s ≡ receive_source self.new)) }
+        ensures kept { Keeps cx.old cx.new }
+    {
+        self.begin_held(locked, Left::nothing(), cx)
+    }
+
+    /// Takes the front message, with the lock held and the notices applied.
+    #[cold]
+    fn begin_held(
+        &mut self,
+        locked: Locked<'_, T>,
+        left: Left<T>,
+        cx: &mut Context<'_>,
+    ) -> Poll<Result<T, ReceiveError>>
+        requires { receive_is_over self.old ≡ true }
+        ensures ends { IfReady result (λ _. receive_is_over self.new ≡ true) }
+        ensures goes_on { OnPending result (receive_is_over self.new ≡ false) }
+        ensures registered { OnPending result (Covers cx.new (λ s. s ≡ receive_source self.new)) }
+        ensures kept { Keeps cx.old cx.new }
+    {
+        let mut locked = locked;
         let (answer, owed) = steps::try_recv(&mut locked.core);
         let answer = match answer {
             Ok(None) => return self.start(locked, left, owed, cx),
@@ -131,24 +160,6 @@ impl<'a, T: Drop> ReceiveFuture<'a, T> {
         };
         locked.give_back_left(left, owed);
         Poll::Ready(answer)
-    }
-
-    /// Starts the wait, where there was no notice.
-    #[cold]
-    fn start_quiet(
-        &mut self,
-        locked: Locked<'_, T>,
-        owed: Owed<T>,
-        cx: &mut Context<'_>,
-    ) -> Poll<Result<T, ReceiveError>>
-        requires over { receive_is_over self.old ≡ true }
-        requires empty { IsEmpty (line_of (core_under locked)) }
-        ensures ends { IfReady result (λ _. receive_is_over self.new ≡ true) }
-        ensures goes_on { OnPending result (receive_is_over self.new ≡ false) }
-        ensures registered { OnPending result (Covers cx.new (λ s. s ≡ receive_source self.new)) }
-        ensures kept { Keeps cx.old cx.new }
-    {
-        self.start(locked, Left::nothing(), owed, cx)
     }
 
     /// Starts the wait of a receive that found no message, with the lock held.

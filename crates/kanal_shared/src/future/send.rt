@@ -76,17 +76,12 @@ impl<'a, T: Drop> SendFuture<'a, T> {
         if !self.shared.is_quiet() {
             return self.begin_noticed(locked, message, cx);
         }
-        let (offered, owed) = steps::try_send(&mut locked.core, message);
-        match offered {
-            Offered::Entered => {
-                locked.give_back(owed);
+        match locked.core.push(message) {
+            Ok(()) => {
+                locked.give_back_quiet();
                 Poll::Ready(Ok(()))
             },
-            Offered::Full(message) => self.start_quiet(locked, owed, message, cx),
-            Offered::Refused(error, _message) => {
-                locked.give_back(owed);
-                Poll::Ready(Err(error))
-            },
+            Err(message) => self.begin_quiet(locked, message, cx),
         }
     }
 
@@ -106,6 +101,42 @@ impl<'a, T: Drop> SendFuture<'a, T> {
     {
         let mut locked = locked;
         let left = locked.take_left();
+        self.begin_held(locked, left, message, cx)
+    }
+
+    /// The same, where there were none, and the message did not enter by itself.
+    #[cold]
+    fn begin_quiet(
+        &mut self,
+        locked: Locked<'_, T>,
+        message: T,
+        cx: &mut Context<'_>,
+    ) -> Poll<Result<(), SendError>>
+        requires { send_is_over self.old ≡ true }
+        ensures ends { IfReady result (λ _. send_is_over self.new ≡ true) }
+        ensures goes_on { OnPending result (send_is_over self.new ≡ false) }
+        ensures registered { OnPending result (Covers cx.new (λ s. s ≡ send_source self.new)) }
+        ensures kept { Keeps cx.old cx.new }
+    {
+        self.begin_held(locked, Left::nothing(), message, cx)
+    }
+
+    /// Offers the message, with the lock held and the notices applied.
+    #[cold]
+    fn begin_held(
+        &mut self,
+        locked: Locked<'_, T>,
+        left: Left<T>,
+        message: T,
+        cx: &mut Context<'_>,
+    ) -> Poll<Result<(), SendError>>
+        requires { send_is_over self.old ≡ true }
+        ensures ends { IfReady result (λ _. send_is_over self.new ≡ true) }
+        ensures goes_on { OnPending result (send_is_over self.new ≡ false) }
+        ensures registered { OnPending result (Covers cx.new (λ s. s ≡ send_source self.new)) }
+        ensures kept { Keeps cx.old cx.new }
+    {
+        let mut locked = locked;
         let (offered, owed) = steps::try_send(&mut locked.core, message);
         let (answer, _message) = match offered {
             Offered::Full(message) => return self.start(locked, left, owed, message, cx),
@@ -114,25 +145,6 @@ impl<'a, T: Drop> SendFuture<'a, T> {
         };
         locked.give_back_left(left, owed);
         Poll::Ready(answer)
-    }
-
-    /// Starts the wait, where there was no notice.
-    #[cold]
-    fn start_quiet(
-        &mut self,
-        locked: Locked<'_, T>,
-        owed: Owed<T>,
-        message: T,
-        cx: &mut Context<'_>,
-    ) -> Poll<Result<(), SendError>>
-        requires over { send_is_over self.old ≡ true }
-        requires full { IsFull (line_of (core_under locked)) }
-        ensures ends { IfReady result (λ _. send_is_over self.new ≡ true) }
-        ensures goes_on { OnPending result (send_is_over self.new ≡ false) }
-        ensures registered { OnPending result (Covers cx.new (λ s. s ≡ send_source self.new)) }
-        ensures kept { Keeps cx.old cx.new }
-    {
-        self.start(locked, Left::nothing(), owed, message, cx)
     }
 
     /// Starts the wait of a message for which there was no place, with the lock held.

@@ -140,6 +140,12 @@ impl<T: Drop> Locked<'_, T> {
             return self.give_back_owing(owed);
         }
         owed.settle(); // Nobody is told: so a value with nothing in it goes, and needs no drop.
+        self.give_back_quiet();
+    }
+
+    /// The same of a step that settled and ended no wait.
+    #[inline]
+    pub(crate) fn give_back_quiet(self) {
         let shared = self.shared;
         self.release();
         if !shared.is_quiet() {

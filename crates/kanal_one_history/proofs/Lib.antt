@@ -3,5 +3,6 @@ pub mod Noting
 pub mod Pairing
 pub mod Settling
 pub mod Ending
+pub mod Entering
 pub mod Draining
 pub mod Backs

@@ -11,6 +11,7 @@ ghost use Rattle.kanal_one_history.specs.Makes.{HasBegun, HasCome, IsAnswered, L
 use crate::channel::Channel;
 use crate::delivered::{Delivered, Settler, settle, settle_all};
 use crate::pass::Pass;
+use crate::state::State;
 use crate::steps::{Kept, Made, Tried};
 use crate::waiting::Waiting;
 use kanal_board::Naming;
@@ -18,7 +19,7 @@ use kanal_cell::signal;
 use kanal_core::internal::{Closing, Outcome, Ticket};
 use kanal_journal::journal::{Event, Reply};
 use std::alloc::Global;
-use std::sync::Wait;
+use std::sync::{MutexGuard, Wait};
 use std::thread;
 
 /// What a call came to that waits where it must.
@@ -52,7 +53,6 @@ fn ends<T: Drop, J: Naming>(alloc: Global) -> Option<(Waiting<Delivered<T, J>>, 
 
 impl<T: Drop, J: Naming> Channel<T, J> {
     /// Tells those whose waits the call settled, and drops what it cleared. The lock is released.
-    #[inline(always)]
     pub(crate) fn settle(&self, pass: &mut Pass<T, J>, made: Made<T, Settler<T, J>>) -> Reply<T>
         requires seen { HaveSettled pass.old.log (settled_of made) }
         ensures reply { result ≡ reply_of made }
@@ -93,19 +93,22 @@ impl<T: Drop, J: Naming> Channel<T, J> {
         self.settle(pass, made)
     }
 
-    /// Makes a call that waits where it must.
-    #[inline(always)]
+    /// Makes a call that waits where it must, under the lock that was got, and gives the lock back.
+    #[cold]
     #[tactic(auto, using(crate::proofs::Settling::noted_settled, crate::proofs::Settling::come_from))]
     pub(crate) fn blocking<R: Wait>(
         &self,
         rt: &R,
+        state: MutexGuard<'_, State<T, J>>,
         pass: &mut Pass<T, J>,
         event: Event<T>,
     ) -> Came<T>
         requires waits { may_wait event ≡ true }
         ensures come { HasCome J.capacity pass.old pass.new event result }
     {
-        let tried = self.state.lock(rt).start(&self.board, pass, event);
+        let mut state = state;
+        let tried = state.start(&self.board, pass, event);
+        drop(state);
         match tried {
             Tried::Told(made) => Came::Replied(self.settle(pass, made)),
             Tried::MustWait(event) => self.wait(rt, pass, event),

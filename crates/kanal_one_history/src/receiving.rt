@@ -9,13 +9,14 @@ ghost use Rattle.kanal_one_history.specs.Results.{answer_in_time, asked_by, drai
 use crate::blocking::Came;
 use crate::channel::Channel;
 use crate::pass::Pass;
+use crate::state::State;
 use crate::timed::{Timed, deadline};
 use kanal_board::Naming;
 use kanal_core::error::{ReceiveError, ReceiveErrorTimeout};
 use kanal_core::internal::{Outcome, Reason};
 use kanal_journal::journal::{Event, Refusal, Reply};
 use kanal_shared::Clock;
-use std::sync::Wait;
+use std::sync::{MutexGuard, Wait};
 use std::time;
 use std::time::Duration;
 
@@ -33,7 +34,6 @@ fn receive_error(reason: Refusal) -> ReceiveError
 }
 
 /// The answer of a receive that waits where it must.
-#[inline(always)]
 fn received_by<T: Drop>(reply: Reply<T>) -> Result<T, ReceiveError>
     ensures { result ≡ received_by reply }
 {
@@ -144,11 +144,30 @@ impl<T: Drop, J: Naming> Channel<T, J> {
     /// ```text
     /// channel.recv(rt, &mut pass)   answers  Ok(7)   where 7 was sent
     /// ```
+    #[tactic(auto, using(crate::proofs::Entering::received_at_once))]
     pub fn recv<R: Wait>(&self, rt: &R, pass: &mut Pass<T, J>) -> Result<T, ReceiveError>
         ensures received { Finishes J.capacity pass.old pass.new Event.Recv received_by
             received_after (Err ReceiveError.NoMemory) result }
     {
-        match self.blocking(rt, pass, Event::Recv) {
+        let mut state = self.state.lock(rt);
+        match state.pop(&self.board, pass) {
+            Some(message) => Ok(message),
+            None => self.recv_held(rt, state, pass),
+        }
+    }
+
+    /// The same, under the lock that was got, where no message left the buffer by itself.
+    #[cold]
+    fn recv_held<R: Wait>(
+        &self,
+        rt: &R,
+        state: MutexGuard<'_, State<T, J>>,
+        pass: &mut Pass<T, J>,
+    ) -> Result<T, ReceiveError>
+        ensures received { Finishes J.capacity pass.old pass.new Event.Recv received_by
+            received_after (Err ReceiveError.NoMemory) result }
+    {
+        match self.blocking(rt, state, pass, Event::Recv) {
             Came::Replied(reply) => received_by(reply),
             Came::Settled(outcome) => received_after(outcome),
             Came::Lacking => Err(ReceiveError::NoMemory),

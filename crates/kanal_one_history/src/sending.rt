@@ -8,13 +8,14 @@ ghost use Rattle.kanal_one_history.specs.Results.{answer_in_time, back_by, enter
 use crate::blocking::Came;
 use crate::channel::Channel;
 use crate::pass::Pass;
+use crate::state::State;
 use crate::timed::{Timed, deadline};
 use kanal_board::Naming;
 use kanal_core::error::{SendError, SendErrorTimeout};
 use kanal_core::internal::{Outcome, Reason};
 use kanal_journal::journal::{Event, Refusal, Reply};
 use kanal_shared::Clock;
-use std::sync::Wait;
+use std::sync::{MutexGuard, Wait};
 use std::time;
 use std::time::Duration;
 
@@ -33,7 +34,6 @@ fn send_error(reason: Refusal) -> SendError
 }
 
 /// The answer of a send that waits where it must.
-#[inline(always)]
 fn sent_by<T: Drop>(reply: Reply<T>) -> Result<(), SendError>
     ensures { result ≡ sent_by reply }
 {
@@ -141,11 +141,31 @@ impl<T: Drop, J: Naming> Channel<T, J> {
     /// ```text
     /// channel.send(rt, &mut pass, 7)   answers  Ok(())   in a channel with a place
     /// ```
+    #[tactic(auto, using(crate::proofs::Entering::sent_at_once))]
     pub fn send<R: Wait>(&self, rt: &R, pass: &mut Pass<T, J>, message: T) -> Result<(), SendError>
         ensures sent { Finishes J.capacity pass.old pass.new (Event.Send message) sent_by sent_after
             (Err SendError.NoMemory) result }
     {
-        match self.blocking(rt, pass, Event::Send(message)) {
+        let mut state = self.state.lock(rt);
+        match state.push(&self.board, pass, message) {
+            Ok(()) => Ok(()),
+            Err(message) => self.send_held(rt, state, pass, message),
+        }
+    }
+
+    /// The same, under the lock that was got, where the message did not enter by itself.
+    #[cold]
+    fn send_held<R: Wait>(
+        &self,
+        rt: &R,
+        state: MutexGuard<'_, State<T, J>>,
+        pass: &mut Pass<T, J>,
+        message: T,
+    ) -> Result<(), SendError>
+        ensures sent { Finishes J.capacity pass.old pass.new (Event.Send message) sent_by sent_after
+            (Err SendError.NoMemory) result }
+    {
+        match self.blocking(rt, state, pass, Event::Send(message)) {
             Came::Replied(reply) => sent_by(reply),
             Came::Settled(outcome) => sent_after(outcome),
             Came::Lacking => Err(SendError::NoMemory),

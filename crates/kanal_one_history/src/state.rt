@@ -3,7 +3,7 @@
 //! Stands on the steps and on a board's keeper. Each call lends the core to one step and puts the call
 //! that was made into the history, before the lock is given back; a call that is refused for memory is
 //! in no history. Nothing else writes the history.
-ghost use Rattle.std.specs.Prelude.{◌≡◌, ◌∷◌, ◌++◌, [], true, false, IfNone, IfSome};
+ghost use Rattle.std.specs.Prelude.{◌≡◌, ◌∷◌, ◌++◌, [], true, false, IfErr, IfNone, IfSome, OnOk};
 ghost use Rattle.std.specs.Vec.{vec_capacity};
 ghost use Rattle.kanal_board.specs.Views.{known};
 ghost use Rattle.kanal_core.specs.Channel.{line_of};
@@ -13,7 +13,7 @@ ghost use Rattle.kanal_journal.specs.Replays.{is_no_memory};
 ghost use Rattle.kanal_journal.specs.Runs.{opening_line};
 ghost use Rattle.kanal_journal.specs.Steps.{Tells};
 ghost use Rattle.kanal_one_history.specs.Calls.{IsLegal, line_after};
-ghost use Rattle.kanal_one_history.specs.Made.{Keeps, call_from, drained_of, is_drained, is_plain, may_wait, reply_of, told_of, withdrawal};
+ghost use Rattle.kanal_one_history.specs.Made.{Keeps, call_from, drained_of, entry, is_drained, is_plain, may_wait, receipt, reply_of, told_of, withdrawal};
 ghost use Rattle.kanal_one_history.specs.Makes.{IsNoted, IsTried, Makes};
 
 use crate::call::Call;
@@ -33,6 +33,24 @@ impl<T, W> EntryOf<Said<Event<T>>, Made<T, W>, Call<T>> for OfCall {
     ghost use Rattle.kanal_one_history.specs.Made.{call_from};
 
     ghost entry = { λ event made. call_from event made };
+}
+
+/// The entry of a send that entered and settled nobody, by its message.
+struct OfEntry;
+
+impl<T> EntryOf<Said<T>, (), Call<T>> for OfEntry {
+    ghost use Rattle.kanal_one_history.specs.Made.{entry};
+
+    ghost entry = { λ message _. entry message };
+}
+
+/// The entry of a receive that got a message and settled nobody, by the message.
+struct OfReceipt;
+
+impl<T> EntryOf<T, (), Call<T>> for OfReceipt {
+    ghost use Rattle.kanal_one_history.specs.Made.{receipt};
+
+    ghost entry = { λ message _. receipt message };
 }
 
 /// The entry of a withdrawal: the ticket that was asked for, and the wait that left.
@@ -70,7 +88,6 @@ impl<T, J: Naming> Model for State<T, J> {
 
 /// Puts the call that was made into the history, and shows it to the pass; or shows what is there, where
 /// there was no memory for the call.
-#[inline(always)]
 fn note<T: Drop, W: Drop, J: Naming>(
     keeper: &mut Keeper<Call<T>, J>,
     board: &Board<Call<T>, J>,
@@ -132,8 +149,37 @@ impl<T: Drop, J: Naming> State<T, J> {
         made
     }
 
-    /// Makes a send or a receive, unless it must wait: the pass has seen that it must then.
+    /// Makes a send whose message enters where nobody waits; where it doesn't enter so nothing changes.
     #[inline(always)]
+    pub(crate) fn push(
+        &mut self,
+        board: &Board<Call<T>, J>,
+        pass: &mut Pass<T, J>,
+        message: T,
+    ) -> Result<(), T>
+        ensures made { OnOk result (Makes J.capacity pass.old pass.new (entry message)) }
+        ensures refused { IfErr result (λ back. (back ≡ message) × (pass.new ≡ pass.old)) }
+    {
+        let asked = Said::of(&message);
+        steps::push(&mut self.core, message)?;
+        let keeper = &mut self.keeper;
+        keeper.append_of::<Said<T>, (), OfEntry>(board, &mut pass.front, &asked, &());
+        Ok(())
+    }
+
+    /// Makes a receive that gets its message where nobody waits; where it gets none so nothing changes.
+    #[inline(always)]
+    pub(crate) fn pop(&mut self, board: &Board<Call<T>, J>, pass: &mut Pass<T, J>) -> Option<T>
+        ensures made { IfSome result (λ m. Makes J.capacity pass.old pass.new (receipt m)) }
+        ensures refused { IfNone result (pass.new ≡ pass.old) }
+    {
+        let message = steps::pop(&mut self.core)?;
+        let keeper = &mut self.keeper;
+        keeper.append_of::<T, (), OfReceipt>(board, &mut pass.front, &message, &());
+        Some(message)
+    }
+
+    /// Makes a send or a receive, unless it must wait: the pass has seen that it must then.
     pub(crate) fn start(
         &mut self,
         board: &Board<Call<T>, J>,

@@ -1,12 +1,6 @@
-use Rattle.std.proofs.Common.{Err, refl}
-use Rattle.kanal_core.specs.declared.error.ReceiveError.TheVariants.{NoMemory}
-use Rattle.kanal_journal.specs.declared.journal.event.Event.TheVariants.{Recv}
-use Rattle.kanal_one_history.specs.Results.{received_after, received_by}
-use Rattle.kanal_one_history.proofs.Settling.{finishes_replied}
+use Rattle.kanal_one_history.proofs.Entering.{received_from}
 use Rattle.kanal_one_history.proofs.channel.Channel.recv.Goals as goal
 
-pub returns-in-Replied : goal.returns-in-Replied
-returns-in-Replied g c =
-    record {
-      received = finishes_replied g.J.Naming.capacity c.args.pass.now c.blocking.new.pass Recv received_by received_after (Err NoMemory) c.received_by.result c.in-Replied.reply c.in-Replied.ensures.come refl c.received_by.ensures;
-    }
+pub returns-in-None : goal.returns-in-None
+returns-in-None g c =
+    record { received = received_from g.J.Naming.capacity c.args.pass.now c.pop.new.pass c.recv_held.new.pass c.recv_held.result c.in-None.ensures.refused c.recv_held.ensures.received }

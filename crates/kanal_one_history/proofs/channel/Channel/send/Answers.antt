@@ -1,12 +1,7 @@
-use Rattle.std.proofs.Common.{Err, refl}
-use Rattle.kanal_core.specs.declared.error.SendError.TheVariants.{NoMemory}
-use Rattle.kanal_journal.specs.declared.journal.event.Event.TheVariants.{Send}
-use Rattle.kanal_one_history.specs.Results.{sent_after, sent_by}
-use Rattle.kanal_one_history.proofs.Settling.{finishes_replied}
+use Rattle.kanal_one_history.proofs.Entering.{sent_from}
 use Rattle.kanal_one_history.proofs.channel.Channel.send.Goals as goal
 
-pub returns-in-Replied : goal.returns-in-Replied
-returns-in-Replied g c =
-    record {
-      sent = finishes_replied g.J.Naming.capacity c.args.pass.now c.blocking.new.pass (Send c.args.message) sent_by sent_after (Err NoMemory) c.sent_by.result c.in-Replied.reply c.in-Replied.ensures.come refl c.sent_by.ensures;
-    }
+pub returns-in-Err : goal.returns-in-Err
+returns-in-Err g c =
+    let refused = c.in-Err.ensures.refused in
+    record { sent = sent_from g.J.Naming.capacity c.args.pass.now c.push.new.pass c.send_held.new.pass c.args.message c.in-Err.message c.send_held.result refused.0 refused.1 c.send_held.ensures.sent }

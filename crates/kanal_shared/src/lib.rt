@@ -9,6 +9,7 @@
 mod backoff;
 mod clock;
 mod future;
+mod pause;
 mod questions;
 mod receiving;
 mod sending;

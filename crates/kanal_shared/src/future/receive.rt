@@ -8,6 +8,7 @@ ghost use Rattle.kanal_shared.specs.Locks.{core_under};
 ghost use Rattle.kanal_shared.specs.Futures.{receive_is_over, receive_source, receive_waits};
 
 use super::{Started, State, Wakers};
+use crate::pause::Pauses;
 use crate::receiving::answer_of;
 use crate::shared::{Left, Locked, Shared};
 use futures::Future;
@@ -21,7 +22,7 @@ use std::{fmt, mem};
 ///
 /// A poll waits for nobody. The first one that gets the lock takes the front message; where there is
 /// none, the receiver waits until a message is sent or the channel ends. Where another holds the lock
-/// the poll makes no step, and asks for another poll.
+/// the poll makes no step: it pauses, longer with each such poll in a row, and asks for another poll.
 ///
 /// A drop waits for nobody, too: a started wait is withdrawn, and a message that was handed over
 /// before is dropped. After its answer the future answers `Err(ReceiveError::Finished)`.
@@ -29,6 +30,7 @@ pub struct ReceiveFuture<'a, T> {
     shared: &'a Shared<T>,
     state: State<(), T>,
     wakers: Wakers,
+    pauses: Pauses,
 }
 
 impl<T: Drop> Drop for ReceiveFuture<'_, T> {
@@ -37,6 +39,7 @@ impl<T: Drop> Drop for ReceiveFuture<'_, T> {
             shared,
             state,
             wakers,
+            pauses: _,
         } = self;
         if let State::Waiting(started) = state {
             started.leave(shared);
@@ -54,6 +57,7 @@ impl<'a, T: Drop> ReceiveFuture<'a, T> {
             shared,
             state: State::Zero(()),
             wakers: Wakers::new(),
+            pauses: Pauses::new(),
         }
     }
 
@@ -76,6 +80,7 @@ impl<'a, T: Drop> ReceiveFuture<'a, T> {
         ensures source { receive_source self.new ≡ receive_source self.old }
     {
         self.state = State::Zero(());
+        self.pauses = Pauses::new();
     }
 
     /// Takes the front message, where the lock is free.
@@ -89,6 +94,7 @@ impl<'a, T: Drop> ReceiveFuture<'a, T> {
     {
         let Some(mut locked) = self.shared.try_lock() else {
             self.state = State::Zero(());
+            self.pauses.pause();
             return cx.yield_now();
         };
         if !self.shared.is_quiet() {

@@ -8,6 +8,7 @@ ghost use Rattle.kanal_shared.specs.Locks.{core_under};
 ghost use Rattle.kanal_shared.specs.Futures.{send_is_over, send_source};
 
 use super::{Started, State, Wakers};
+use crate::pause::Pauses;
 use crate::sending::answer_of;
 use crate::shared::{Left, Locked, Shared};
 use futures::Future;
@@ -22,7 +23,8 @@ use std::{fmt, mem};
 ///
 /// A poll waits for nobody. The first one that gets the lock offers the message; where there is no
 /// place for it, the message waits in the line until a receiver takes it or the channel ends. Where
-/// another holds the lock the poll makes no step, and asks for another poll.
+/// another holds the lock the poll makes no step: it pauses, longer with each such poll in a row, and
+/// asks for another poll.
 ///
 /// A drop waits for nobody, too: a message that waits is withdrawn and dropped. After its answer the
 /// future answers `Err(SendError::Finished)`.
@@ -30,6 +32,7 @@ pub struct SendFuture<'a, T> {
     shared: &'a Shared<T>,
     state: State<T, T>,
     wakers: Wakers,
+    pauses: Pauses,
 }
 
 impl<T: Drop> Drop for SendFuture<'_, T> {
@@ -38,6 +41,7 @@ impl<T: Drop> Drop for SendFuture<'_, T> {
             shared,
             state,
             wakers,
+            pauses: _,
         } = self;
         match state {
             State::Zero(message) => drop(message),
@@ -57,6 +61,7 @@ impl<'a, T: Drop> SendFuture<'a, T> {
             shared,
             state: State::Zero(message),
             wakers: Wakers::new(),
+            pauses: Pauses::new(),
         }
     }
 
@@ -71,6 +76,7 @@ impl<'a, T: Drop> SendFuture<'a, T> {
     {
         let Some(mut locked) = self.shared.try_lock() else {
             self.state = State::Zero(message);
+            self.pauses.pause();
             return cx.yield_now();
         };
         if !self.shared.is_quiet() {

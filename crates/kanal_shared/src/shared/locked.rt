@@ -9,7 +9,7 @@ ghost use Rattle.std.specs.Prelude.{◌≡◌, false};
 ghost use Rattle.kanal_shared.specs.Locks.{is_held, takes_nothing};
 
 use super::Shared;
-use crossbeam_utils::Backoff;
+use crate::pause::pause;
 use kanal_steps::owed::Owed;
 use kanal_steps::seat::{Core, Leavers};
 use kanal_steps::steps;
@@ -22,8 +22,9 @@ use std::time::Duration;
 /// How often a call looks for notices after it released the lock.
 const LOOKS: u32 = 64;
 
-/// How often a call tries a lock that is held before it naps.
-const TRIES: u32 = 7;
+/// How often a call tries a lock that is held before it naps, each time after a pause twice as long as
+/// the one before.
+const TRIES: u32 = 8;
 
 /// How often it naps before it sleeps until the lock is released.
 const NAPS: u32 = 16;
@@ -304,11 +305,10 @@ impl<T: Drop> Shared<T> {
         self.core.lock(rt)
     }
 
-    /// Tries to get the lock, with growing pauses and then yields between.
+    /// Tries to get the lock, with growing pauses between.
     fn try_often(&self) -> Option<MutexGuard<'_, Core<T>>> {
-        let backoff = Backoff::new();
-        for _ in 0..TRIES {
-            backoff.snooze();
+        for power in 0..TRIES {
+            pause(power);
             if let Some(core) = self.core.try_lock() {
                 return Some(core);
             }

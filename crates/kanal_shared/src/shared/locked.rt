@@ -29,7 +29,10 @@ const TRIES: u32 = 8;
 /// How often it naps before it sleeps until the lock is released.
 const NAPS: u32 = 16;
 
-/// How long it naps for the lock, in nanoseconds.
+/// How long it naps for the lock at first, in nanoseconds; the system makes that some fifty thousand.
+const FIRST_NAP: u64 = 1_000;
+
+/// How long it naps each further time, in nanoseconds.
 const LOCK_NAP: u64 = 100_000;
 
 /// The lock of a channel, which has to be given back: the prover refuses a call that lets it go.
@@ -296,11 +299,13 @@ impl<T: Drop> Shared<T> {
     #[cold]
     fn contend<R: Wait>(&self, rt: &R) -> MutexGuard<'_, Core<T>> {
         let napper = Parker::new();
+        let mut nap = FIRST_NAP;
         for _ in 0..NAPS {
             if let Some(core) = self.try_often() {
                 return core;
             }
-            napper.park_timeout(rt, Duration::from_nanos(LOCK_NAP));
+            napper.park_timeout(rt, Duration::from_nanos(nap));
+            nap = LOCK_NAP;
         }
         self.core.lock(rt)
     }

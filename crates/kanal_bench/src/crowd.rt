@@ -14,6 +14,12 @@ pub const ONE_TO_ONE: Crowd = Crowd {
     receivers: 1,
 };
 
+/// Two send, and two receive.
+pub const TWO_TO_TWO: Crowd = Crowd {
+    senders: 2,
+    receivers: 2,
+};
+
 /// Four send, and one receives.
 pub const FOUR_TO_ONE: Crowd = Crowd {
     senders: 4,

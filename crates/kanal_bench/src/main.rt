@@ -2,15 +2,23 @@
 //!
 //! `kanal_bench SCENARIO CAPACITY COUNT`: SCENARIO is `seq` (one thread sends and receives in turn),
 //! `spsc` (one thread sends, one receives), `mpsc` (four send, one receives) or `mpmc` (four send,
-//! four receive); `async-seq`, `async-spsc` and `async-mpmc` are the same in tasks, one a thread, and
-//! `history-seq` is `seq` on a channel with one history. A further one, `wait`, waits for a message
-//! that nobody sends, for COUNT milliseconds of the system's clock, and prints how that ended. CAPACITY
-//! is a number, or `u` for a channel without limit. Each of k senders sends the numbers 0, 1, .. below
-//! COUNT / k. It joins all threads before it prints.
+//! four receive); `async-seq`, `async-spsc` and `async-mpmc` are the same in tasks, one a thread,
+//! `async-many` has 32 sending tasks on two threads and 32 receiving ones on two more, and
+//! `history-seq` is `seq` on a channel with one history. CAPACITY is a number, or `u` for a channel
+//! without limit. Each of k senders sends the numbers 0, 1, .. below COUNT / k.
+//!
+//! Two further ones print something else. `wait` waits for a message that nobody sends, for COUNT
+//! milliseconds of the system's clock, and prints how that ended. `stall` times COUNT sends of one
+//! thread, one by one, beside three threads that send and receive in turn, and prints what the median
+//! of them took, what all but one in a hundred took at most, and what the longest took, in nanoseconds.
+//!
+//! It joins all threads before it prints.
 #![tactic(auto)]
 
 mod crowd;
+mod many_tasks;
 mod one_history;
+mod stall;
 mod tasks;
 mod threads;
 
@@ -33,6 +41,8 @@ enum Scenario {
     Messages(Work),
     /// A wait for nothing.
     Wait,
+    /// Sends that are timed one by one.
+    Stall,
 }
 
 /// Who sends and receives.
@@ -46,6 +56,8 @@ enum Work {
     TaskInTurn,
     /// Tasks, one a thread.
     InTasks(Crowd),
+    /// Tasks, many a thread.
+    InManyTasks,
     /// One thread, which sends and receives in turn on a channel with one history.
     InOneHistory,
 }
@@ -61,8 +73,10 @@ impl Scenario {
             "async-seq" => Some(Scenario::Messages(Work::TaskInTurn)),
             "async-spsc" => Some(Scenario::Messages(Work::InTasks(ONE_TO_ONE))),
             "async-mpmc" => Some(Scenario::Messages(Work::InTasks(FOUR_TO_FOUR))),
+            "async-many" => Some(Scenario::Messages(Work::InManyTasks)),
             "history-seq" => Some(Scenario::Messages(Work::InOneHistory)),
             "wait" => Some(Scenario::Wait),
+            "stall" => Some(Scenario::Stall),
             _ => None,
         }
     }
@@ -92,6 +106,14 @@ impl Capacity {
             return Some(Capacity::Unlimited);
         }
         Some(Capacity::Limited(word.parse::<usize>().ok()?))
+    }
+
+    /// Whether it has so many places.
+    fn holds(self, places: usize) -> bool {
+        match self {
+            Capacity::Limited(size) => places <= size,
+            Capacity::Unlimited => true,
+        }
     }
 
     /// A channel of this capacity.
@@ -124,7 +146,7 @@ impl Order {
     fn of(scenario: &str, capacity: &str, count: &str) -> Result<Self> {
         let Some(scenario) = Scenario::named(scenario) else {
             bail!(
-                "the scenario is seq, spsc, mpsc, mpmc, async-seq, async-spsc, async-mpmc, history-seq or wait"
+                "the scenario is seq, spsc, mpsc, mpmc, async-seq, async-spsc, async-mpmc, async-many, history-seq, wait or stall"
             );
         };
         if scenario.wants_a_buffer() && capacity == "0" {
@@ -136,6 +158,9 @@ impl Order {
         let Some(capacity) = Capacity::named(capacity) else {
             bail!("the capacity is a number or u");
         };
+        if matches!(scenario, Scenario::Stall) && !capacity.holds(stall::LEAST_CAPACITY) {
+            bail!("stall wants a capacity of 4 or more, a place for each of its threads, or u");
+        }
         Ok(Order {
             scenario,
             capacity,
@@ -168,6 +193,7 @@ where
         Work::InTasks(crowd) => {
             tasks::in_threads(rt, alloc, capacity.open_async(alloc)?, crowd, count)
         },
+        Work::InManyTasks => many_tasks::in_threads(rt, alloc, capacity.open_async(alloc)?, count),
         Work::InOneHistory => one_history::in_turn(&rt, alloc, capacity, count),
     }
 }
@@ -199,6 +225,10 @@ fn main(rt: HostRuntime) -> Result<()> {
         Scenario::Wait => {
             let ends = capacity.open(alloc)?;
             println!(rt; "{}", wait(&rt, ends, count))?;
+        },
+        Scenario::Stall => {
+            let ends = capacity.open(alloc)?;
+            println!(rt; "{}", stall::in_threads(rt, alloc, ends, count)?)?;
         },
     }
     Ok(())

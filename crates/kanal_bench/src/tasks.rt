@@ -84,7 +84,7 @@ where
 }
 
 /// Joins the threads that send.
-fn join_all<R: Threads>(rt: &R, sending: Vec<JoinHandle<io::Result<()>>>) -> io::Result<()> {
+pub fn join_all<R: Threads>(rt: &R, sending: Vec<JoinHandle<io::Result<()>>>) -> io::Result<()> {
     for thread in sending {
         thread.join(rt)?;
     }
@@ -92,7 +92,7 @@ fn join_all<R: Threads>(rt: &R, sending: Vec<JoinHandle<io::Result<()>>>) -> io:
 }
 
 /// The sum of what the receiving threads got, when all have ended.
-fn sum_of<R: Threads>(rt: &R, receiving: Vec<JoinHandle<io::Result<u64>>>) -> io::Result<u64> {
+pub fn sum_of<R: Threads>(rt: &R, receiving: Vec<JoinHandle<io::Result<u64>>>) -> io::Result<u64> {
     let mut sum = 0u64;
     for thread in receiving {
         sum = sum.wrapping_add(thread.join(rt)?);

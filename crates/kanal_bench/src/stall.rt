@@ -1,0 +1,144 @@
+//! The scenario of single sends: how long each of one thread's sends takes, beside threads that are busy.
+use crate::threads::Ends;
+use anyhow::Result;
+use kanal::{Receiver, Sender};
+use std::alloc::Global;
+use std::sync::atomic::AtomicBool;
+use std::sync::atomic::Ordering::SeqCst;
+use std::sync::{Arc, Wait};
+use std::thread::{JoinHandle, Threads};
+use std::time::{Clock, Duration, Instant};
+use std::{fmt, thread};
+
+/// How many threads are busy beside the one that is measured.
+const BUSY_THREADS: u64 = 3;
+
+/// The least capacity: a place for each thread, so that no send waits for one.
+pub const LEAST_CAPACITY: usize = 4;
+
+/// How long the sends took.
+#[derive(Copy, Clone)]
+pub struct Times {
+    /// Half of them took no longer.
+    median: Duration,
+    /// One in a hundred took longer.
+    late: Duration,
+    /// None took longer.
+    longest: Duration,
+}
+
+impl Times {
+    /// What these sends took.
+    fn of(mut sends: Vec<Duration>) -> Result<Self> {
+        sends.sort()?;
+        let count = sends.len();
+        Ok(Times {
+            median: longest_but(&sends, count / 2),
+            late: longest_but(&sends, count / 100),
+            longest: longest_but(&sends, 0),
+        })
+    }
+}
+
+impl fmt::Display for Times {
+    fn fmt<W: fmt::Write>(&self, f: &mut fmt::Formatter<W>) -> fmt::Result {
+        write!(
+            f,
+            "p50 {} p99 {} max {}",
+            self.median.as_nanos(),
+            self.late.as_nanos(),
+            self.longest.as_nanos()
+        )
+    }
+}
+
+/// The last of these but for so many behind it, or zero where there are no more than those.
+fn longest_but(sorted: &[Duration], longer: usize) -> Duration {
+    sorted
+        .iter()
+        .rev()
+        .nth(longer)
+        .copied()
+        .unwrap_or(Duration::ZERO)
+}
+
+/// Sends and receives in turn, until it is told to stop or the channel ends.
+fn keep_busy<R: Wait>(
+    rt: &R,
+    sender: &Sender<u64>,
+    receiver: &Receiver<u64>,
+    is_over: &AtomicBool,
+) {
+    for _ in rt.forever() {
+        if is_over.load(SeqCst) || sender.send(rt, 0).is_err() || receiver.recv(rt).is_err() {
+            return;
+        }
+    }
+}
+
+/// Starts a busy thread, with clones of both ends.
+fn start_busy<R: Threads + Wait + Copy + Send + 'static>(
+    rt: R,
+    sender: &Sender<u64>,
+    receiver: &Receiver<u64>,
+    is_over: &Arc<AtomicBool>,
+) -> Result<JoinHandle<()>> {
+    let sender = sender.clone(&rt)?;
+    let receiver = receiver.clone(&rt)?;
+    let is_over = Arc::try_clone(is_over)?;
+    Ok(thread::spawn(&rt, move || {
+        keep_busy(&rt, &sender, &receiver, &is_over)
+    })?)
+}
+
+/// Sends and receives in turn, and notes how long each send took.
+fn note_sends<R: Wait + Clock>(
+    rt: &R,
+    alloc: Global,
+    sender: &Sender<u64>,
+    receiver: &Receiver<u64>,
+    count: u64,
+) -> Result<Vec<Duration>> {
+    let mut sends = Vec::new(alloc);
+    for number in 0..count {
+        let start = Instant::now(rt)?;
+        sender.send(rt, number)?;
+        let passed = start.elapsed(rt)?;
+        sends.push(passed)?;
+        receiver.recv(rt)?;
+    }
+    Ok(sends)
+}
+
+/// Starts the busy threads, and notes the sends beside them.
+fn note_beside<R: Threads + Wait + Clock + Copy + Send + 'static>(
+    rt: R,
+    alloc: Global,
+    ends: Ends,
+    count: u64,
+    is_over: &Arc<AtomicBool>,
+    busy: &mut Vec<JoinHandle<()>>,
+) -> Result<Vec<Duration>> {
+    let (sender, receiver) = ends;
+    for _ in 0..BUSY_THREADS {
+        busy.push(start_busy(rt, &sender, &receiver, is_over)?)?;
+    }
+    note_sends(&rt, alloc, &sender, &receiver, count)
+}
+
+/// Times so many sends of this thread beside the busy ones, and joins those.
+pub fn in_threads<R: Threads + Wait + Clock + Copy + Send + 'static>(
+    rt: R,
+    alloc: Global,
+    ends: Ends,
+    count: u64,
+) -> Result<Times> {
+    let is_over = Arc::new(alloc, AtomicBool::new(false))?;
+    let mut busy = Vec::new(alloc);
+    let sends = note_beside(rt, alloc, ends, count, &is_over, &mut busy);
+    is_over.store(true, SeqCst);
+    for thread in busy {
+        thread.join(&rt);
+    }
+    Times::of(sends?)
+}

@@ -23,7 +23,7 @@ mod tasks;
 mod threads;
 
 use anyhow::{Result, anyhow, bail};
-use crowd::{Crowd, FOUR_TO_FOUR, FOUR_TO_ONE, ONE_TO_ONE};
+use crowd::{Crowd, FOUR_TO_FOUR, FOUR_TO_ONE, ONE_TO_ONE, TWO_TO_TWO};
 use kanal::SystemClock;
 use kanal::error::{NewError, ReceiveErrorTimeout};
 use std::alloc::{Alloc, AllocGlobal, Global};
@@ -33,6 +33,7 @@ use std::sync::Wait;
 use std::thread::Threads;
 use std::time::Duration;
 use std::{env, time};
+use tasks::Load;
 
 /// What is done.
 #[derive(Copy, Clone)]
@@ -54,10 +55,8 @@ enum Work {
     InThreads(Crowd),
     /// One task, which sends and receives in turn.
     TaskInTurn,
-    /// Tasks, one a thread.
-    InTasks(Crowd),
-    /// Tasks, many a thread.
-    InManyTasks,
+    /// Tasks, so many a thread.
+    InTasks(Crowd, Load),
     /// One thread, which sends and receives in turn on a channel with one history.
     InOneHistory,
 }
@@ -71,9 +70,9 @@ impl Scenario {
             "mpsc" => Some(Scenario::Messages(Work::InThreads(FOUR_TO_ONE))),
             "mpmc" => Some(Scenario::Messages(Work::InThreads(FOUR_TO_FOUR))),
             "async-seq" => Some(Scenario::Messages(Work::TaskInTurn)),
-            "async-spsc" => Some(Scenario::Messages(Work::InTasks(ONE_TO_ONE))),
-            "async-mpmc" => Some(Scenario::Messages(Work::InTasks(FOUR_TO_FOUR))),
-            "async-many" => Some(Scenario::Messages(Work::InManyTasks)),
+            "async-spsc" => Some(Scenario::Messages(Work::InTasks(ONE_TO_ONE, Load::One))),
+            "async-mpmc" => Some(Scenario::Messages(Work::InTasks(FOUR_TO_FOUR, Load::One))),
+            "async-many" => Some(Scenario::Messages(Work::InTasks(TWO_TO_TWO, Load::Many))),
             "history-seq" => Some(Scenario::Messages(Work::InOneHistory)),
             "wait" => Some(Scenario::Wait),
             "stall" => Some(Scenario::Stall),
@@ -190,10 +189,9 @@ where
         Work::InTurn => threads::in_turn(&rt, capacity.open(alloc)?, count),
         Work::InThreads(crowd) => { threads::in_threads(rt, capacity.open(alloc)?, crowd, count) },
         Work::TaskInTurn => tasks::in_turn(&rt, capacity.open_async(alloc)?, count),
-        Work::InTasks(crowd) => {
-            tasks::in_threads(rt, alloc, capacity.open_async(alloc)?, crowd, count)
+        Work::InTasks(crowd, load) => {
+            tasks::in_threads(rt, alloc, capacity.open_async(alloc)?, crowd, load, count)
         },
-        Work::InManyTasks => many_tasks::in_threads(rt, alloc, capacity.open_async(alloc)?, count),
         Work::InOneHistory => one_history::in_turn(&rt, alloc, capacity, count),
     }
 }

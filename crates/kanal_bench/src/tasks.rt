@@ -1,5 +1,6 @@
-//! The scenarios in tasks: the same work, where each thread runs one task to its end.
+//! The scenarios in tasks: the same work, where each thread runs one task to its end, or many.
 use crate::crowd::Crowd;
+use crate::many_tasks;
 use anyhow::Result;
 use futures::executor::block_on;
 use futures::{FutureExt, StreamExt, future, stream};
@@ -12,6 +13,47 @@ use std::{io, thread};
 
 /// The two ends of the channel that is measured.
 pub type Ends = (AsyncSender<u64>, AsyncReceiver<u64>);
+
+/// How many tasks a thread runs.
+#[derive(Copy, Clone)]
+pub enum Load {
+    /// One.
+    One,
+    /// Many.
+    Many,
+}
+
+impl Load {
+    /// How many of so many messages each task of a thread sends.
+    fn each(self, count: u64) -> u64 {
+        match self {
+            Load::One => count,
+            Load::Many => count / many_tasks::TASKS,
+        }
+    }
+
+    /// Sends the numbers below the count, in each task.
+    fn send_all<R>(self, rt: &R, sender: &AsyncSender<u64>, count: u64) -> io::Result<()>
+    where
+        R: Wait + RandomSource + AllocGlobal,
+    {
+        match self {
+            Load::One => send_all(rt, sender, count),
+            Load::Many => many_tasks::send_all(rt, sender, count),
+        }
+    }
+
+    /// The sum of all that is received until the channel ends.
+    fn receive_all<R>(self, rt: &R, receiver: &AsyncReceiver<u64>) -> io::Result<u64>
+    where
+        R: Wait + RandomSource + AllocGlobal,
+    {
+        match self {
+            Load::One => receive_all(rt, receiver),
+            Load::Many => many_tasks::receive_all(rt, receiver),
+        }
+    }
+}
 
 /// Sends and receives in turn, in one task.
 pub fn in_turn<R>(rt: &R, ends: Ends, count: u64) -> Result<u64>
@@ -51,6 +93,7 @@ fn start_senders<R>(
     rt: R,
     alloc: Global,
     sender: &AsyncSender<u64>,
+    load: Load,
     threads: u64,
     each: u64,
 ) -> Result<Vec<JoinHandle<io::Result<()>>>>
@@ -60,7 +103,7 @@ where
     let mut started = Vec::new(alloc);
     for _ in 0..threads {
         let theirs = sender.clone(&rt)?;
-        started.push(thread::spawn(&rt, move || send_all(&rt, &theirs, each))?)?;
+        started.push(thread::spawn(&rt, move || load.send_all(&rt, &theirs, each))?)?;
     }
     Ok(started)
 }
@@ -70,6 +113,7 @@ fn start_receivers<R>(
     rt: R,
     alloc: Global,
     receiver: &AsyncReceiver<u64>,
+    load: Load,
     threads: u64,
 ) -> Result<Vec<JoinHandle<io::Result<u64>>>>
 where
@@ -78,13 +122,13 @@ where
     let mut started = Vec::new(alloc);
     for _ in 0..threads {
         let theirs = receiver.clone(&rt)?;
-        started.push(thread::spawn(&rt, move || receive_all(&rt, &theirs))?)?;
+        started.push(thread::spawn(&rt, move || load.receive_all(&rt, &theirs))?)?;
     }
     Ok(started)
 }
 
 /// Joins the threads that send.
-pub fn join_all<R: Threads>(rt: &R, sending: Vec<JoinHandle<io::Result<()>>>) -> io::Result<()> {
+fn join_all<R: Threads>(rt: &R, sending: Vec<JoinHandle<io::Result<()>>>) -> io::Result<()> {
     for thread in sending {
         thread.join(rt)?;
     }
@@ -92,7 +136,7 @@ pub fn join_all<R: Threads>(rt: &R, sending: Vec<JoinHandle<io::Result<()>>>) ->
 }
 
 /// The sum of what the receiving threads got, when all have ended.
-pub fn sum_of<R: Threads>(rt: &R, receiving: Vec<JoinHandle<io::Result<u64>>>) -> io::Result<u64> {
+fn sum_of<R: Threads>(rt: &R, receiving: Vec<JoinHandle<io::Result<u64>>>) -> io::Result<u64> {
     let mut sum = 0u64;
     for thread in receiving {
         sum = sum.wrapping_add(thread.join(rt)?);
@@ -101,14 +145,22 @@ pub fn sum_of<R: Threads>(rt: &R, receiving: Vec<JoinHandle<io::Result<u64>>>) -
 }
 
 /// Sends and receives in threads of their own, and joins them all.
-pub fn in_threads<R>(rt: R, alloc: Global, ends: Ends, crowd: Crowd, count: u64) -> Result<u64>
+pub fn in_threads<R>(
+    rt: R,
+    alloc: Global,
+    ends: Ends,
+    crowd: Crowd,
+    load: Load,
+    count: u64,
+) -> Result<u64>
 where
     R: Threads + Wait + RandomSource + AllocGlobal + Copy + Send + 'static,
 {
     let (sender, receiver) = ends;
-    let sending = start_senders(rt, alloc, &sender, crowd.senders, crowd.each(count))?;
+    let each = load.each(crowd.each(count));
+    let sending = start_senders(rt, alloc, &sender, load, crowd.senders, each)?;
     drop(sender);
-    let receiving = start_receivers(rt, alloc, &receiver, crowd.receivers)?;
+    let receiving = start_receivers(rt, alloc, &receiver, load, crowd.receivers)?;
     drop(receiver);
     join_all(&rt, sending)?;
     Ok(sum_of(&rt, receiving)?)

@@ -11,8 +11,10 @@ use layout::{Layout, NUMBERS, has_heads, row_end, row_foot, row_top, row_words, 
 use std::alloc::{AllocError, Global};
 
 /// The head of an arrow.
-const HEAD: &str =
-    "<defs><marker id='head' markerUnits='userSpaceOnUse' markerWidth='12' markerHeight='12' viewBox='0 0 12 12' refX='13' refY='6' orient='auto'><path d='M1 1.5 L11 6 L1 10.5 Z' fill='#14305c'/></marker></defs>\n";
+const HEAD: &str = "<defs>\
+    <marker id='head' markerUnits='userSpaceOnUse' markerWidth='12' markerHeight='12' \
+    viewBox='0 0 12 12' refX='13' refY='6' orient='auto'>\
+    <path d='M1 1.5 l10 4.5 l-10 4.5 z' fill='#14305c'/></marker></defs>\n";
 
 /// What the signs mean.
 const LEGEND: &str =
@@ -259,7 +261,8 @@ impl Drawing {
         let (width, height) = (self.layout.width, self.layout.height);
         writeln!(
             self.text,
-            "<svg xmlns='http://www.w3.org/2000/svg' width='{width}' height='{height}' viewBox='0 0 {width} {height}' font-family='monospace' font-size='13'>"
+            "<svg xmlns='http://www.w3.org/2000/svg' width='{width}' height='{height}' \
+            viewBox='0 0 {width} {height}' font-family='monospace' font-size='13'>"
         )?;
         self.text.push_str(HEAD)?;
         writeln!(

@@ -14,14 +14,12 @@ use crate::channel::Channel;
 use crate::delivered::Delivered;
 use crate::pass::Pass;
 use crate::steps::Tried;
-use crate::waiting::Waiting;
 use kanal_board::Naming;
 use kanal_core::internal::{Outcome, Ticket};
 use kanal_journal::journal::{Event, Reply};
-use kanal_shared::Clock;
+use kanal_shared::{Clock, Waiting};
 use std::sync::Wait;
 use std::time;
-use std::time::Duration;
 
 /// What a call with a deadline came to.
 #[derive(Drop)]
@@ -34,12 +32,6 @@ pub(crate) enum Timed<T> {
     Withdrawn,
     /// It had to wait, and there was no memory for that. Its message is dropped.
     Lacking,
-}
-
-/// The moment at which a wait of this duration ends; `None` where no moment is so late.
-pub(crate) fn deadline<C: Clock>(clock: &C, duration: Duration) -> Option<u64> {
-    let nanos = u64::try_from(duration.as_nanos()).ok()?;
-    clock.now().checked_add(nanos)
 }
 
 impl<T: Drop, J: Naming> Channel<T, J> {

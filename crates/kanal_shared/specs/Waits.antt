@@ -1,5 +1,6 @@
 -- At which end of a cell a blocked call waits.
 use Rattle.kanal_cell.specs.declared.signal.WaitEnd.{WaitEnd}
+use Rattle.kanal_shared.specs.declared.backoff.Waiting.{Waiting}
 use Rattle.kanal_shared.specs.declared.backoff.Watch.{Watch}
 use Rattle.kanal_shared.specs.declared.backoff.Watch.TheVariants.{Awake, Asleep}
 
@@ -7,3 +8,7 @@ use Rattle.kanal_shared.specs.declared.backoff.Watch.TheVariants.{Awake, Asleep}
 abbrev pub end_at : {P : Type 0} → Watch P → WaitEnd P
 end_at (Awake waiter sleeper) = waiter.end
 end_at (Asleep waiter) = waiter.end
+
+-- the end at which a blocked call waits
+abbrev pub waits_at : {P : Type 0} → Waiting P → WaitEnd P
+waits_at waiting = end_at waiting.watch

@@ -2,12 +2,12 @@
 //! until it is told or its deadline comes.
 //!
 //! Its name is kanal's, after the spinning that is its first part. Stands on the cell's waiting end,
-//! on parking and on clocks. Only blocked calls use it; what is asked for memory is there before the
-//! wait starts, so nothing is refused here.
+//! on parking and on clocks. Only blocked calls use it, those of a channel with one history too; what
+//! is asked for memory is there before the wait starts, so nothing is refused later.
 ghost use Rattle.std.specs.Prelude.{◌≡◌, IfOk};
 ghost use Rattle.kanal_cell.specs.CellRule.{MaySleep};
 ghost use Rattle.kanal_cell.specs.CellEnds.{wait_view};
-ghost use Rattle.kanal_shared.specs.Waits.{end_at};
+ghost use Rattle.kanal_shared.specs.Waits.{waits_at};
 
 mod awake;
 
@@ -48,17 +48,27 @@ enum Looked<P> {
 }
 
 /// A blocked call's half of its wait: the cell's waiting end, and what it sleeps with.
+///
+/// # Examples
+/// ```text
+/// let (end, settling) = signal::new(alloc)?;
+/// let waiting = Waiting::new(alloc, end)?;
+/// waiting.outcome(&rt)   answers  7   when another thread has made settling.settle(7)
+/// ```
 #[derive(Drop)]
-pub(crate) struct Waiting<P> {
+pub struct Waiting<P> {
     watch: Watch<P>,
     parker: Parker,
 }
 
 impl<P: Drop> Waiting<P> {
-    /// Over a fresh end.
-    pub(crate) fn new(alloc: Global, end: WaitEnd<P>) -> Result<Self, AllocError>
-        requires { MaySleep (wait_view end) }
-        ensures end { IfOk result (λ waiting. end_at waiting.watch ≡ end) }
+    /// The wait at an end that has neither slept nor had its outcome.
+    ///
+    /// # Errors
+    /// `AllocError` where there is no memory for what the call sleeps with. The end is let go then.
+    pub fn new(alloc: Global, end: WaitEnd<P>) -> Result<Self, AllocError>
+        requires fresh { MaySleep (wait_view end) }
+        ensures end { IfOk result (λ waiting. waits_at waiting ≡ end) }
     {
         let parker = Parker::new(alloc)?;
         let sleeper = parker.unparker().clone()?;
@@ -66,8 +76,8 @@ impl<P: Drop> Waiting<P> {
         Ok(Waiting { watch, parker })
     }
 
-    /// Waits for the outcome.
-    pub(crate) fn outcome<R: Wait>(self, rt: &R) -> P {
+    /// Waits for the outcome, and answers it.
+    pub fn outcome<R: Wait>(self, rt: &R) -> P {
         let Waiting { watch, parker } = self;
         match watch {
             Watch::Awake(awake, sleeper) => match look(awake) {
@@ -81,8 +91,12 @@ impl<P: Drop> Waiting<P> {
         }
     }
 
-    /// Waits for the outcome until the deadline; the rest of the wait where that passed.
-    pub(crate) fn outcome_until<R: Wait + time::Clock, C: Clock>(
+    /// Waits for the outcome until the clock's moment is the deadline, in nanoseconds, and answers it.
+    ///
+    /// # Errors
+    /// The rest of the wait, where the deadline passed without the outcome: whoever has it takes the wait
+    /// out of the core, or waits on.
+    pub fn outcome_until<R: Wait + time::Clock, C: Clock>(
         self,
         rt: &R,
         clock: &C,

@@ -55,7 +55,12 @@ impl<R: time::Clock> Clock for SystemClock<'_, R> {
 }
 
 /// The moment at which a wait of this duration ends; `None` where no moment is so late.
-pub(crate) fn deadline<C: Clock>(clock: &C, duration: Duration) -> Option<u64> {
+///
+/// # Examples
+/// ```text
+/// deadline(&clock, Duration::from_nanos(5))   answers  Some(12)   where clock.now() answers 7
+/// ```
+pub fn deadline<C: Clock>(clock: &C, duration: Duration) -> Option<u64> {
     let nanos = u64::try_from(duration.as_nanos()).ok()?;
     clock.now().checked_add(nanos)
 }

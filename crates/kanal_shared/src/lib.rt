@@ -15,6 +15,7 @@ mod receiving;
 mod sending;
 mod shared;
 
-pub use clock::{Clock, SystemClock};
+pub use backoff::Waiting;
+pub use clock::{Clock, SystemClock, deadline};
 pub use future::{ReceiveFuture, ReceiveStream, SendFuture};
 pub use shared::{Locked, Shared};

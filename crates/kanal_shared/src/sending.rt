@@ -6,7 +6,7 @@ ghost use Rattle.std.specs.Prelude.{◌≡◌, IfSome};
 ghost use Rattle.kanal_cell.specs.CellEnds.{AreOfOneCell};
 ghost use Rattle.kanal_steps.specs.Seats.{end_of};
 ghost use Rattle.kanal_steps.specs.Steps.{IfRefused, back_of};
-ghost use Rattle.kanal_shared.specs.Waits.{end_at};
+ghost use Rattle.kanal_shared.specs.Waits.{waits_at};
 
 mod timed;
 
@@ -34,7 +34,7 @@ pub(crate) fn answer_of<T: Drop>(outcome: Outcome<T>) -> Result<(), SendError> {
 /// What a wait needs: the blocked call's half, and the seat for the core.
 pub(crate) fn wait<T: Drop>(alloc: Global) -> Option<(Waiting<Outcome<T>>, Box<Seat<T>>)>
     ensures cell { IfSome result (λ made.
-        AreOfOneCell (end_at made.0.watch) (end_of made.1.value)) }
+        AreOfOneCell (waits_at made.0) (end_of made.1.value)) }
 {
     let (end, settler) = signal::new(alloc).ok()?;
     let waiting = Waiting::new(alloc, end).ok()?;

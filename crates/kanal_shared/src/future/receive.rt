@@ -22,7 +22,8 @@ use std::{fmt, mem};
 ///
 /// A poll waits for nobody. The first one that gets the lock takes the front message; where there is
 /// none, the receiver waits until a message is sent or the channel ends. Where another holds the lock
-/// the poll makes no step: it pauses, longer with each such poll in a row, and asks for another poll.
+/// the poll makes no step and asks for another poll: at once where the channel has no buffer, and else
+/// after a pause, which is longer with each such poll in a row.
 ///
 /// A drop waits for nobody, too: a started wait is withdrawn, and a message that was handed over
 /// before is dropped. After its answer the future answers `Err(ReceiveError::Finished)`.
@@ -94,7 +95,9 @@ impl<'a, T: Drop> ReceiveFuture<'a, T> {
     {
         let Some(mut locked) = self.shared.try_lock() else {
             self.state = State::Zero(());
-            self.pauses.pause();
+            if self.shared.has_buffer {
+                self.pauses.pause();
+            }
             return cx.yield_now();
         };
         if !self.shared.is_quiet() {

@@ -23,8 +23,8 @@ use std::{fmt, mem};
 ///
 /// A poll waits for nobody. The first one that gets the lock offers the message; where there is no
 /// place for it, the message waits in the line until a receiver takes it or the channel ends. Where
-/// another holds the lock the poll makes no step: it pauses, longer with each such poll in a row, and
-/// asks for another poll.
+/// another holds the lock the poll makes no step and asks for another poll: at once where the channel
+/// has no buffer, and else after a pause, which is longer with each such poll in a row.
 ///
 /// A drop waits for nobody, too: a message that waits is withdrawn and dropped. After its answer the
 /// future answers `Err(SendError::Finished)`.
@@ -76,7 +76,9 @@ impl<'a, T: Drop> SendFuture<'a, T> {
     {
         let Some(mut locked) = self.shared.try_lock() else {
             self.state = State::Zero(message);
-            self.pauses.pause();
+            if self.shared.has_buffer {
+                self.pauses.pause();
+            }
             return cx.yield_now();
         };
         if !self.shared.is_quiet() {

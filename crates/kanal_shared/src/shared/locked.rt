@@ -22,18 +22,20 @@ use std::time::Duration;
 /// How often a call looks for notices after it released the lock.
 const LOOKS: u32 = 64;
 
-/// How often a call tries a lock that is held before it naps, each time after a pause twice as long as
-/// the one before.
-const TRIES: u32 = 8;
+/// The first pause before a lock that is held is tried again, as a power of two of spins.
+const FIRST_PAUSE: u32 = 6;
 
-/// How often it naps before it sleeps until the lock is released.
+/// The last one before a nap, as a power of two of spins: each is twice as long as the one before.
+const LAST_PAUSE: u32 = 10;
+
+/// How often a call naps for the lock before it sleeps until the lock is released.
 const NAPS: u32 = 16;
 
-/// How long it naps for the lock at first, in nanoseconds; the system makes that some fifty thousand.
+/// How long it naps at first, in nanoseconds; the system makes that some fifty thousand.
 const FIRST_NAP: u64 = 1_000;
 
 /// How long it naps each further time, in nanoseconds.
-const LOCK_NAP: u64 = 100_000;
+const LATER_NAP: u64 = 20_000;
 
 /// The lock of a channel, which has to be given back: the prover refuses a call that lets it go.
 ///
@@ -305,14 +307,14 @@ impl<T: Drop> Shared<T> {
                 return core;
             }
             napper.park_timeout(rt, Duration::from_nanos(nap));
-            nap = LOCK_NAP;
+            nap = LATER_NAP;
         }
         self.core.lock(rt)
     }
 
     /// Tries to get the lock, with growing pauses between.
     fn try_often(&self) -> Option<MutexGuard<'_, Core<T>>> {
-        for power in 0..TRIES {
+        for power in FIRST_PAUSE..=LAST_PAUSE {
             pause(power);
             if let Some(core) = self.core.try_lock() {
                 return Some(core);

@@ -2,12 +2,34 @@
 //!
 //! Stands on the passes' lists and on the journal's entries, and asks for no memory. It is the one
 //! place that compares messages, by the type's own `==`.
-ghost use Rattle.std.specs.Prelude.{◌≡◌, ◌≢◌, ◌<◌, true, length};
+ghost use Rattle.std.specs.Prelude.{◌≡◌, ◌≢◌, ◌<◌, ◌≤◌, true, length, IfSome};
 ghost use Rattle.std.specs.List.{All, AllPairs, sum_by};
 ghost use Rattle.kanal_recorded.specs.Merges.{IsMerged, IsAmong, IsApart, IsNoteOf, IsIdentity};
+ghost use Rattle.kanal_recorded.specs.Comparing.{HasReached, HaveReached, AreAtEnd};
 
 use crate::pass::{Note, Pass};
 use kanal_journal::journal::{Entry, Event, Reply};
+
+/// How many entries are compared with one pass, before the next one's turn comes, at least.
+const WINDOW: usize = 4_096;
+
+/// How many passes take turns at most.
+const GROUP: usize = 64;
+
+/// How far a pass's list was compared: how many of its notes, and up to which entry.
+#[derive(Clone, Copy)]
+struct Reached {
+    notes: usize,
+    entries: usize,
+}
+
+impl Reached {
+    /// Of a list of which nothing was compared.
+    const START: Reached = Reached {
+        notes: 0,
+        entries: 0,
+    };
+}
 
 /// Whether the entries are the passes' calls, each where its pass has kept it.
 ///
@@ -63,37 +85,113 @@ fn are_as_many<T: Copy>(passes: &[Pass<T>], entries: usize) -> bool
     left == 0
 }
 
-/// Whether each pass's list is of entries of its party.
+/// Whether each pass's list is of entries of its party. However many passes there are, they take no
+/// more turns than there are entries and passes.
 fn are_among<T: Copy + Eq>(entries: &[Entry<T>], passes: &[Pass<T>]) -> bool
     requires { IsIdentity T.eq }
     ensures { result ≡ true → All (IsAmong entries.now) passes.now }
 {
-    for pass in passes {
-        if !is_among(entries, pass.party(), pass.notes()) {
+    let window = WINDOW.max(passes.len());
+    let mut first = 0;
+    while first < passes.len() {
+        let end = first + GROUP.min(passes.len() - first);
+        if !is_group_among(entries, &passes[first..end], window) {
             return false;
+        }
+        first = end;
+    }
+    true
+}
+
+/// The same for a few passes, which take turns at so many entries. The entries of one pass may lie far
+/// apart; those of all passes lie side by side, and the processor has them at hand for the next turn.
+fn is_group_among<T: Copy + Eq>(entries: &[Entry<T>], group: &[Pass<T>], window: usize) -> bool
+    requires equal { IsIdentity T.eq }
+    requires few { length group.now ≤ GROUP }
+    requires wide { 0 < window }
+    ensures { result ≡ true → All (IsAmong entries.now) group.now }
+{
+    let mut reached = [Reached::START; GROUP];
+    let mut end = 0;
+    while end < entries.len() {
+        end += window.min(entries.len() - end);
+        if !are_alike_before(end, entries, group, &mut reached) {
+            return false;
+        }
+    }
+    are_at_end(group, &reached)
+}
+
+/// Whether the notes whose places are before this end are of their entries: of each pass from where it
+/// had come to on. What is kept is how far each came.
+fn are_alike_before<T: Copy + Eq>(
+    end: usize,
+    entries: &[Entry<T>],
+    group: &[Pass<T>],
+    reached: &mut [Reached; GROUP],
+) -> bool
+    requires equal { IsIdentity T.eq }
+    requires few { length group.now ≤ GROUP }
+    requires reached { HaveReached entries.now group.now reached.old }
+    ensures { result ≡ true → HaveReached entries.now group.now reached.new }
+{
+    for (number, pass) in group.iter().enumerate() {
+        match compared_before(end, entries, pass, reached[number]) {
+            Some(further) => reached[number] = further,
+            None => return false,
         }
     }
     true
 }
 
-/// Whether the notes are of entries of the party, in order, at the places kept, none of which is
-/// before what was seen.
-fn is_among<T: Copy + Eq>(entries: &[Entry<T>], party: u32, notes: &[Note<T>]) -> bool
-    requires { IsIdentity T.eq }
-    ensures { result ≡ true → IsAmong entries.now
-        (record { party = party; notes = notes.now; seen = 0 }) }
+/// Compares the pass's notes from where it had come to on, while their places are before this end, and
+/// answers how far it came. `None` where a note is not of its entry, or not behind the one before.
+fn compared_before<T: Copy + Eq>(
+    end: usize,
+    entries: &[Entry<T>],
+    pass: &Pass<T>,
+    reached: Reached,
+) -> Option<Reached>
+    requires equal { IsIdentity T.eq }
+    requires reached { HasReached entries.now pass.now reached }
+    ensures { IfSome result (HasReached entries.now pass.now) }
 {
-    let mut next: usize = 0;
-    for note in notes {
+    let party = pass.party();
+    let notes = pass.notes();
+    let mut next = reached.entries;
+    for count in reached.notes..notes.len() {
+        let note = &notes[count];
         let place = note.place;
+        if place >= end {
+            return Some(Reached {
+                notes: count,
+                entries: next,
+            });
+        }
         if place < next || place >= entries.len() {
-            return false;
+            return None;
         }
         let entry = &entries[place];
         if entry.party != party || !is_note_of(entry, note) {
-            return false;
+            return None;
         }
         next = place + 1;
+    }
+    Some(Reached {
+        notes: notes.len(),
+        entries: next,
+    })
+}
+
+/// Whether all notes of these passes were compared.
+fn are_at_end<T: Copy>(group: &[Pass<T>], reached: &[Reached; GROUP]) -> bool
+    requires { length group.now ≤ GROUP }
+    ensures { result ≡ true → AreAtEnd group.now reached.now (length group.now) }
+{
+    for (number, pass) in group.iter().enumerate() {
+        if reached[number].notes != pass.notes().len() {
+            return false;
+        }
     }
     true
 }

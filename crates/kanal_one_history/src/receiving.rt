@@ -224,7 +224,6 @@ impl<T: Drop, J: Naming> Channel<T, J> {
     /// ```text
     /// channel.drain_into(rt, &mut pass, &mut messages)   answers  Ok(2)   where two messages were there
     /// ```
-    #[tactic(auto, using(crate::proofs::Settling::noted_settled, crate::proofs::Draining::noted_drains, crate::proofs::Draining::refused_holds, crate::proofs::Draining::refused_keeps_room))]
     pub fn drain_into<R: Wait>(
         &self,
         rt: &R,

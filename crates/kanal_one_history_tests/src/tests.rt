@@ -1,6 +1,7 @@
 //! The tests of a channel with one history, and what they share.
 mod deadlines;
 mod drained;
+mod exchange;
 mod given;
 mod passes;
 mod rows;

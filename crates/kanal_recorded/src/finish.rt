@@ -14,7 +14,7 @@ use kanal_journal::journal::{Entry, Event, Reply};
 const WINDOW: usize = 4_096;
 
 /// How many passes take turns at most.
-const GROUP: usize = 64;
+const GROUP: usize = 512;
 
 /// How far a pass's list was compared: how many of its notes, and up to which entry.
 #[derive(Clone, Copy)]
@@ -85,27 +85,44 @@ fn are_as_many<T: Copy>(passes: &[Pass<T>], entries: usize) -> bool
     left == 0
 }
 
+/// The last party of those that have a pass, or 0 where there is no pass.
+fn last_party<T: Copy>(passes: &[Pass<T>]) -> u32 {
+    let mut last = 0;
+    for pass in passes {
+        last = pass.party().max(last);
+    }
+    last
+}
+
 /// Whether each pass's list is of entries of its party. However many passes there are, they take no
-/// more turns than there are entries and passes.
+/// more turns than there are entries and passes, and the entries' parties are looked through once.
 fn are_among<T: Copy + Eq>(entries: &[Entry<T>], passes: &[Pass<T>]) -> bool
     requires { IsIdentity T.eq }
     ensures { result ≡ true → All (IsAmong entries.now) passes.now }
 {
     let window = WINDOW.max(passes.len());
+    let mut last = Some(last_party(passes));
     let mut first = 0;
     while first < passes.len() {
         let end = first + GROUP.min(passes.len() - first);
-        if !is_group_among(entries, &passes[first..end], window) {
+        if !is_group_among(entries, &passes[first..end], window, last) {
             return false;
         }
+        last = None;
         first = end;
     }
     true
 }
 
-/// The same for a few passes, which take turns at so many entries. The entries of one pass may lie far
-/// apart; those of all passes lie side by side, and the processor has them at hand for the next turn.
-fn is_group_among<T: Copy + Eq>(entries: &[Entry<T>], group: &[Pass<T>], window: usize) -> bool
+/// The same for a few passes, which take turns at so many entries, once those are known to be of no
+/// party after the last one, if that is told. The entries of one pass may lie far apart; that look goes
+/// through them side by side, so that the processor has them at hand for all turns.
+fn is_group_among<T: Copy + Eq>(
+    entries: &[Entry<T>],
+    group: &[Pass<T>],
+    window: usize,
+    last: Option<u32>,
+) -> bool
     requires equal { IsIdentity T.eq }
     requires few { length group.now ≤ GROUP }
     requires wide { 0 < window }
@@ -114,12 +131,28 @@ fn is_group_among<T: Copy + Eq>(entries: &[Entry<T>], group: &[Pass<T>], window:
     let mut reached = [Reached::START; GROUP];
     let mut end = 0;
     while end < entries.len() {
+        let start = end;
         end += window.min(entries.len() - end);
-        if !are_alike_before(end, entries, group, &mut reached) {
+        if !are_up_to(last, &entries[start..end])
+            || !are_alike_before(end, entries, group, &mut reached)
+        {
             return false;
         }
     }
     are_at_end(group, &reached)
+}
+
+/// Whether none of these entries is of a party after the last one; of any, where none is the last.
+fn are_up_to<T: Copy>(last: Option<u32>, entries: &[Entry<T>]) -> bool {
+    let Some(last) = last else {
+        return true;
+    };
+    for entry in entries {
+        if entry.party > last {
+            return false;
+        }
+    }
+    true
 }
 
 /// Whether the notes whose places are before this end are of their entries: of each pass from where it

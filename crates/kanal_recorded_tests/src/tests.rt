@@ -8,3 +8,4 @@ mod mismatches;
 mod parties;
 mod states;
 mod threads;
+mod turns;

@@ -1,4 +1,4 @@
-//! The README's first program: a thread sends three numbers, and the receiver adds them up.
+//! The README's first program: a thread sends three numbers, and the receiver prints each.
 #![tactic(auto)]
 
 use anyhow::Result;

@@ -316,7 +316,7 @@ impl<T: Copy> Pass<T> {
         self.call(rt, channel, Event::Ask(side, question))
     }
 
-    /// Asks whether no sender is left and no message is in the buffer. It waits for the lock alone.
+    /// Asks whether no sender is left and the line is empty. It waits for the lock alone.
     ///
     /// `Flag`. `Refused` otherwise: `NoHandle` where no live receiver is left, `NoMemory` where memory was
     /// refused.

@@ -140,11 +140,11 @@ module _ {T : Type 0} where
   IsWait (Waits t) = Unit {0}
   IsWait reply = ⊥
 
-  -- a message would lengthen an unlimited line while no demand waits
+  -- a message would lengthen an unlimited line that is not sealed, while no demand waits
   abbrev pub Lengthens : Line T → Type 0
-  Lengthens old = (old.receivers ≢ 0) × (old.demands ≡ []) × (old.capacity ≡ None)
+  Lengthens old = (old.receivers ≢ 0) × (old.senders ≢ 0) × (old.demands ≡ []) × (old.capacity ≡ None)
 
-  -- the event may be refused for memory: it would start a wait, lengthen an unlimited line while no demand waits, or drain a line that is not empty
+  -- the event may be refused for memory: it would start a wait, lengthen an unlimited line that is not sealed while no demand waits, or drain a line that is not empty
   abbrev pub MayRefuse : Line T → Event T → Type 0
   MayRefuse old (Send m) = IsWait (step old (Send m)).reply ⊎ Lengthens old
   MayRefuse old (TrySend m) = Lengthens old

@@ -34,14 +34,6 @@ all_filled value (job ∷ jobs) (answer ∷ found) kept = rw kept.0 (rw (all_fil
 all_filled value [] (answer ∷ found) kept = absurd kept
 all_filled value (job ∷ jobs) [] kept = absurd kept
 
--- a place that is filled was empty, and the others stay
-pub kept_place : {A : Type 0} (places : List (Option A)) (filled number : ℕ) (other answer : A) → slice_get places filled ≡ Some None → slice_get places number ≡ Some (Some answer) → slice_get (set places filled (Some other)) number ≡ Some (Some answer)
-kept_place [] filled number other answer empty has = has
-kept_place (place ∷ places) zero zero other answer empty has = absurd (grind (arith, common_steps))
-kept_place (place ∷ places) zero (suc number) other answer empty has = has
-kept_place (place ∷ places) (suc filled) zero other answer empty has = has
-kept_place (place ∷ places) (suc filled) (suc number) other answer empty has = kept_place places filled number other answer empty has
-
 -- a place that was looked at and held nothing
 pub empty_place : {A : Type 0} (places : List (Option A)) (number : ℕ) (found : Option A) → number < length places → found ≡ slice_index_or places number found → is_some found ≡ false → slice_get places number ≡ Some None
 empty_place [] number found within at nothing = absurd (grind arith)

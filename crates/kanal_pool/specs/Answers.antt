@@ -1,5 +1,5 @@
 -- What a pool answers, said of the jobs alone.
-use Rattle.std.specs.Prelude.{◌≡◌, ℕ, List, [], ◌∷◌, Option, Some, None, map, slice_get}
+use Rattle.std.specs.Prelude.{◌≡◌, ℕ, List, [], ◌∷◌, Option, Some, None, map, set, slice_get}
 
 -- each job's value, in the jobs' order
 abbrev pub answers : {J A : Type 0} → (J → A) → List J → List A
@@ -13,10 +13,6 @@ AreInPlace value (job ∷ jobs) (Some answer ∷ places) = (answer ≡ value job
 AreInPlace value [] (place ∷ places) = ⊥
 AreInPlace value (job ∷ jobs) [] = ⊥
 
--- a place that has an answer keeps it
-abbrev pub KeepAnswers : {A : Type 0} → List (Option A) → List (Option A) → Type 0
-KeepAnswers {A} old new = (number : ℕ) (answer : A) → slice_get old number ≡ Some (Some answer) → slice_get new number ≡ Some (Some answer)
-
--- however they were found, the jobs' answers are one list
-abbrev pub AreOneList : {J A : Type 0} → (J → A) → Type 0
-AreOneList {J} {A} value = (jobs : List J) (by_pool in_turn : List A) → by_pool ≡ answers value jobs → in_turn ≡ answers value jobs → by_pool ≡ in_turn
+-- the place with this number was empty and has the answer now; the others are as they were
+abbrev pub FillsEmpty : {A : Type 0} → List (Option A) → ℕ → A → List (Option A) → Type 0
+FillsEmpty old number answer new = (slice_get old number ≡ Some None) × (new ≡ set old number (Some answer))

@@ -13,4 +13,4 @@ mod pool;
 pub use error::PoolError;
 pub use job::{Gate, Job, NoGate};
 pub use kanal::error::NoMemory;
-pub use pool::{map_in_turn, map_jobs, pool_is_one_thread};
+pub use pool::{map_both_ways, map_in_turn, map_jobs};

@@ -1,9 +1,9 @@
 //! The places of the answers: one a job, each empty or with that job's value.
 //!
 //! Stands on `job`. `pool` alone uses it.
-ghost use Rattle.std.specs.Prelude.{◌≡◌, ◌⊎◌, IfOk, IfErr};
+ghost use Rattle.std.specs.Prelude.{◌≡◌, ◌⊎◌, IfOk, IfErr, OnOk, OnErr};
 ghost use Rattle.kanal_pool.specs.declared.error.PoolError.{PoolError};
-ghost use Rattle.kanal_pool.specs.Answers.{answers, AreInPlace, KeepAnswers};
+ghost use Rattle.kanal_pool.specs.Answers.{answers, AreInPlace, FillsEmpty};
 
 use crate::error::PoolError;
 use crate::job::Job;
@@ -44,12 +44,18 @@ pub fn empty_places<J: Job>(alloc: Global, jobs: &[J]) -> Result<Vec<Option<J::A
     Ok(places)
 }
 
-/// Puts the answer at its job's place, if that is its job and the place is empty. A place that has an
-/// answer keeps it.
-pub fn put<J: Job>(jobs: &[J], places: &mut Vec<Option<J::Answer>>, answered: Answered<'_, J>)
+/// Puts the answer at its job's place, which is empty. It comes back where that is not its job, or the
+/// place has an answer.
+pub fn put<'a, J: Job>(
+    jobs: &[J],
+    places: &mut Vec<Option<J::Answer>>,
+    answered: Answered<'a, J>,
+) -> Result<(), Answered<'a, J>>
     requires { AreInPlace J.value jobs.now places.old.items }
     ensures in_place { AreInPlace J.value jobs.now places.new.items }
-    ensures kept { KeepAnswers places.old.items places.new.items }
+    ensures filled { OnOk result
+        (FillsEmpty places.old.items answered.entry.number answered.entry.answer places.new.items) }
+    ensures refused { OnErr result (places.new.items ≡ places.old.items) }
 {
     let Answered {
         number,
@@ -57,11 +63,21 @@ pub fn put<J: Job>(jobs: &[J], places: &mut Vec<Option<J::Answer>>, answered: An
         answer,
     } = answered;
     let Some(own) = jobs.get(number) else {
-        return;
+        return Err(Answered {
+            number,
+            job,
+            answer,
+        });
     };
     if own == job && number < places.len() && places[number].is_none() {
         places[number] = Some(answer);
+        return Ok(());
     }
+    Err(Answered {
+        number,
+        job,
+        answer,
+    })
 }
 
 /// The answers, once each place has one.

@@ -6,7 +6,7 @@
 //! all workers have ended, and no other module starts a thread.
 ghost use Rattle.std.specs.Prelude.{◌≡◌, ◌≢◌, ◌↔◌, ◌⊎◌, length, IfOk, IsErrOf};
 ghost use Rattle.kanal_core.specs.Line.{last_word};
-ghost use Rattle.kanal_pool.specs.Answers.{answers, AreInPlace, AreOneList};
+ghost use Rattle.kanal_pool.specs.Answers.{answers, AreInPlace};
 
 use crate::error::PoolError;
 use crate::job::{Gate, Job};
@@ -118,7 +118,7 @@ fn collect<'a, J: Job, R: Wait>(
         let Ok(Some(report)) = told.try_recv(rt) else {
             break;
         };
-        put(jobs, places, report?);
+        let _put = put(jobs, places, report?);
     }
     Ok(())
 }
@@ -198,7 +198,34 @@ pub fn map_in_turn<J: Job>(alloc: Global, jobs: &[J]) -> Result<Vec<J::Answer>, 
     Ok(found)
 }
 
-/// What a pool answers and what one thread answers are one list, however many workers there were.
-pub fn pool_is_one_thread<J: Job>()
-    ensures { AreOneList J.value }
-{}
+/// What so many workers answer, and what this thread answers alone: where both are `Ok` it is one list.
+///
+/// # Errors
+/// Those of `map_jobs`, and those of `map_in_turn`.
+///
+/// # Examples
+/// ```text
+/// map_both_ways(&rt, alloc, &[Square(2), Square(3)], 4, &NoGate)   answers  twice Ok of 4 and 9
+/// ```
+pub fn map_both_ways<J, G, R>(
+    rt: &R,
+    alloc: Global,
+    jobs: &[J],
+    workers: usize,
+    gate: &G,
+) -> (
+    Result<Vec<J::Answer>, PoolError>,
+    Result<Vec<J::Answer>, NoMemory>,
+)
+where
+    J: Job + Sync,
+    J::Answer: Send,
+    G: Gate + Sync,
+    R: Threads + Wait + Sync,
+    ensures one_list { IfOk result.0 (λ by_pool.
+        IfOk result.1 (λ in_turn. by_pool.items ≡ in_turn.items)) }
+{
+    let by_pool = map_jobs(rt, alloc, jobs, workers, gate);
+    let in_turn = map_in_turn(alloc, jobs);
+    (by_pool, in_turn)
+}

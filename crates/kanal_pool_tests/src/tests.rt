@@ -4,3 +4,4 @@ mod given;
 mod refusals;
 mod rows;
 mod texts;
+mod watched;

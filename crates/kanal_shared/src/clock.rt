@@ -1,6 +1,7 @@
-//! Clocks for timed calls: the trait by which one is handed in, and the system's.
+//! Clocks for timed calls: the trait by which one is handed in, the system's, and one for tests.
 //!
 //! Stands on nothing of the channel. A timed call reads its clock with the lock released.
+use std::cell::Cell;
 use std::time;
 use std::time::{Duration, Instant};
 
@@ -51,6 +52,55 @@ impl<R: time::Clock> Clock for SystemClock<'_, R> {
             Ok(passed) => u64::try_from(passed.as_nanos()).unwrap_or(u64::MAX),
             Err(_) => u64::MAX,
         }
+    }
+}
+
+/// A clock for tests, which tells what the test says: it stands still, or rises at each read.
+///
+/// A call that waits by a clock which stands still waits until its outcome comes.
+///
+/// # Examples
+/// ```text
+/// receiver.recv_timeout(&rt, Duration::from_nanos(9), &TestClock::rising())   answers  Err(Timeout)
+/// let clock = TestClock::still(5);
+/// clock.advance(2);
+/// clock.now()   answers  7
+/// ```
+#[derive(Drop)]
+pub struct TestClock {
+    moment: Cell<u64>,
+    step: u64,
+}
+
+impl TestClock {
+    /// A clock that stands at this moment, in nanoseconds.
+    pub fn still(moment: u64) -> Self {
+        TestClock {
+            moment: Cell::new(moment),
+            step: 0,
+        }
+    }
+
+    /// A clock that tells 0 first, and one nanosecond more at each read.
+    pub fn rising() -> Self {
+        TestClock {
+            moment: Cell::new(0),
+            step: 1,
+        }
+    }
+
+    /// Sets the clock forward by so many nanoseconds, at most to the largest moment.
+    pub fn advance(&self, nanoseconds: u64) {
+        let moment = self.moment.get();
+        self.moment.set(moment.saturating_add(nanoseconds));
+    }
+}
+
+impl Clock for TestClock {
+    fn now(&self) -> u64 {
+        let now = self.moment.get();
+        self.advance(self.step);
+        now
     }
 }
 

@@ -16,6 +16,6 @@ mod sending;
 mod shared;
 
 pub use backoff::Waiting;
-pub use clock::{Clock, SystemClock, deadline};
+pub use clock::{Clock, SystemClock, TestClock, deadline};
 pub use future::{ReceiveFuture, ReceiveStream, SendFuture};
 pub use shared::{Locked, Shared};

@@ -10,6 +10,7 @@ use crossbeam_utils::sync::{Parker, Unparker};
 use kanal_cell::signal;
 use kanal_cell::signal::{SettleEnd, WaitEnd};
 use kanal_core::internal::ChannelInternal;
+use kanal_given::Drops;
 use std::alloc::{AllocGlobal, Global};
 use std::fmt::Debug;
 use std::process::Abort;
@@ -109,4 +110,9 @@ pub fn counter(rt: &(impl Abort + AllocGlobal)) -> Arc<AtomicU64, Global> {
 /// The same counter once more.
 pub fn shared(rt: &impl Abort, counter: &Arc<AtomicU64, Global>) -> Arc<AtomicU64, Global> {
     Arc::try_clone(counter).expect(rt, "a count of the counter")
+}
+
+/// A counter of dropped messages, at 0.
+pub fn no_drops(rt: &(impl Abort + AllocGlobal)) -> Drops {
+    Drops::new(rt.alloc()).expect(rt, "memory for a counter")
 }

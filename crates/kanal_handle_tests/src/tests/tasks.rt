@@ -8,4 +8,5 @@ mod streams;
 mod texts;
 mod threads;
 mod views;
+mod waits;
 mod wakes;

@@ -5,7 +5,7 @@
 use crate::tests::exchange::{Calls, MESSAGES};
 use crate::tests::given::{board, equal};
 use kanal_core::error::{ReceiveErrorTimeout, SendErrorTimeout};
-use kanal_one_history::{Channel, Clock, Naming, Pass, SystemClock};
+use kanal_one_history::{Channel, Naming, Pass, SystemClock, TestClock};
 use std::marker::Brand;
 use std::sync::Wait;
 use std::time;
@@ -13,16 +13,6 @@ use std::time::Duration;
 
 /// How often a message is tried with a deadline that has come.
 const TRIES: u64 = 2;
-
-/// A clock that stands still, by which a deadline without a duration has come.
-#[derive(Drop)]
-struct Still;
-
-impl Clock for Still {
-    fn now(&self) -> u64 {
-        0
-    }
-}
 
 /// Sends a message, and says whether it entered.
 pub(super) fn send<J: Naming, R: Wait + time::Clock>(
@@ -33,7 +23,7 @@ pub(super) fn send<J: Naming, R: Wait + time::Clock>(
 ) -> bool {
     let none = Duration::from_nanos(0);
     for _ in 0..TRIES {
-        let sent = channel.send_timeout(rt, pass, number, none, &Still);
+        let sent = channel.send_timeout(rt, pass, number, none, &TestClock::still(0));
         if sent != Err(SendErrorTimeout::Timeout) {
             return sent.is_ok();
         }
@@ -52,7 +42,7 @@ pub(super) fn recv<J: Naming, R: Wait + time::Clock>(
 ) -> bool {
     let none = Duration::from_nanos(0);
     for _ in 0..TRIES {
-        let got = channel.recv_timeout(rt, pass, none, &Still);
+        let got = channel.recv_timeout(rt, pass, none, &TestClock::still(0));
         if got != Err(ReceiveErrorTimeout::Timeout) {
             return got == Ok(number);
         }

@@ -4,40 +4,13 @@ ghost use Rattle.kanal_board.specs.Boards.{table_of};
 
 use crate::tests::given::{board, equal};
 use kanal_core::error::{NewError, ReceiveErrorTimeout, SendErrorTimeout};
-use kanal_one_history::{Call, Channel, Clock, Naming, Opened, Pass};
+use kanal_one_history::{Call, Channel, Naming, Opened, Pass, TestClock};
 use std::alloc::Global;
-use std::cell::Cell;
 use std::marker::Brand;
 use std::process::Abort;
 use std::sync::Wait;
 use std::time;
 use std::time::Duration;
-
-/// A clock that stands at one moment.
-#[derive(Drop)]
-struct Still {
-    moment: u64,
-}
-
-impl Clock for Still {
-    fn now(&self) -> u64 {
-        self.moment
-    }
-}
-
-/// A clock that rises by one each call, from 0.
-#[derive(Drop)]
-struct Rising {
-    next: Cell<u64>,
-}
-
-impl Clock for Rising {
-    fn now(&self) -> u64 {
-        let now = self.next.get();
-        self.next.set(now.wrapping_add(1));
-        now
-    }
-}
 
 /// A full channel: the send waits until its deadline, and its message is gone then.
 fn full<J: Naming, R: Wait + time::Clock + Abort>(
@@ -46,7 +19,7 @@ fn full<J: Naming, R: Wait + time::Clock + Abort>(
     pass: &mut Pass<u64, J>,
 ) {
     let none = Duration::from_nanos(0);
-    let still = Still { moment: 5 };
+    let still = TestClock::still(5);
     equal(rt, channel.send_timeout(rt, pass, 1, none, &still), Ok(()));
     equal(
         rt,
@@ -69,11 +42,11 @@ fn left<J: Naming, R: Wait + time::Clock + Abort>(
     pass: &mut Pass<u64, J>,
 ) {
     let none = Duration::from_nanos(0);
-    let rising = Rising { next: Cell::new(0) };
+    let rising = TestClock::rising();
     channel.drop_sender(rt, pass);
     equal(
         rt,
-        channel.recv_timeout(rt, pass, none, &Still { moment: 0 }),
+        channel.recv_timeout(rt, pass, none, &TestClock::still(0)),
         Err(ReceiveErrorTimeout::SendClosed),
     );
     equal(
@@ -94,7 +67,7 @@ fn too_late<J: Naming, R: Wait + time::Clock + Abort>(
     channel: &Channel<u64, J>,
     pass: &mut Pass<u64, J>,
 ) {
-    let last = Still { moment: u64::MAX };
+    let last = TestClock::still(u64::MAX);
     let one = Duration::from_nanos(1);
     equal(rt, channel.close(rt, pass), Ok(()));
     equal(

@@ -1,12 +1,12 @@
 //! Calls whose wait has begun, which the lock shows, and what ends such a wait in an error.
-use crate::tests::counted::{Counted, counter, counts_in};
+use crate::tests::counted::{counter, counts_in};
 use crate::tests::given::{common, equal, holds};
 use kanal_core::error::{ReceiveError, SendError};
+use kanal_given::Counted;
 use kanal_shared::Shared;
 use kanal_steps::owed::Owed;
 use std::alloc::AllocGlobal;
 use std::process::Abort;
-use std::sync::atomic::Ordering::SeqCst;
 use std::sync::{Arc, Wait};
 use std::thread;
 use std::thread::{JoinHandle, Threads};
@@ -72,5 +72,5 @@ fn a_close_ends_a_send_that_waits(rt: HostRuntime) {
     holds(&rt, begins(&rt, &shared));
     equal(&rt, shared.close(&rt), Ok(()));
     equal(&rt, thread.join(&rt), Err(SendError::Closed));
-    equal(&rt, drops.load(SeqCst), 1);
+    equal(&rt, drops.count(), 1);
 }

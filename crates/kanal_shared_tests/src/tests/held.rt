@@ -1,16 +1,16 @@
 //! Calls and drops while the lock is held by the test.
-use crate::tests::counted::{Counted, counter, counts_in};
+use crate::tests::counted::{counter, counts_in};
 use crate::tests::given::{channel, equal, holds, new_task};
 use futures::task::Poll;
 use futures::test::MockTask;
 use kanal_core::error::{ReceiveError, SendError};
+use kanal_given::Counted;
 use kanal_shared::{ReceiveFuture, Shared};
 use kanal_steps::owed::Owed;
 use kanal_steps::steps::Offered;
 use std::alloc::AllocGlobal;
 use std::process::Abort;
 use std::sync::Wait;
-use std::sync::atomic::Ordering::SeqCst;
 
 /// Drops so many receivers and senders, and these futures, while the lock is held. Answers how many
 /// senders, receivers and waits that were left there were at its release.
@@ -72,7 +72,7 @@ fn a_send_that_waits_is_dropped_while_the_lock_is_held(rt: HostRuntime) {
     equal(&rt, task.poll(&mut sending), Poll::Pending);
     equal(&rt, drop_held(&rt, &shared, (0, 0), sending), (1, 1, 1));
     equal(&rt, shared.left_waits(), 0);
-    equal(&rt, drops.load(SeqCst), 1);
+    equal(&rt, drops.count(), 1);
     holds(&rt, matches!(shared.try_recv(&rt), Ok(None)));
 }
 
@@ -90,7 +90,7 @@ fn senders_and_a_send_that_waits_are_dropped_while_the_lock_is_held(rt: HostRunt
     equal(&rt, drop_held(&rt, &shared, (0, 3), sending), (4, 1, 1));
     equal(&rt, shared.sender_count(&rt), 1);
     holds(&rt, matches!(shared.try_recv(&rt), Ok(None)));
-    equal(&rt, drops.load(SeqCst), 1);
+    equal(&rt, drops.count(), 1);
 }
 
 /// Waits that were left go first, then the senders, whose last one ends a receive that still waits, and

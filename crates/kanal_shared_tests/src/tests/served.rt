@@ -151,3 +151,23 @@ fn a_poll_whose_entry_is_gone_asks_for_another(rt: HostRuntime) {
     holds(&rt, is_woken);
     equal(&rt, second.poll(&mut sending), Poll::Ready(Ok(())));
 }
+
+/// The step under the lock owes one receive its message, and a notice ends the other: the way out tells
+/// both, and nobody makes a further call.
+#[test]
+fn a_way_out_that_owes_applies_a_notice(rt: HostRuntime) {
+    let shared = channel::<u64>(&rt, 0);
+    let (first, second) = (new_task(&rt), new_task(&rt));
+    let (mut given, mut ended) = (shared.recv(), shared.recv());
+    equal(&rt, first.poll(&mut given), Poll::Pending);
+    equal(&rt, second.poll(&mut ended), Poll::Pending);
+    let mut locked = shared.hold(&rt);
+    let (offered, owed) = steps::try_send(locked.core(), 7);
+    shared.drop_sender();
+    locked.give_back(owed);
+    holds(&rt, matches!(offered, Offered::Entered));
+    holds(&rt, first.is_woken() && second.is_woken());
+    equal(&rt, first.poll(&mut given), Poll::Ready(Ok(7)));
+    let ended = second.poll(&mut ended);
+    equal(&rt, ended, Poll::Ready(Err(ReceiveError::SendClosed)));
+}

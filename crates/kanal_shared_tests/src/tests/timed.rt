@@ -2,24 +2,10 @@
 use crate::tests::given::{channel, equal, holds, new_task};
 use futures::task::Poll;
 use kanal_core::error::{ReceiveErrorTimeout, SendErrorTimeout};
-use kanal_shared::{Clock, Shared};
+use kanal_shared::{Clock, Shared, TestClock};
 use kanal_steps::steps::Offered;
 use std::cell::Cell;
 use std::time::Duration;
-
-/// A clock that rises by one each call, from 0.
-#[derive(Drop)]
-struct Rising {
-    next: Cell<u64>,
-}
-
-impl Clock for Rising {
-    fn now(&self) -> u64 {
-        let now = self.next.get();
-        self.next.set(now.wrapping_add(1));
-        now
-    }
-}
 
 /// A clock that stands at 0, and sends 7 at its third read.
 #[derive(Drop)]
@@ -35,16 +21,6 @@ impl Clock for Sending<'_> {
         if reads == 3 {
             drop(self.shared.offer_realtime(7));
         }
-        0
-    }
-}
-
-/// A clock that stands still.
-#[derive(Drop)]
-struct Still;
-
-impl Clock for Still {
-    fn now(&self) -> u64 {
         0
     }
 }
@@ -73,8 +49,7 @@ fn a_late_receive_serves_a_send(rt: HostRuntime) {
     let task = new_task(&rt);
     let mut sending = shared.send(7);
     equal(&rt, task.poll(&mut sending), Poll::Pending);
-    let clock = Rising { next: Cell::new(0) };
-    let got = shared.recv_before(&rt, Duration::from_nanos(0), &clock);
+    let got = shared.recv_before(&rt, Duration::from_nanos(0), &TestClock::rising());
     equal(&rt, got, Ok(7));
     holds(&rt, task.is_woken());
     equal(&rt, task.poll(&mut sending), Poll::Ready(Ok(())));
@@ -94,7 +69,7 @@ fn a_timed_receive_is_given_a_message_during_its_wait(rt: HostRuntime) {
 #[test]
 fn a_timed_out_receive_waits_no_more(rt: HostRuntime) {
     let shared = channel::<u64>(&rt, 0);
-    let got = shared.recv_before(&rt, Duration::from_nanos(0), &Still);
+    let got = shared.recv_before(&rt, Duration::from_nanos(0), &TestClock::still(0));
     equal(&rt, got, Err(ReceiveErrorTimeout::Timeout));
     holds(&rt, matches!(shared.offer(&rt, 7), Offered::Full(7)));
 }

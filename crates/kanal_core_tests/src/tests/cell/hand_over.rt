@@ -3,28 +3,17 @@ ghost use Rattle.std.specs.Prelude.{◌≡◌};
 ghost use Rattle.kanal_cell.specs.CellRule.{HasNotLeft, HasNotSettled, MaySleep};
 ghost use Rattle.kanal_cell.specs.CellEnds.{wait_view, settle_view};
 
-use crate::tests::given::{cell, counter, equal, holds, new_parker, shared, unparker_of};
+use crate::tests::given::{cell, equal, holds, new_parker, no_drops, unparker_of};
 use crossbeam_utils::sync::{Parker, Unparker};
 use kanal_cell::signal::{SettleEnd, WaitEnd};
-use std::alloc::{AllocGlobal, Global};
+use kanal_given::{Counted, Drops};
+use std::alloc::AllocGlobal;
 use std::process::Abort;
-use std::sync::atomic::{AtomicU64, Ordering};
-use std::sync::{Arc, Wait};
+use std::sync::Wait;
 use std::thread;
 use std::thread::Threads;
 
 const MESSAGES: u64 = 10_000;
-
-struct Counted {
-    drops: Arc<AtomicU64, Global>,
-}
-
-impl Drop for Counted {
-    fn drop(self) {
-        let Counted { drops } = self;
-        drops.fetch_add(1, Ordering::SeqCst);
-    }
-}
 
 /// How a waiter waits.
 #[derive(Drop, Clone, Copy)]
@@ -164,17 +153,12 @@ fn way_of(number: u64) -> Way {
 }
 
 /// An item that counts its drop.
-fn item(rt: &impl Abort, drops: &Arc<AtomicU64, Global>) -> Counted {
-    let drops = shared(rt, drops);
-    Counted { drops }
+fn item(rt: &impl Abort, drops: &Drops) -> Counted {
+    drops.message().expect(rt, "a message")
 }
 
 /// A fresh cell, with an item that counts its drop.
-fn ends_of(
-    rt: &(impl Abort + AllocGlobal),
-    drops: &Arc<AtomicU64, Global>,
-    way: Way,
-) -> (Fresh, Settling) {
+fn ends_of(rt: &(impl Abort + AllocGlobal), drops: &Drops, way: Way) -> (Fresh, Settling) {
     let (wait, settle) = cell(rt);
     let item = item(rt, drops);
     (Fresh { end: wait, way }, Settling { end: settle, item })
@@ -186,10 +170,7 @@ fn push<T: Drop>(rt: &impl Abort, items: &mut Vec<T>, item: T) {
 }
 
 /// Fresh cells, each with an item that counts its drop.
-fn cells(
-    rt: &(impl Abort + AllocGlobal),
-    drops: &Arc<AtomicU64, Global>,
-) -> (Vec<Fresh>, Vec<Settling>) {
+fn cells(rt: &(impl Abort + AllocGlobal), drops: &Drops) -> (Vec<Fresh>, Vec<Settling>) {
     let mut waits = Vec::new(rt.alloc());
     let mut settles = Vec::new(rt.alloc());
     for number in 0..MESSAGES {
@@ -201,10 +182,7 @@ fn cells(
 }
 
 /// How many outcomes went to one of the sides.
-fn round<R: Threads + Wait + Abort + AllocGlobal + Sync>(
-    rt: &R,
-    drops: &Arc<AtomicU64, Global>,
-) -> u64 {
+fn round<R: Threads + Wait + Abort + AllocGlobal + Sync>(rt: &R, drops: &Drops) -> u64 {
     let (waits, settles) = cells(rt, drops);
     let (back, got) = race(rt, new_parker(rt), waits, settles);
     back.wrapping_add(got)
@@ -212,22 +190,21 @@ fn round<R: Threads + Wait + Abort + AllocGlobal + Sync>(
 
 #[test]
 fn each_outcome_is_dropped_once(rt: HostRuntime) {
-    let drops = counter(&rt);
     for _ in 0..4u32 {
-        drops.store(0, Ordering::SeqCst);
+        let drops = no_drops(&rt);
         // One of five is never looked for. Of the others each went to one side.
         equal(&rt, round(&rt, &drops), MESSAGES / 5 * 4);
-        equal(&rt, drops.load(Ordering::SeqCst), MESSAGES);
+        equal(&rt, drops.count(), MESSAGES);
     }
 }
 
 #[test]
 fn an_outcome_that_nobody_reads_is_dropped_once(rt: HostRuntime) {
-    let drops = counter(&rt);
+    let drops = no_drops(&rt);
     let (wait, mut settle) = cell(&rt);
     holds(&rt, settle.settle(item(&rt, &drops)).is_none());
     drop(settle);
-    equal(&rt, drops.load(Ordering::SeqCst), 0);
+    equal(&rt, drops.count(), 0);
     drop(wait);
-    equal(&rt, drops.load(Ordering::SeqCst), 1);
+    equal(&rt, drops.count(), 1);
 }

@@ -1,5 +1,5 @@
 //! Sends and receives of one thread, each call with its answer.
-use crate::tests::given::{endless, ends, equal};
+use crate::tests::given::{endless, ends, equal, holds};
 use kanal::error::{NewError, ReceiveError, SendError};
 use kanal::{Receiver, Sender, bounded};
 use std::alloc::AllocGlobal;
@@ -71,6 +71,17 @@ fn each_form_hands_its_message_on(rt: HostRuntime) {
 }
 
 #[test]
+fn a_channel_without_limit_is_terminated_once_it_is_empty(rt: HostRuntime) {
+    let (sender, receiver) = endless::<u64>(&rt);
+    equal(&rt, sender.send(&rt, 1), Ok(()));
+    holds(&rt, !receiver.is_terminated(&rt));
+    drop(sender);
+    holds(&rt, !receiver.is_terminated(&rt));
+    equal(&rt, receiver.recv(&rt), Ok(1));
+    holds(&rt, receiver.is_terminated(&rt));
+}
+
+#[test]
 fn nothing_comes_after_the_last_sender(rt: HostRuntime) {
     let (sender, receiver) = ends::<u64>(&rt, 1);
     drop(sender);
@@ -97,34 +108,6 @@ fn there_is_no_memory_for_the_capacity_below_it(rt: HostRuntime) {
     );
 }
 
-/// Sends the numbers below a thousand.
-fn send_a_thousand<R: Abort + Wait>(rt: &R, sender: &Sender<u64>) {
-    for number in 0..1000 {
-        equal(rt, sender.try_send(rt, number), Ok(true));
-    }
-}
-
-/// How many numbers there are, if they are 0, 1, and so on.
-fn counted(numbers: &[u64]) -> Option<u64> {
-    let mut next = 0u64;
-    for number in numbers {
-        if *number != next {
-            return None;
-        }
-        next = next.wrapping_add(1);
-    }
-    Some(next)
-}
-
-#[test]
-fn a_drain_takes_a_thousand_numbers(rt: HostRuntime) {
-    let (sender, receiver) = ends::<u64>(&rt, 1000);
-    send_a_thousand(&rt, &sender);
-    let mut messages = Vec::new(rt.alloc());
-    equal(&rt, receiver.drain_into(&rt, &mut messages), Ok(1000));
-    equal(&rt, counted(&messages), Some(1000));
-}
-
 #[test]
 fn a_drain_adds_to_the_vectors_end(rt: HostRuntime) {
     let (sender, receiver) = ends::<u64>(&rt, 2);
@@ -134,6 +117,29 @@ fn a_drain_adds_to_the_vectors_end(rt: HostRuntime) {
     equal(&rt, sender.try_send(&rt, 2), Ok(true));
     equal(&rt, receiver.drain_into(&rt, &mut messages), Ok(1));
     equal(&rt, messages.as_slice(), [1, 2].as_slice());
+}
+
+/// How the making of a channel for messages of size 0 with so many places ends.
+fn refusal_of_nothing(rt: &impl AllocGlobal, capacity: usize) -> Option<NewError> {
+    bounded::<()>(rt.alloc(), capacity).err()
+}
+
+/// The largest number of places that a ring of messages of size 0 has.
+const LARGEST_RING: usize = isize::MAX as usize;
+
+#[test]
+fn messages_of_size_0_have_as_many_places_as_a_ring(rt: HostRuntime) {
+    equal(&rt, refusal_of_nothing(&rt, LARGEST_RING), None);
+    equal(
+        &rt,
+        refusal_of_nothing(&rt, LARGEST_RING + 1),
+        Some(NewError::NoMemory),
+    );
+    equal(
+        &rt,
+        refusal_of_nothing(&rt, usize::MAX),
+        Some(NewError::TooLarge),
+    );
 }
 
 /// Sends the numbers below four.

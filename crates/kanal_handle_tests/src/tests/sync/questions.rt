@@ -2,6 +2,10 @@
 use crate::tests::asked::{NONE_WITHOUT_LIMIT, ONE_IN_TWO_PLACES, answers};
 use crate::tests::given::{endless, ends, equal, holds};
 use kanal::error::{CloseError, ReceiveError, SendError};
+use kanal::{Receiver, Sender};
+use std::alloc::AllocGlobal;
+use std::process::Abort;
+use std::sync::Wait;
 
 #[test]
 fn a_sender_asks(rt: HostRuntime) {
@@ -16,17 +20,41 @@ fn a_receiver_asks(rt: HostRuntime) {
     equal(&rt, answers!(&rt, receiver), NONE_WITHOUT_LIMIT);
 }
 
+/// Clones of both ends until there are four of each, which are counted one by one.
+fn four_of_each<R: Abort + Wait + AllocGlobal>(
+    rt: &R,
+    sender: &Sender<u64>,
+    receiver: &Receiver<u64>,
+) -> Vec<(Sender<u64>, Receiver<u64>)> {
+    let mut clones = Vec::new(rt.alloc());
+    for made in 2..5 {
+        let (sender, receiver) = (sender.clone(rt), receiver.clone(rt));
+        let pair = (sender.expect(rt, "a clone"), receiver.expect(rt, "a clone"));
+        equal(
+            rt,
+            (pair.1.sender_count(rt), pair.0.receiver_count(rt)),
+            (made, made),
+        );
+        clones.push(pair).expect(rt, "memory for a pair");
+    }
+    clones
+}
+
 #[test]
-fn clones_are_counted(rt: HostRuntime) {
+fn four_clones_are_counted(rt: HostRuntime) {
     let (sender, receiver) = ends::<u64>(&rt, 1);
-    let other = sender.clone(&rt).expect(&rt, "a clone");
-    let another = receiver.clone(&rt).expect(&rt, "a clone");
-    equal(&rt, receiver.sender_count(&rt), 2);
-    equal(&rt, sender.receiver_count(&rt), 2);
-    drop(other);
-    drop(another);
-    equal(&rt, receiver.sender_count(&rt), 1);
-    equal(&rt, sender.receiver_count(&rt), 1);
+    let clones = four_of_each(&rt, &sender, &receiver);
+    equal(
+        &rt,
+        (receiver.sender_count(&rt), sender.receiver_count(&rt)),
+        (4, 4),
+    );
+    drop(clones);
+    equal(
+        &rt,
+        (receiver.sender_count(&rt), sender.receiver_count(&rt)),
+        (1, 1),
+    );
 }
 
 #[test]

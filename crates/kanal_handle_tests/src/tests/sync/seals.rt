@@ -35,6 +35,17 @@ fn a_second_seal_is_refused(rt: HostRuntime) {
 }
 
 #[test]
+fn a_seal_with_three_senders(rt: HostRuntime) {
+    let (sender, receiver) = holding(&rt);
+    let second = sender.clone(&rt).expect(&rt, "a clone");
+    let third = sender.clone(&rt).expect(&rt, "a clone");
+    equal(&rt, second.seal(&rt), Ok(()));
+    equal(&rt, third.try_send(&rt, 4), Err(SendError::Sealed));
+    equal(&rt, receiver.sender_count(&rt), 0);
+    ends_sealed(&rt, &sender, &receiver);
+}
+
+#[test]
 fn a_receiver_seals(rt: HostRuntime) {
     let (sender, receiver) = holding(&rt);
     equal(&rt, receiver.seal(&rt), Ok(()));

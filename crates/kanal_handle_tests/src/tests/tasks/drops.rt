@@ -1,11 +1,11 @@
 //! A message that counts its drop, read while the handles live.
 use super::given::ends_and_task;
-use crate::tests::counted::{Counted, counter, message};
+use crate::tests::counted::{counter, message};
 use crate::tests::given::{equal, holds};
 use futures::task::Poll;
 use futures::test::MockTask;
 use kanal::ReceiveFuture;
-use std::sync::atomic::Ordering::SeqCst;
+use kanal_given::Counted;
 
 /// Polls a receive once; whether it waits.
 fn is_waiting(task: &MockTask, receiving: &mut ReceiveFuture<'_, Counted>) -> bool {
@@ -20,7 +20,7 @@ fn a_receive_that_was_served(rt: HostRuntime) {
     let mut receiving = receiver.recv();
     holds(&rt, is_waiting(&task, &mut receiving));
     equal(&rt, sender.try_send(&rt, message(&rt, &drops)), Ok(true));
-    equal(&rt, drops.load(SeqCst), 0);
+    equal(&rt, drops.count(), 0);
     drop(receiving);
-    equal(&rt, drops.load(SeqCst), 1);
+    equal(&rt, drops.count(), 1);
 }

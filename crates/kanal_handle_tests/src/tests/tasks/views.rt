@@ -89,6 +89,18 @@ fn a_drain(rt: HostRuntime) {
     equal(&rt, messages.as_slice(), [1].as_slice());
 }
 
+#[test]
+fn a_view_drains_behind_what_was_there(rt: HostRuntime) {
+    let (sender, receiver) = ends::<u64>(&rt, 2);
+    let mut messages = Vec::new(rt.alloc());
+    messages.push(1).expect(&rt, "memory for a message");
+    equal(&rt, sender.try_send(&rt, 2), Ok(true));
+    let drained = receiver.as_sync().drain_into(&rt, &mut messages);
+    equal(&rt, drained, Ok(1));
+    equal(&rt, messages.as_slice(), [1, 2].as_slice());
+    equal(&rt, receiver.len(&rt), 0);
+}
+
 /// The sum of the next messages, at most so many of them.
 fn sum_of<R: Wait>(rt: &R, receiver: &AsyncReceiver<u64>, most: usize) -> u64 {
     let mut sum = 0u64;
@@ -149,4 +161,12 @@ fn a_close_comes_once(rt: HostRuntime) {
     let (sender, receiver) = ends::<u64>(&rt, 1);
     equal(&rt, sender.as_sync().close(&rt), Ok(()));
     equal(&rt, receiver.as_sync().close(&rt), Err(CloseError()));
+}
+
+#[test]
+fn a_receivers_view_closes(rt: HostRuntime) {
+    let (sender, receiver) = ends::<u64>(&rt, 1);
+    equal(&rt, receiver.as_sync().close(&rt), Ok(()));
+    holds(&rt, receiver.is_closed(&rt) && sender.is_closed(&rt));
+    equal(&rt, sender.as_sync().close(&rt), Err(CloseError()));
 }

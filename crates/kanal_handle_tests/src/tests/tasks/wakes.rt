@@ -32,6 +32,19 @@ fn the_waker_of_the_last_poll_is_woken(rt: HostRuntime) {
 }
 
 #[test]
+fn the_waker_of_the_third_poll_is_woken(rt: HostRuntime) {
+    let (sender, receiver, first) = ends_and_task::<u64>(&rt, 0);
+    let (second, third) = (new_task(&rt), new_task(&rt));
+    let mut receiving = waiting_receive(&rt, &first, &receiver);
+    equal(&rt, second.poll(&mut receiving), Poll::Pending);
+    equal(&rt, third.poll(&mut receiving), Poll::Pending);
+    equal(&rt, sender.try_send(&rt, 3), Ok(true));
+    holds(&rt, was_woken_once(&third));
+    holds(&rt, !first.is_woken() && !second.is_woken());
+    end_receive(&rt, &third, &mut receiving, Ok(3));
+}
+
+#[test]
 fn a_send_wakes_by_its_last_waker(rt: HostRuntime) {
     let (sender, receiver, first) = ends_and_task::<u64>(&rt, 0);
     let second = new_task(&rt);

@@ -1,15 +1,14 @@
 //! Messages that count their drops, sent by a thread that may wait: taken, or refused by a close or
 //! by the last receiver's drop. The answer is the same where the end comes before the wait.
 use super::starts::{Sent, TURNS, pass_turns};
-use crate::tests::counted::{Counted, counted_ends, message, shared};
+use crate::tests::counted::{counted_ends, message, shared};
 use crate::tests::given::{equal, holds};
 use kanal::error::SendError;
 use kanal::{Receiver, Sender};
-use std::alloc::{AllocGlobal, Global};
+use kanal_given::{Counted, Drops};
+use std::alloc::AllocGlobal;
 use std::process::Abort;
-use std::sync::atomic::AtomicU64;
-use std::sync::atomic::Ordering::SeqCst;
-use std::sync::{Arc, Wait};
+use std::sync::Wait;
 use std::thread;
 use std::thread::{JoinHandle, Threads};
 
@@ -18,7 +17,7 @@ use std::thread::{JoinHandle, Threads};
 fn start_send<R: Threads + Wait + Abort + AllocGlobal + Copy + Send + 'static>(
     rt: R,
     turns: u32,
-) -> (JoinHandle<Sent>, Receiver<Counted>, Arc<AtomicU64, Global>) {
+) -> (JoinHandle<Sent>, Receiver<Counted>, Drops) {
     let (sender, receiver, drops) = counted_ends(&rt, 0);
     let message = message(&rt, &drops);
     let thread = thread::spawn(&rt, move || sender.send(&rt, message)).expect(&rt, "a thread");
@@ -31,11 +30,11 @@ fn ended<R: Threads + Abort>(
     rt: &R,
     thread: JoinHandle<Sent>,
     answer: Sent,
-    drops: &AtomicU64,
+    drops: &Drops,
     dropped: u64,
 ) {
     equal(rt, thread.join(rt), answer);
-    equal(rt, drops.load(SeqCst), dropped);
+    equal(rt, drops.count(), dropped);
 }
 
 #[test]
@@ -46,16 +45,7 @@ fn a_taken_message_is_dropped_by_its_receiver(rt: HostRuntime) {
         holds(&rt, got.is_ok());
         ended(&rt, thread, Ok(()), &drops, 0);
         drop(got);
-        equal(&rt, drops.load(SeqCst), 1);
-    }
-}
-
-#[test]
-fn a_close_ends_a_send_and_its_message_is_dropped(rt: HostRuntime) {
-    for turns in TURNS {
-        let (thread, receiver, drops) = start_send(rt, turns);
-        equal(&rt, receiver.close(&rt), Ok(()));
-        ended(&rt, thread, Err(SendError::Closed), &drops, 1);
+        equal(&rt, drops.count(), 1);
     }
 }
 
@@ -72,13 +62,13 @@ fn the_last_receiver_ends_a_send_and_its_message_is_dropped(rt: HostRuntime) {
 const MANY: u64 = 500;
 
 /// Sends so many messages, whatever becomes of them. How many were sent.
-fn send_many<R: Wait>(rt: &R, sender: &Sender<Counted>, drops: &Arc<AtomicU64, Global>) -> u64 {
+fn send_many<R: Wait>(rt: &R, sender: &Sender<Counted>, drops: &Drops) -> u64 {
     let mut sent = 0u64;
     for _ in 0..MANY {
-        let Ok(drops) = Arc::try_clone(drops) else {
+        let Ok(message) = drops.message() else {
             return sent;
         };
-        if sender.send(rt, Counted::new(drops)).is_ok() {
+        if sender.send(rt, message).is_ok() {
             sent = sent.wrapping_add(1);
         }
     }
@@ -90,7 +80,7 @@ fn send_many<R: Wait>(rt: &R, sender: &Sender<Counted>, drops: &Arc<AtomicU64, G
 fn start_many<R: Threads + Wait + Abort + AllocGlobal + Copy + Send + 'static>(
     rt: R,
     capacity: usize,
-) -> (JoinHandle<u64>, Receiver<Counted>, Arc<AtomicU64, Global>) {
+) -> (JoinHandle<u64>, Receiver<Counted>, Drops) {
     let (sender, receiver, drops) = counted_ends(&rt, capacity);
     let theirs = shared(&rt, &drops);
     let thread = thread::spawn(&rt, move || send_many(&rt, &sender, &theirs));
@@ -109,16 +99,6 @@ fn receive_many<R: Wait>(rt: &R, receiver: &Receiver<Counted>, limit: u64) -> u6
     received
 }
 
-#[test]
-fn each_message_through_a_buffer_is_dropped_once(rt: HostRuntime) {
-    for capacity in [1, 4] {
-        let (thread, receiver, drops) = start_many(rt, capacity);
-        equal(&rt, receive_many(&rt, &receiver, MANY + 1), MANY);
-        equal(&rt, thread.join(&rt), MANY);
-        equal(&rt, drops.load(SeqCst), MANY);
-    }
-}
-
 /// The receiver goes after a part of the messages: those are dropped by it, the others are refused,
 /// or dropped with the channel.
 #[test]
@@ -128,6 +108,6 @@ fn each_message_is_dropped_once_where_the_receiver_goes(rt: HostRuntime) {
         equal(&rt, receive_many(&rt, &receiver, 100), 100);
         drop(receiver);
         holds(&rt, thread.join(&rt) < MANY);
-        equal(&rt, drops.load(SeqCst), MANY);
+        equal(&rt, drops.count(), MANY);
     }
 }

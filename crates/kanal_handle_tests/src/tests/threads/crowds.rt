@@ -1,18 +1,12 @@
-//! Several threads on each side: all that was sent arrives, once.
-use super::starts::{Sent, Tally, start_numbers, start_receive_all, start_receive_in_turns};
-use crate::tests::given::{endless, ends, equal, holds};
+//! Several threads on each side, of which those that receive give up again and again: all that was sent
+//! arrives, once.
+use super::starts::{Sent, Tally, start_numbers, start_receive_in_turns};
+use crate::tests::given::{ends, equal, holds};
 use kanal::{Receiver, Sender};
 use std::alloc::AllocGlobal;
 use std::process::Abort;
 use std::sync::Wait;
 use std::thread::{JoinHandle, Threads};
-
-/// How many threads send, and how many receive.
-#[derive(Drop, Clone, Copy)]
-struct Crowd {
-    senders: u64,
-    receivers: u64,
-}
 
 /// How many numbers each sender sends: 0, 1, and so on.
 const EACH: u64 = 100;
@@ -44,20 +38,6 @@ fn start_senders<R: Threads + Wait + Abort + AllocGlobal + Copy + Send + 'static
     started
 }
 
-/// Starts threads that receive until the channel ends, each through a clone.
-fn start_receivers<R: Threads + Wait + Abort + AllocGlobal + Copy + Send + 'static>(
-    rt: R,
-    receiver: &Receiver<u64>,
-    threads: u64,
-) -> Vec<JoinHandle<Tally>> {
-    let mut started = Vec::new(rt.alloc());
-    for _ in 0..threads {
-        let thread = start_receive_all(rt, one_more_receiver(&rt, receiver));
-        started.push(thread).expect(&rt, "memory for a thread");
-    }
-    started
-}
-
 /// Joins the threads that send, and tells whether all their sends went through.
 fn join_senders<R: Threads>(rt: &R, started: Vec<JoinHandle<Sent>>) -> bool {
     let mut all = true;
@@ -78,87 +58,11 @@ fn join_receivers<R: Threads>(rt: &R, started: Vec<JoinHandle<Tally>>) -> Tally 
     tally
 }
 
-/// What the crowd's receivers got, where all its sends went through.
-fn exchange<R: Threads + Wait + Abort + AllocGlobal + Copy + Send + 'static>(
-    rt: R,
-    ends: (Sender<u64>, Receiver<u64>),
-    crowd: Crowd,
-) -> Option<Tally> {
-    let (sender, receiver) = ends;
-    let sending = start_senders(rt, &sender, crowd.senders);
-    drop(sender);
-    let receiving = start_receivers(rt, &receiver, crowd.receivers);
-    drop(receiver);
-    let all = join_senders(&rt, sending);
-    let tally = join_receivers(&rt, receiving);
-    all.then_some(tally)
-}
-
-const ONE_TO_ONE: Crowd = Crowd {
-    senders: 1,
-    receivers: 1,
-};
-
-const FOUR_TO_ONE: Crowd = Crowd {
-    senders: 4,
-    receivers: 1,
-};
-
-const FOUR_TO_FOUR: Crowd = Crowd {
-    senders: 4,
-    receivers: 4,
-};
-
-/// What arrives where one thread sends.
-const FROM_ONE: Option<Tally> = Some(Tally {
-    count: EACH,
-    sum: SUM,
-});
-
 /// What arrives where four threads send.
 const FROM_FOUR: Option<Tally> = Some(Tally {
     count: 4 * EACH,
     sum: 4 * SUM,
 });
-
-/// The crowds, each with what arrives.
-const CROWDS: [(Crowd, Option<Tally>); 3] = [
-    (ONE_TO_ONE, FROM_ONE),
-    (FOUR_TO_ONE, FROM_FOUR),
-    (FOUR_TO_FOUR, FROM_FOUR),
-];
-
-/// Each crowd exchanges its numbers through a buffer with so many places.
-fn exchange_through<R: Threads + Wait + Abort + AllocGlobal + Copy + Send + 'static>(
-    rt: R,
-    capacity: usize,
-) {
-    for (crowd, expected) in CROWDS {
-        equal(&rt, exchange(rt, ends(&rt, capacity), crowd), expected);
-    }
-}
-
-#[test]
-fn crowds_without_a_buffer(rt: HostRuntime) {
-    exchange_through(rt, 0);
-}
-
-#[test]
-fn crowds_with_a_buffer_of_one(rt: HostRuntime) {
-    exchange_through(rt, 1);
-}
-
-#[test]
-fn crowds_with_a_buffer_of_four(rt: HostRuntime) {
-    exchange_through(rt, 4);
-}
-
-#[test]
-fn crowds_without_a_limit(rt: HostRuntime) {
-    for (crowd, expected) in CROWDS {
-        equal(&rt, exchange(rt, endless(&rt), crowd), expected);
-    }
-}
 
 /// Each receiver waits for a short time again and again, so that messages and deadlines meet.
 #[test]

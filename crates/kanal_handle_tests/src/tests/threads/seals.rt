@@ -1,14 +1,13 @@
 //! A seal beside threads that wait, and beside one that sends.
 use super::starts::{TURNS, pass_turns, start_numbers, start_receive};
-use crate::tests::counted::{Counted, counted_ends, message, shared};
+use crate::tests::counted::{counted_ends, message, shared};
 use crate::tests::given::{ends, equal, holds};
 use kanal::error::{ReceiveError, SendError};
 use kanal::{Receiver, Sender};
-use std::alloc::{AllocGlobal, Global};
+use kanal_given::{Counted, Drops};
+use std::alloc::AllocGlobal;
 use std::process::Abort;
-use std::sync::atomic::AtomicU64;
-use std::sync::atomic::Ordering::SeqCst;
-use std::sync::{Arc, Wait};
+use std::sync::Wait;
 use std::thread;
 use std::thread::{JoinHandle, Threads};
 
@@ -71,7 +70,7 @@ fn receive_rest<R: Wait>(rt: &R, receiver: &Receiver<Counted>) -> u64 {
 /// it is refused. Whether just that happened.
 fn is_sent_or_refused<R: Threads + Wait + Abort + AllocGlobal + Copy + Send + 'static>(
     rt: R,
-    drops: &Arc<AtomicU64, Global>,
+    drops: &Drops,
 ) -> bool {
     let (sender, receiver, _unused) = counted_ends(&rt, 1);
     let other = sender.clone(&rt).expect(&rt, "a clone");
@@ -87,6 +86,6 @@ fn a_seal_beside_a_send(rt: HostRuntime) {
     let mine = shared(&rt, &drops);
     for round in 0..ROUNDS {
         holds(&rt, is_sent_or_refused(rt, &mine));
-        equal(&rt, drops.load(SeqCst), round.wrapping_add(1));
+        equal(&rt, drops.count(), round.wrapping_add(1));
     }
 }

@@ -40,19 +40,6 @@ pub fn send_numbers<R: Wait>(rt: &R, sender: &Sender<u64>, first: u64, end: u64)
     Ok(())
 }
 
-/// Receives until the channel ends.
-fn receive_all<R: Wait>(rt: &R, receiver: &Receiver<u64>) -> Tally {
-    let mut tally = Tally { count: 0, sum: 0 };
-    for _ in rt.forever() {
-        let Ok(number) = receiver.recv(rt) else {
-            break;
-        };
-        tally.count = tally.count.wrapping_add(1);
-        tally.sum = tally.sum.wrapping_add(number);
-    }
-    tally
-}
-
 /// Receives one number.
 pub fn start_receive<R: Threads + Wait + Abort + Copy + Send + 'static>(
     rt: R,
@@ -69,14 +56,6 @@ pub fn start_numbers<R: Threads + Wait + Abort + Copy + Send + 'static>(
     end: u64,
 ) -> JoinHandle<Sent> {
     thread::spawn(&rt, move || send_numbers(&rt, &sender, first, end)).expect(&rt, "a thread")
-}
-
-/// Receives until the channel ends.
-pub fn start_receive_all<R: Threads + Wait + Abort + Copy + Send + 'static>(
-    rt: R,
-    receiver: Receiver<u64>,
-) -> JoinHandle<Tally> {
-    thread::spawn(&rt, move || receive_all(&rt, &receiver)).expect(&rt, "a thread")
 }
 
 /// How often a receiver waits for its turn before it gives up.

@@ -1,38 +1,8 @@
-//! Clocks for the rows, and the system's.
+//! Clocks for the rows beside the test clock of the crate, and the system's.
 use crate::tests::given::holds;
 use kanal::{Clock, ReceiveError, Receiver, SystemClock};
 use std::cell::{Cell, RefCell};
 use std::time::Instant;
-
-/// A clock that stands still.
-#[derive(Drop)]
-pub(crate) struct Still(pub(crate) u64);
-
-impl Clock for Still {
-    fn now(&self) -> u64 {
-        self.0
-    }
-}
-
-/// A clock that rises by one each call, from 0.
-#[derive(Drop)]
-pub(crate) struct Rising {
-    next: Cell<u64>,
-}
-
-impl Rising {
-    pub(crate) fn new() -> Self {
-        Rising { next: Cell::new(0) }
-    }
-}
-
-impl Clock for Rising {
-    fn now(&self) -> u64 {
-        let now = self.next.get();
-        self.next.set(now.wrapping_add(1));
-        now
-    }
-}
 
 /// A clock that tells the last moment but one, and then the last moment for good.
 #[derive(Drop)]

@@ -1,14 +1,12 @@
 //! A deadline that meets a receiver: each message is received once or given up once.
-use crate::tests::counted::{Counted, counter, shared};
+use crate::tests::counted::{counter, shared};
 use crate::tests::given::{ends, equal, holds};
 use kanal::error::SendErrorTimeout;
 use kanal::{Clock, Receiver, Sender};
-use std::alloc::Global;
+use kanal_given::{Counted, Drops};
 use std::cell::Cell;
 use std::process::Abort;
-use std::sync::atomic::AtomicU64;
-use std::sync::atomic::Ordering::SeqCst;
-use std::sync::{Arc, Wait};
+use std::sync::Wait;
 use std::thread::{JoinHandle, Threads};
 use std::time::Duration;
 use std::{thread, time};
@@ -44,20 +42,16 @@ fn reads_of(round: u64) -> u64 {
 }
 
 /// Sends the messages, each by a deadline; answers how many were given up.
-fn send_all<R: Wait + time::Clock>(
-    rt: &R,
-    sender: &Sender<Counted>,
-    drops: &Arc<AtomicU64, Global>,
-) -> u64 {
+fn send_all<R: Wait + time::Clock>(rt: &R, sender: &Sender<Counted>, drops: &Drops) -> u64 {
     let mut given_up = 0u64;
     for round in 0..ROUNDS {
-        let Ok(drops) = Arc::try_clone(drops) else {
+        let Ok(message) = drops.message() else {
             return given_up;
         };
         let clock = Crossing {
             reads: Cell::new(reads_of(round)),
         };
-        let sent = sender.send_timeout(rt, Counted::new(drops), Duration::from_nanos(1), &clock);
+        let sent = sender.send_timeout(rt, message, Duration::from_nanos(1), &clock);
         if sent == Err(SendErrorTimeout::Timeout) {
             given_up = given_up.wrapping_add(1);
         }
@@ -68,15 +62,15 @@ fn send_all<R: Wait + time::Clock>(
 fn start<R: Threads + Wait + Abort + time::Clock + Copy + Send + 'static>(
     rt: R,
     sender: Sender<Counted>,
-    drops: Arc<AtomicU64, Global>,
+    drops: Drops,
 ) -> JoinHandle<u64> {
     thread::spawn(&rt, move || send_all(&rt, &sender, &drops)).expect(&rt, "a thread")
 }
 
 /// Looks until the first message is given up.
-fn await_one_drop(drops: &AtomicU64) {
+fn await_one_drop(drops: &Drops) {
     for _ in 0..TURNS {
-        if drops.load(SeqCst) == 1 {
+        if drops.count() == 1 {
             break;
         }
     }
@@ -106,5 +100,5 @@ fn a_deadline_meets_a_receiver(rt: HostRuntime) {
     holds(&rt, received > 0);
     holds(&rt, given_up > 0);
     equal(&rt, received.wrapping_add(given_up), ROUNDS);
-    equal(&rt, drops.load(SeqCst), ROUNDS);
+    equal(&rt, drops.count(), ROUNDS);
 }

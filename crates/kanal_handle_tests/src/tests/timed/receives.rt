@@ -1,9 +1,9 @@
 //! Timed receives.
-use super::clocks::{Hour, Last, Looking, Rising, Still};
+use super::clocks::{Hour, Last, Looking};
 use crate::tests::given::{ends, equal, holds};
 use kanal::error::ReceiveErrorTimeout;
 use kanal::error::ReceiveErrorTimeout::{Closed, DeadlineOutOfRange, SendClosed, Timeout};
-use kanal::{Clock, Receiver};
+use kanal::{Clock, Receiver, TestClock};
 use std::alloc::AllocGlobal;
 use std::process::Abort;
 use std::sync::Wait;
@@ -46,38 +46,44 @@ fn a_missing_sender_is_told_at_the_deadline(rt: HostRuntime) {
 #[test]
 fn a_late_receive_takes_what_is_there(rt: HostRuntime) {
     let receiver = alone(&rt, Some(4));
-    let got = receiver.recv_timeout(&rt, Duration::from_nanos(0), &Rising::new());
+    let got = receiver.recv_timeout(&rt, Duration::from_nanos(0), &TestClock::rising());
     equal(&rt, got, Ok(4));
 }
 
 #[test]
 fn a_still_clock_is_not_late(rt: HostRuntime) {
-    refuses(&rt, &alone(&rt, None), 0, &Still(0), SendClosed);
+    refuses(&rt, &alone(&rt, None), 0, &TestClock::still(0), SendClosed);
 }
 
 #[test]
 fn a_late_receive_does_not_look_at_the_senders(rt: HostRuntime) {
-    refuses(&rt, &alone(&rt, None), 0, &Rising::new(), Timeout);
+    refuses(&rt, &alone(&rt, None), 0, &TestClock::rising(), Timeout);
 }
 
 #[test]
 fn a_receive_with_a_sender_times_out(rt: HostRuntime) {
     let (_sender, receiver) = ends::<u64>(&rt, 1);
-    refuses(&rt, &receiver, 0, &Still(0), Timeout);
+    refuses(&rt, &receiver, 0, &TestClock::still(0), Timeout);
 }
 
 #[test]
 fn a_deadline_out_of_range_comes_before_the_channel(rt: HostRuntime) {
     let (_sender, receiver) = ends::<u64>(&rt, 1);
     equal(&rt, receiver.close(&rt), Ok(()));
-    refuses(&rt, &receiver, 1, &Still(u64::MAX), DeadlineOutOfRange);
+    refuses(
+        &rt,
+        &receiver,
+        1,
+        &TestClock::still(u64::MAX),
+        DeadlineOutOfRange,
+    );
 }
 
 #[test]
 fn a_late_receive_on_a_closed_channel(rt: HostRuntime) {
     let (_sender, receiver) = ends::<u64>(&rt, 1);
     equal(&rt, receiver.close(&rt), Ok(()));
-    refuses(&rt, &receiver, 0, &Rising::new(), Closed);
+    refuses(&rt, &receiver, 0, &TestClock::rising(), Closed);
 }
 
 #[test]

@@ -1,12 +1,11 @@
 //! Timed sends.
-use super::clocks::{Dropping, Still};
-use crate::tests::counted::{Counted, counted_ends, counter, shared};
+use super::clocks::Dropping;
+use crate::tests::counted::{counted_ends, counter, message};
 use crate::tests::given::{ends, equal};
 use kanal::error::{ReceiveErrorTimeout, SendErrorTimeout};
-use kanal::{Clock, Sender};
+use kanal::{Clock, Sender, TestClock};
 use std::process::Abort;
 use std::sync::Wait;
-use std::sync::atomic::Ordering::SeqCst;
 use std::time;
 use std::time::Duration;
 
@@ -26,7 +25,12 @@ fn refused<R: Abort + Wait + time::Clock>(
 #[test]
 fn a_deadline_out_of_range_keeps_the_message(rt: HostRuntime) {
     let (sender, _receiver) = ends::<u64>(&rt, 1);
-    let sent = refused(&rt, &sender, Duration::from_nanos(1), &Still(u64::MAX));
+    let sent = refused(
+        &rt,
+        &sender,
+        Duration::from_nanos(1),
+        &TestClock::still(u64::MAX),
+    );
     equal(&rt, sent, SendErrorTimeout::DeadlineOutOfRange);
     equal(&rt, sender.len(&rt), 0);
 }
@@ -37,12 +41,17 @@ fn timed_sends_with_room(rt: HostRuntime) {
     let mut option = Some(8);
     equal(
         &rt,
-        sender.send_timeout(&rt, 7, Duration::from_nanos(1), &Still(0)),
+        sender.send_timeout(&rt, 7, Duration::from_nanos(1), &TestClock::still(0)),
         Ok(()),
     );
     equal(
         &rt,
-        sender.send_option_timeout(&rt, &mut option, Duration::from_nanos(1), &Still(0)),
+        sender.send_option_timeout(
+            &rt,
+            &mut option,
+            Duration::from_nanos(1),
+            &TestClock::still(0),
+        ),
         Ok(()),
     );
     equal(&rt, option, None);
@@ -54,7 +63,7 @@ fn timed_sends_with_room(rt: HostRuntime) {
 fn a_closed_channel_keeps_the_message(rt: HostRuntime) {
     let (sender, _receiver) = ends::<u64>(&rt, 1);
     equal(&rt, sender.close(&rt), Ok(()));
-    let sent = refused(&rt, &sender, Duration::from_nanos(1), &Still(0));
+    let sent = refused(&rt, &sender, Duration::from_nanos(1), &TestClock::still(0));
     equal(&rt, sent, SendErrorTimeout::Closed);
 }
 
@@ -71,11 +80,11 @@ fn the_last_receiver_goes_during_the_wait(rt: HostRuntime) {
 fn a_send_to_a_full_channel_times_out(rt: HostRuntime) {
     let (sender, _receiver) = ends::<u64>(&rt, 1);
     equal(&rt, sender.send(&rt, 1), Ok(()));
-    let sent = refused(&rt, &sender, Duration::from_nanos(0), &Still(0));
+    let sent = refused(&rt, &sender, Duration::from_nanos(0), &TestClock::still(0));
     equal(&rt, sent, SendErrorTimeout::Timeout);
     equal(
         &rt,
-        sender.send_timeout(&rt, 8, Duration::from_nanos(0), &Still(0)),
+        sender.send_timeout(&rt, 8, Duration::from_nanos(0), &TestClock::still(0)),
         Err(SendErrorTimeout::Timeout),
     );
     equal(&rt, sender.len(&rt), 1);
@@ -84,15 +93,15 @@ fn a_send_to_a_full_channel_times_out(rt: HostRuntime) {
 #[test]
 fn a_message_is_dropped_once_at_its_deadline(rt: HostRuntime) {
     let (sender, _receiver, drops) = counted_ends(&rt, 1);
-    let kept = Counted::new(counter(&rt));
+    let kept = message(&rt, &counter(&rt));
     equal(&rt, sender.send(&rt, kept), Ok(()));
-    let late = Counted::new(shared(&rt, &drops));
+    let late = message(&rt, &drops);
     equal(
         &rt,
-        sender.send_timeout(&rt, late, Duration::from_nanos(0), &Still(0)),
+        sender.send_timeout(&rt, late, Duration::from_nanos(0), &TestClock::still(0)),
         Err(SendErrorTimeout::Timeout),
     );
-    equal(&rt, drops.load(SeqCst), 1);
+    equal(&rt, drops.count(), 1);
     equal(&rt, sender.len(&rt), 1);
 }
 
@@ -104,11 +113,11 @@ fn longer_than_a_word() -> Duration {
 #[test]
 fn a_duration_above_a_word_of_nanoseconds_is_out_of_range(rt: HostRuntime) {
     let (sender, receiver) = ends::<u64>(&rt, 1);
-    let sent = refused(&rt, &sender, longer_than_a_word(), &Still(0));
+    let sent = refused(&rt, &sender, longer_than_a_word(), &TestClock::still(0));
     equal(&rt, sent, SendErrorTimeout::DeadlineOutOfRange);
     equal(
         &rt,
-        receiver.recv_timeout(&rt, longer_than_a_word(), &Still(0)),
+        receiver.recv_timeout(&rt, longer_than_a_word(), &TestClock::still(0)),
         Err(ReceiveErrorTimeout::DeadlineOutOfRange),
     );
     equal(&rt, sender.len(&rt), 0);
@@ -117,12 +126,17 @@ fn a_duration_above_a_word_of_nanoseconds_is_out_of_range(rt: HostRuntime) {
 #[test]
 fn a_message_is_dropped_once_where_its_deadline_is_out_of_range(rt: HostRuntime) {
     let (sender, _receiver, drops) = counted_ends(&rt, 1);
-    let message = Counted::new(shared(&rt, &drops));
+    let message = message(&rt, &drops);
     equal(
         &rt,
-        sender.send_timeout(&rt, message, Duration::from_nanos(1), &Still(u64::MAX)),
+        sender.send_timeout(
+            &rt,
+            message,
+            Duration::from_nanos(1),
+            &TestClock::still(u64::MAX),
+        ),
         Err(SendErrorTimeout::DeadlineOutOfRange),
     );
-    equal(&rt, drops.load(SeqCst), 1);
+    equal(&rt, drops.count(), 1);
     equal(&rt, sender.len(&rt), 0);
 }

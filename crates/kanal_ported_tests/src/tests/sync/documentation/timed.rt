@@ -1,20 +1,11 @@
 //! Sends until a deadline, by a clock that stands still.
 use crate::tests::given::{equal, holds};
 use crate::tests::sync::given::{new, receive_one};
-use kanal::{Clock, Sender};
+use kanal::{Sender, TestClock};
 use std::process::Abort;
 use std::sync::Wait;
 use std::time::Duration;
 use std::{thread, time};
-
-/// A clock that stands still.
-struct Still;
-
-impl Clock for Still {
-    fn now(&self) -> u64 {
-        0
-    }
-}
 
 /// For how long a send may wait.
 fn long() -> Duration {
@@ -23,13 +14,13 @@ fn long() -> Duration {
 
 /// Sends the message.
 fn send_timed<T: Drop, R: Wait + time::Clock + Abort>(rt: &R, s: &Sender<T>, message: T) {
-    equal(rt, s.send_timeout(rt, message, long(), &Still), Ok(()));
+    equal(rt, s.send_timeout(rt, message, long(), &TestClock::still(0)), Ok(()));
 }
 
 /// Sends the message of an option, which is empty then.
 fn send_option_timed<T: Drop, R: Wait + time::Clock + Abort>(rt: &R, s: &Sender<T>, message: T) {
     let mut option = Some(message);
-    let answer = s.send_option_timeout(rt, &mut option, long(), &Still);
+    let answer = s.send_option_timeout(rt, &mut option, long(), &TestClock::still(0));
     equal(rt, answer, Ok(()));
     holds(rt, option.is_none());
 }

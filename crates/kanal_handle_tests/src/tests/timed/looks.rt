@@ -1,0 +1,78 @@
+//! How often a timed wait reads its clock, and for how long it sleeps.
+use crate::tests::given::{ends, equal, holds};
+use kanal::Clock;
+use kanal::error::ReceiveErrorTimeout;
+use std::cell::Cell;
+use std::time;
+use std::time::{Duration, Instant};
+
+/// A clock that stands at 0, and counts how often it is read.
+#[derive(Drop)]
+struct Counting {
+    reads: Cell<u64>,
+}
+
+impl Clock for Counting {
+    fn now(&self) -> u64 {
+        self.reads.set(self.reads.get().wrapping_add(1));
+        0
+    }
+}
+
+/// One read sets the deadline, one comes before the lock, and one finds that the deadline has come.
+#[test]
+fn a_wait_at_its_deadline_reads_no_clock_again(rt: HostRuntime) {
+    let (_sender, receiver) = ends::<u64>(&rt, 0);
+    let clock = Counting {
+        reads: Cell::new(0),
+    };
+    let got = receiver.recv_timeout(&rt, Duration::from_nanos(0), &clock);
+    equal(&rt, got, Err(ReceiveErrorTimeout::Timeout));
+    equal(&rt, clock.reads.get(), 3);
+}
+
+/// How often a clock is read that stands right before a deadline.
+const READS: u64 = 1_000;
+
+/// A clock that stands at 0 for so many reads, and keeps the shortest time between two of them, in the
+/// system's nanoseconds.
+#[derive(Drop)]
+struct Gaps<'a, R> {
+    rt: &'a R,
+    reads: Cell<u64>,
+    last: Cell<Option<Instant>>,
+    shortest: Cell<u128>,
+}
+
+impl<R: time::Clock> Clock for Gaps<'_, R> {
+    fn now(&self) -> u64 {
+        let now = Instant::now(self.rt).ok();
+        if let (Some(last), Some(now)) = (self.last.get(), now) {
+            let gap = now.duration_since(last).as_nanos();
+            self.shortest.set(self.shortest.get().min(gap));
+        }
+        // The pauses and yields before a wait sleeps are no sleeps.
+        self.last.set(if self.reads.get() > READS / 2 {
+            now
+        } else {
+            None
+        });
+        self.reads.set(self.reads.get().wrapping_add(1));
+        if self.reads.get() < READS { 0 } else { 1 }
+    }
+}
+
+/// One nanosecond is left at each read: a sleep of a whole millisecond would go past the deadline.
+#[test]
+fn a_wait_sleeps_no_longer_than_is_left(rt: HostRuntime) {
+    let (_sender, receiver) = ends::<u64>(&rt, 0);
+    let clock = Gaps {
+        rt: &rt,
+        reads: Cell::new(0),
+        last: Cell::new(None),
+        shortest: Cell::new(u128::MAX),
+    };
+    let got = receiver.recv_timeout(&rt, Duration::from_nanos(1), &clock);
+    equal(&rt, got, Err(ReceiveErrorTimeout::Timeout));
+    holds(&rt, clock.shortest.get() < 1_000_000);
+}

@@ -5,6 +5,7 @@ mod forgotten;
 mod given;
 mod line;
 mod lists;
+mod notices;
 mod races;
 mod recorded;
 mod sync;

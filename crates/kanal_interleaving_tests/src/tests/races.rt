@@ -7,9 +7,8 @@ use crate::tests::given::{equal, holds, new_task};
 use futures::task::Poll;
 use futures::test::MockTask;
 use kanal::error::{ReceiveError, SendError, SendErrorTimeout};
-use kanal::{AsyncSender, Clock, Receiver, Sender, bounded};
+use kanal::{AsyncSender, Receiver, Sender, TestClock, bounded};
 use std::alloc::{AllocGlobal, Global};
-use std::cell::Cell;
 use std::process::Abort;
 use std::random::RandomSource;
 use std::sync::atomic::AtomicBool;
@@ -70,10 +69,10 @@ impl Round {
 const TURNS: u32 = 100_000;
 
 /// The other thread's word that it is there.
-type Word = Arc<AtomicBool, Global>;
+pub(super) type Word = Arc<AtomicBool, Global>;
 
 /// Says that this thread is there, and puts its end off.
-fn arrive(word: &AtomicBool, pauses: u32) {
+pub(super) fn arrive(word: &AtomicBool, pauses: u32) {
     word.store(true, SeqCst);
     for _ in 0..pauses {
         hint::spin_loop();
@@ -81,7 +80,7 @@ fn arrive(word: &AtomicBool, pauses: u32) {
 }
 
 /// Waits until the other thread is there, for so many turns at most.
-fn meet(word: &AtomicBool) {
+pub(super) fn meet(word: &AtomicBool) {
     for turn in 0..TURNS {
         if word.load(SeqCst) {
             return;
@@ -93,7 +92,7 @@ fn meet(word: &AtomicBool) {
 }
 
 /// A word that was not said, twice.
-fn new_word(rt: &(impl Abort + AllocGlobal)) -> (Word, Word) {
+pub(super) fn new_word(rt: &(impl Abort + AllocGlobal)) -> (Word, Word) {
     let word = Arc::new(rt.alloc(), AtomicBool::new(false)).expect(rt, "a word");
     let other = Arc::try_clone(&word).expect(rt, "one more");
     (word, other)
@@ -239,20 +238,6 @@ fn drain<R: Threads + Wait + Abort + AllocGlobal + Copy + Send + 'static>(
     drops.were_once(&rt, round.count);
 }
 
-/// A clock that rises by one each time it is read.
-#[derive(Drop)]
-struct Rising {
-    next: Cell<u64>,
-}
-
-impl Clock for Rising {
-    fn now(&self) -> u64 {
-        let now = self.next.get();
-        self.next.set(now.wrapping_add(1));
-        now
-    }
-}
-
 /// How often a timed call reads its clock at most, nearly.
 const READS: u64 = 12;
 
@@ -264,7 +249,7 @@ fn time_out<R: Threads + Wait + time::Clock + Abort + AllocGlobal + Copy + Send 
 ) {
     let (sender, receiver) = bounded(rt.alloc(), 0).expect(&rt, "a channel");
     let message = Counted::new(&rt, drops, 0);
-    let clock = Rising { next: Cell::new(0) };
+    let clock = TestClock::rising();
     let ending = end_by_receiver(rt, receiver, round);
     let answer = sender.send_timeout(&rt, message, Duration::from_nanos(READS), &clock);
     ending.join(&rt);

@@ -1,0 +1,99 @@
+//! Races of notices: one thread drops handles while another has the lock for a call that doesn't wait.
+//!
+//! Whoever had the lock, or left the notice, applies it: a receive that the last drop ends is told before
+//! anybody makes a further call.
+use crate::tests::given::{equal, holds, new_task};
+use crate::tests::races::{Word, arrive, meet, new_word};
+use futures::task::Poll;
+use kanal::error::ReceiveError;
+use kanal::{AsyncReceiver, AsyncSender, bounded_async};
+use std::alloc::AllocGlobal;
+use std::process::Abort;
+use std::random::RandomSource;
+use std::sync::Wait;
+use std::thread;
+use std::thread::{JoinHandle, Threads};
+
+/// How many rounds there are.
+const ROUNDS: u32 = 5_000;
+
+/// Drops the sender in another thread, which puts that off a little.
+fn start_drop<R: Threads + Wait + Abort + Copy + Send + 'static>(
+    rt: R,
+    sender: AsyncSender<u64>,
+    word: Word,
+    pauses: u32,
+) -> JoinHandle<()> {
+    let dropping = thread::spawn(&rt, move || {
+        arrive(&word, pauses);
+        drop(sender);
+    });
+    dropping.expect(&rt, "a thread")
+}
+
+/// The senders of a channel are dropped in as many threads, while this one makes a call that tries the lock
+/// once.
+fn drop_beside_a_try<R>(
+    rt: R,
+    senders: Vec<AsyncSender<u64>>,
+    receiver: &AsyncReceiver<u64>,
+    round: u32,
+)
+where
+    R: Threads + Wait + Abort + AllocGlobal + Copy + Send + 'static,
+{
+    let mut dropping = Vec::new(rt.alloc());
+    let mut words = Vec::new(rt.alloc());
+    for sender in senders {
+        let (word, mine) = new_word(&rt);
+        let thread = start_drop(rt, sender, word, round % 40);
+        dropping.push(thread).expect(&rt, "memory for a thread");
+        words.push(mine).expect(&rt, "memory for a word");
+    }
+    for word in words.iter() {
+        meet(word);
+    }
+    let answer = receiver.try_recv_realtime();
+    for thread in dropping {
+        thread.join(&rt);
+    }
+    holds(
+        &rt,
+        matches!(answer, Ok(None) | Err(ReceiveError::SendClosed)),
+    );
+}
+
+/// A receive waits, and the drops of so many senders end it.
+fn end_a_receive<R>(rt: R, senders: usize, round: u32)
+where
+    R: Threads + Wait + Abort + RandomSource + AllocGlobal + Copy + Send + 'static,
+{
+    let (sender, receiver) = bounded_async::<u64>(rt.alloc(), 0).expect(&rt, "a channel");
+    let mut all = Vec::new(rt.alloc());
+    for _ in 1..senders {
+        let clone = sender.clone(&rt).expect(&rt, "a clone");
+        all.push(clone).expect(&rt, "memory for a clone");
+    }
+    all.push(sender).expect(&rt, "memory for a sender");
+    let task = new_task(&rt);
+    let mut receiving = receiver.recv();
+    equal(&rt, task.poll(&mut receiving), Poll::Pending);
+    drop_beside_a_try(rt, all, &receiver, round);
+    holds(&rt, task.is_woken());
+    let ended = task.poll(&mut receiving);
+    equal(&rt, ended, Poll::Ready(Err(ReceiveError::SendClosed)));
+}
+
+#[test]
+fn the_last_drop_beside_a_try_ends_a_receive(rt: HostRuntime) {
+    for round in 0..ROUNDS {
+        end_a_receive(rt, 1, round);
+    }
+}
+
+#[test]
+fn two_drops_beside_a_try_end_a_receive(rt: HostRuntime) {
+    for round in 0..ROUNDS {
+        end_a_receive(rt, 2, round);
+    }
+}

@@ -2,7 +2,7 @@
 ghost use Rattle.std.specs.Prelude.{◌≡◌, Some, None};
 ghost use Rattle.kanal_board.specs.Boards.{table_of};
 
-use crate::Capacity;
+use crate::capacity::Capacity;
 use anyhow::Result;
 use kanal_one_history::{Call, Channel, Naming, Opened, Pass};
 use std::alloc::Global;
@@ -13,13 +13,13 @@ use std::sync::Wait;
 fn add_up<J: Naming, R: Wait>(
     rt: &R,
     channel: &Channel<u64, J>,
-    mut pass: Pass<u64, J>,
+    pass: &mut Pass<u64, J>,
     count: u64,
 ) -> Result<u64> {
     let mut sum = 0u64;
     for number in 0..count {
-        channel.send(rt, &mut pass, number)?;
-        sum = sum.wrapping_add(channel.recv(rt, &mut pass)?);
+        channel.send(rt, pass, number)?;
+        sum = sum.wrapping_add(channel.recv(rt, pass)?);
     }
     Ok(sum)
 }
@@ -35,8 +35,8 @@ fn bounded<J: Naming, R: Wait>(
     requires name { table_of opened ≡ J.table }
     requires capacity { J.capacity ≡ Some capacity }
 {
-    let (channel, pass) = Channel::<u64, J>::bounded(alloc, capacity, opened)?;
-    add_up(rt, &channel, pass, count)
+    let (channel, mut pass) = Channel::<u64, J>::bounded(alloc, capacity, opened)?;
+    add_up(rt, &channel, &mut pass, count)
 }
 
 /// The same on a new channel without limit.
@@ -49,8 +49,8 @@ fn unbounded<J: Naming, R: Wait>(
     requires name { table_of opened ≡ J.table }
     requires capacity { J.capacity ≡ None }
 {
-    let (channel, pass) = Channel::<u64, J>::unbounded(alloc, opened);
-    add_up(rt, &channel, pass, count)
+    let (channel, mut pass) = Channel::<u64, J>::unbounded(alloc, opened);
+    add_up(rt, &channel, &mut pass, count)
 }
 
 /// Sends and receives in turn, in this thread.

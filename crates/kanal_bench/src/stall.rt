@@ -1,5 +1,5 @@
 //! The scenario of single sends: how long each of one thread's sends takes, beside threads that are busy.
-use crate::threads::Ends;
+use crate::capacity::Capacity;
 use anyhow::Result;
 use kanal::{Receiver, Sender};
 use std::alloc::Global;
@@ -62,6 +62,11 @@ fn longest_but(sorted: &[Duration], longer: usize) -> Duration {
         .unwrap_or(Duration::ZERO)
 }
 
+/// Sends and receives once, and tells whether the channel went on.
+fn pass_one<R: Wait>(rt: &R, sender: &Sender<u64>, receiver: &Receiver<u64>) -> bool {
+    sender.send(rt, 0).is_ok() && receiver.recv(rt).is_ok()
+}
+
 /// Sends and receives in turn, until it is told to stop or the channel ends.
 fn keep_busy<R: Wait>(
     rt: &R,
@@ -70,7 +75,7 @@ fn keep_busy<R: Wait>(
     is_over: &AtomicBool,
 ) {
     for _ in rt.forever() {
-        if is_over.load(SeqCst) || sender.send(rt, 0).is_err() || receiver.recv(rt).is_err() {
+        if is_over.load(SeqCst) || !pass_one(rt, sender, receiver) {
             return;
         }
     }
@@ -83,23 +88,36 @@ fn start_busy<R: Threads + Wait + Copy + Send + 'static>(
     receiver: &Receiver<u64>,
     is_over: &Arc<AtomicBool>,
 ) -> Result<JoinHandle<()>> {
+    let is_over = Arc::try_clone(is_over)?;
     let sender = sender.clone(&rt)?;
     let receiver = receiver.clone(&rt)?;
-    let is_over = Arc::try_clone(is_over)?;
     Ok(thread::spawn(&rt, move || {
         keep_busy(&rt, &sender, &receiver, &is_over)
     })?)
 }
 
+/// Starts the busy threads.
+fn start_all<R: Threads + Wait + Copy + Send + 'static>(
+    rt: R,
+    sender: &Sender<u64>,
+    receiver: &Receiver<u64>,
+    is_over: &Arc<AtomicBool>,
+    busy: &mut Vec<JoinHandle<()>>,
+) -> Result<()> {
+    for _ in 0..BUSY_THREADS {
+        busy.push(start_busy(rt, sender, receiver, is_over)?)?;
+    }
+    Ok(())
+}
+
 /// Sends and receives in turn, and notes how long each send took.
 fn note_sends<R: Wait + Clock>(
     rt: &R,
-    alloc: Global,
     sender: &Sender<u64>,
     receiver: &Receiver<u64>,
     count: u64,
-) -> Result<Vec<Duration>> {
-    let mut sends = Vec::new(alloc);
+    sends: &mut Vec<Duration>,
+) -> Result<()> {
     for number in 0..count {
         let start = Instant::now(rt)?;
         sender.send(rt, number)?;
@@ -107,38 +125,44 @@ fn note_sends<R: Wait + Clock>(
         sends.push(passed)?;
         receiver.recv(rt)?;
     }
-    Ok(sends)
+    Ok(())
 }
 
-/// Starts the busy threads, and notes the sends beside them.
+/// Starts the busy threads on a channel of this capacity, and notes the sends beside them.
 fn note_beside<R: Threads + Wait + Clock + Copy + Send + 'static>(
     rt: R,
     alloc: Global,
-    ends: Ends,
+    capacity: Capacity,
     count: u64,
     is_over: &Arc<AtomicBool>,
     busy: &mut Vec<JoinHandle<()>>,
-) -> Result<Vec<Duration>> {
-    let (sender, receiver) = ends;
-    for _ in 0..BUSY_THREADS {
-        busy.push(start_busy(rt, &sender, &receiver, is_over)?)?;
+    sends: &mut Vec<Duration>,
+) -> Result<()> {
+    let (sender, receiver) = capacity.open(alloc)?;
+    start_all(rt, &sender, &receiver, is_over, busy)?;
+    note_sends(&rt, &sender, &receiver, count, sends)
+}
+
+/// Joins the busy threads.
+fn join_all<R: Threads>(rt: &R, busy: Vec<JoinHandle<()>>) {
+    for thread in busy {
+        thread.join(rt);
     }
-    note_sends(&rt, alloc, &sender, &receiver, count)
 }
 
 /// Times so many sends of this thread beside the busy ones, and joins those.
 pub fn in_threads<R: Threads + Wait + Clock + Copy + Send + 'static>(
     rt: R,
     alloc: Global,
-    ends: Ends,
+    capacity: Capacity,
     count: u64,
 ) -> Result<Times> {
     let is_over = Arc::new(alloc, AtomicBool::new(false))?;
     let mut busy = Vec::new(alloc);
-    let sends = note_beside(rt, alloc, ends, count, &is_over, &mut busy);
+    let mut sends = Vec::new(alloc);
+    let noted = note_beside(rt, alloc, capacity, count, &is_over, &mut busy, &mut sends);
     is_over.store(true, SeqCst);
-    for thread in busy {
-        thread.join(&rt);
-    }
-    Times::of(sends?)
+    join_all(&rt, busy);
+    noted?;
+    Times::of(sends)
 }

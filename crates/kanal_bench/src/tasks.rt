@@ -61,13 +61,27 @@ where
     R: Wait + RandomSource + AllocGlobal,
 {
     let (sender, receiver) = ends;
+    let sum = add_up(rt, &sender, &receiver, count);
+    Ok(sum?)
+}
+
+/// The same through ends that are lent.
+fn add_up<R>(
+    rt: &R,
+    sender: &AsyncSender<u64>,
+    receiver: &AsyncReceiver<u64>,
+    count: u64,
+) -> io::Result<u64>
+where
+    R: Wait + RandomSource + AllocGlobal,
+{
     let sum = stream::iter(0..count).fold(0u64, |sum, number| {
         sender
             .send(number)
             .then(|_| receiver.recv())
             .map(move |got| sum.wrapping_add(got.unwrap_or(0)))
     });
-    Ok(block_on(rt, sum)?)
+    block_on(rt, sum)
 }
 
 /// Sends the numbers below the count.
@@ -88,43 +102,66 @@ where
     block_on(rt, sum)
 }
 
-/// Starts so many threads that send, each through a clone.
+/// Starts a thread that sends, through a clone.
+fn start_sender<R>(
+    rt: R,
+    sender: &AsyncSender<u64>,
+    load: Load,
+    each: u64,
+) -> Result<JoinHandle<io::Result<()>>>
+where
+    R: Threads + Wait + RandomSource + AllocGlobal + Copy + Send + 'static,
+{
+    let theirs = sender.clone(&rt)?;
+    Ok(thread::spawn(&rt, move || load.send_all(&rt, &theirs, each))?)
+}
+
+/// Starts a thread that receives, through a clone.
+fn start_receiver<R>(
+    rt: R,
+    receiver: &AsyncReceiver<u64>,
+    load: Load,
+) -> Result<JoinHandle<io::Result<u64>>>
+where
+    R: Threads + Wait + RandomSource + AllocGlobal + Copy + Send + 'static,
+{
+    let theirs = receiver.clone(&rt)?;
+    Ok(thread::spawn(&rt, move || load.receive_all(&rt, &theirs))?)
+}
+
+/// Starts so many threads that send.
 fn start_senders<R>(
     rt: R,
-    alloc: Global,
     sender: &AsyncSender<u64>,
     load: Load,
     threads: u64,
     each: u64,
-) -> Result<Vec<JoinHandle<io::Result<()>>>>
+    started: &mut Vec<JoinHandle<io::Result<()>>>,
+) -> Result<()>
 where
     R: Threads + Wait + RandomSource + AllocGlobal + Copy + Send + 'static,
 {
-    let mut started = Vec::new(alloc);
     for _ in 0..threads {
-        let theirs = sender.clone(&rt)?;
-        started.push(thread::spawn(&rt, move || load.send_all(&rt, &theirs, each))?)?;
+        started.push(start_sender(rt, sender, load, each)?)?;
     }
-    Ok(started)
+    Ok(())
 }
 
-/// Starts so many threads that receive, each through a clone.
+/// Starts so many threads that receive.
 fn start_receivers<R>(
     rt: R,
-    alloc: Global,
     receiver: &AsyncReceiver<u64>,
     load: Load,
     threads: u64,
-) -> Result<Vec<JoinHandle<io::Result<u64>>>>
+    started: &mut Vec<JoinHandle<io::Result<u64>>>,
+) -> Result<()>
 where
     R: Threads + Wait + RandomSource + AllocGlobal + Copy + Send + 'static,
 {
-    let mut started = Vec::new(alloc);
     for _ in 0..threads {
-        let theirs = receiver.clone(&rt)?;
-        started.push(thread::spawn(&rt, move || load.receive_all(&rt, &theirs))?)?;
+        started.push(start_receiver(rt, receiver, load)?)?;
     }
-    Ok(started)
+    Ok(())
 }
 
 /// Joins the threads that send.
@@ -144,6 +181,25 @@ fn sum_of<R: Threads>(rt: &R, receiving: Vec<JoinHandle<io::Result<u64>>>) -> io
     Ok(sum)
 }
 
+/// Starts the threads of a crowd, and drops the ends that they were cloned from.
+fn start<R>(
+    rt: R,
+    ends: Ends,
+    crowd: Crowd,
+    load: Load,
+    each: u64,
+    sending: &mut Vec<JoinHandle<io::Result<()>>>,
+    receiving: &mut Vec<JoinHandle<io::Result<u64>>>,
+) -> Result<()>
+where
+    R: Threads + Wait + RandomSource + AllocGlobal + Copy + Send + 'static,
+{
+    let (sender, receiver) = ends;
+    start_senders(rt, &sender, load, crowd.senders, each, sending)?;
+    drop(sender);
+    start_receivers(rt, &receiver, load, crowd.receivers, receiving)
+}
+
 /// Sends and receives in threads of their own, and joins them all.
 pub fn in_threads<R>(
     rt: R,
@@ -156,12 +212,13 @@ pub fn in_threads<R>(
 where
     R: Threads + Wait + RandomSource + AllocGlobal + Copy + Send + 'static,
 {
-    let (sender, receiver) = ends;
+    let mut sending = Vec::new(alloc);
+    let mut receiving = Vec::new(alloc);
     let each = load.each(crowd.each(count));
-    let sending = start_senders(rt, alloc, &sender, load, crowd.senders, each)?;
-    drop(sender);
-    let receiving = start_receivers(rt, alloc, &receiver, load, crowd.receivers)?;
-    drop(receiver);
-    join_all(&rt, sending)?;
-    Ok(sum_of(&rt, receiving)?)
+    let started = start(rt, ends, crowd, load, each, &mut sending, &mut receiving);
+    let sent = join_all(&rt, sending);
+    let sum = sum_of(&rt, receiving);
+    started?;
+    sent?;
+    Ok(sum?)
 }

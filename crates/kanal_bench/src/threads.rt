@@ -34,6 +34,16 @@ fn receive_all<R: Wait>(rt: &R, receiver: &Receiver<u64>) -> u64 {
 /// Sends and receives in turn, in this thread.
 pub fn in_turn<R: Wait>(rt: &R, ends: Ends, count: u64) -> Result<u64> {
     let (sender, receiver) = ends;
+    add_up(rt, &sender, &receiver, count)
+}
+
+/// The same through ends that are lent.
+fn add_up<R: Wait>(
+    rt: &R,
+    sender: &Sender<u64>,
+    receiver: &Receiver<u64>,
+    count: u64,
+) -> Result<u64> {
     let mut sum = 0u64;
     for number in 0..count {
         sender.send(rt, number)?;
@@ -42,33 +52,72 @@ pub fn in_turn<R: Wait>(rt: &R, ends: Ends, count: u64) -> Result<u64> {
     Ok(sum)
 }
 
-/// Starts so many threads that send, each through a clone.
-fn start_senders<R: Threads + Wait + AllocGlobal + Copy + Send + 'static>(
+/// Starts a thread that sends, through a clone.
+fn start_sender<R: Threads + Wait + Copy + Send + 'static>(
+    rt: R,
+    sender: &Sender<u64>,
+    each: u64,
+) -> Result<JoinHandle<()>> {
+    let theirs = sender.clone(&rt)?;
+    Ok(thread::spawn(&rt, move || send_all(&rt, &theirs, each))?)
+}
+
+/// Starts a thread that receives, through a clone.
+fn start_receiver<R: Threads + Wait + Copy + Send + 'static>(
+    rt: R,
+    receiver: &Receiver<u64>,
+) -> Result<JoinHandle<u64>> {
+    let theirs = receiver.clone(&rt)?;
+    Ok(thread::spawn(&rt, move || receive_all(&rt, &theirs))?)
+}
+
+/// Starts so many threads that send.
+fn start_senders<R: Threads + Wait + Copy + Send + 'static>(
     rt: R,
     sender: &Sender<u64>,
     threads: u64,
     each: u64,
-) -> Result<Vec<JoinHandle<()>>> {
-    let mut started = Vec::new(rt.alloc());
+    started: &mut Vec<JoinHandle<()>>,
+) -> Result<()> {
     for _ in 0..threads {
-        let theirs = sender.clone(&rt)?;
-        started.push(thread::spawn(&rt, move || send_all(&rt, &theirs, each))?)?;
+        started.push(start_sender(rt, sender, each)?)?;
     }
-    Ok(started)
+    Ok(())
 }
 
-/// Starts so many threads that receive, each through a clone.
-fn start_receivers<R: Threads + Wait + AllocGlobal + Copy + Send + 'static>(
+/// Starts so many threads that receive.
+fn start_receivers<R: Threads + Wait + Copy + Send + 'static>(
     rt: R,
     receiver: &Receiver<u64>,
     threads: u64,
-) -> Result<Vec<JoinHandle<u64>>> {
-    let mut started = Vec::new(rt.alloc());
+    started: &mut Vec<JoinHandle<u64>>,
+) -> Result<()> {
     for _ in 0..threads {
-        let theirs = receiver.clone(&rt)?;
-        started.push(thread::spawn(&rt, move || receive_all(&rt, &theirs))?)?;
+        started.push(start_receiver(rt, receiver)?)?;
     }
-    Ok(started)
+    Ok(())
+}
+
+/// Starts the threads of a crowd, and drops the ends that they were cloned from.
+fn start<R: Threads + Wait + Copy + Send + 'static>(
+    rt: R,
+    ends: Ends,
+    crowd: Crowd,
+    each: u64,
+    sending: &mut Vec<JoinHandle<()>>,
+    receiving: &mut Vec<JoinHandle<u64>>,
+) -> Result<()> {
+    let (sender, receiver) = ends;
+    start_senders(rt, &sender, crowd.senders, each, sending)?;
+    drop(sender);
+    start_receivers(rt, &receiver, crowd.receivers, receiving)
+}
+
+/// Joins the threads that send.
+fn join_all<R: Threads>(rt: &R, sending: Vec<JoinHandle<()>>) {
+    for thread in sending {
+        thread.join(rt);
+    }
 }
 
 /// The sum of what the receiving threads got, when all have ended.
@@ -87,13 +136,12 @@ pub fn in_threads<R: Threads + Wait + AllocGlobal + Copy + Send + 'static>(
     crowd: Crowd,
     count: u64,
 ) -> Result<u64> {
-    let (sender, receiver) = ends;
-    let sending = start_senders(rt, &sender, crowd.senders, crowd.each(count))?;
-    drop(sender);
-    let receiving = start_receivers(rt, &receiver, crowd.receivers)?;
-    drop(receiver);
-    for thread in sending {
-        thread.join(&rt);
-    }
-    Ok(sum_of(&rt, receiving))
+    let mut sending = Vec::new(rt.alloc());
+    let mut receiving = Vec::new(rt.alloc());
+    let each = crowd.each(count);
+    let started = start(rt, ends, crowd, each, &mut sending, &mut receiving);
+    join_all(&rt, sending);
+    let sum = sum_of(&rt, receiving);
+    started?;
+    Ok(sum)
 }

@@ -1,15 +1,9 @@
-//! Does jobs without work, and prints the sum of their answers: what a pool costs a job.
-//!
-//! `kanal_pool_bench WORKERS COUNT` does COUNT jobs by a pool of so many WORKERS, and in turn on one
-//! thread where WORKERS is `in-turn`. A job's answer is its number.
-#![tactic(auto)]
-
+//! The scenario of jobs without work, by a pool or in turn: what a pool costs a job.
 ghost use Rattle.std.proofs.Common.{rules};
 
 use anyhow::{Result, bail};
 use kanal_pool::{Job, NoGate, NoMemory, PoolError, map_in_turn, map_jobs};
 use std::alloc::{AllocGlobal, Global};
-use std::env;
 use std::sync::Wait;
 use std::thread::Threads;
 
@@ -60,6 +54,40 @@ impl Way {
     }
 }
 
+/// So many jobs, which are done in this way.
+#[derive(Copy, Clone)]
+pub struct Jobs {
+    way: Way,
+    count: u64,
+}
+
+impl Jobs {
+    /// The jobs that the words ask for.
+    pub fn of(words: &[String]) -> Result<Self> {
+        let [way, count, ..] = words else {
+            bail!("usage: kanal_bench pool WORKERS|in-turn COUNT");
+        };
+        let Some(way) = Way::named(way) else {
+            bail!("WORKERS is a number or in-turn");
+        };
+        let Ok(count) = count.parse::<u64>() else {
+            bail!("COUNT is a number");
+        };
+        Ok(Jobs { way, count })
+    }
+
+    /// Does the jobs, and answers the sum of their answers.
+    pub fn sum<R: Threads + Wait + AllocGlobal + Sync>(self, rt: &R) -> Result<u64> {
+        let jobs = numbers(rt.alloc(), self.count)?;
+        let answers = self.way.answers(rt, jobs.as_slice())?;
+        Ok(
+            answers
+                .iter()
+                .fold(0u64, |sum, answer| sum.wrapping_add(*answer)),
+        )
+    }
+}
+
 /// The jobs with the numbers below the count.
 fn numbers(alloc: Global, count: u64) -> Result<Vec<Number>> {
     let mut numbers = Vec::new(alloc);
@@ -67,25 +95,4 @@ fn numbers(alloc: Global, count: u64) -> Result<Vec<Number>> {
         numbers.push(Number(number))?;
     }
     Ok(numbers)
-}
-
-fn main(rt: HostRuntime) -> Result<()> {
-    let mut args = env::args(&rt)?;
-    let _program = args.next();
-    let (Some(way), Some(count)) = (args.next(), args.next()) else {
-        bail!("usage: kanal_pool_bench WORKERS COUNT");
-    };
-    let Some(way) = Way::named(&way) else {
-        bail!("WORKERS is a number or in-turn");
-    };
-    let Ok(count) = count.parse::<u64>() else {
-        bail!("COUNT is a number");
-    };
-    let jobs = numbers(rt.alloc(), count)?;
-    let answers = way.answers(&rt, jobs.as_slice())?;
-    let sum = answers
-        .iter()
-        .fold(0u64, |sum, answer| sum.wrapping_add(*answer));
-    println!(rt; "{sum}")?;
-    Ok(())
 }

@@ -3,5 +3,6 @@ mod gates;
 mod given;
 mod refusals;
 mod rows;
+mod tally;
 mod texts;
-mod watched;
+mod watching;

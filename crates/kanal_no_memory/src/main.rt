@@ -18,37 +18,33 @@ use std::process::ExitCode;
 use std::random::RandomSource;
 use std::sync::Wait;
 
-/// None, where it doesn't hold.
-pub fn holds(is_so: bool) -> Option<()> {
-    if is_so { Some(()) } else { None }
+/// Whether the core and the cell answer as they must.
+fn below_the_lock(alloc: Global, makes_calls: bool) -> bool {
+    internal::offers_and_takes(alloc, makes_calls)
+        && internal::withdrawals(alloc, makes_calls)
+        && internal::handles(alloc, makes_calls)
+        && internal::last_drop(alloc, makes_calls)
+        && internal::questions(alloc, makes_calls)
+        && internal::drains(alloc, makes_calls)
+        && cell::settled(alloc, makes_calls)
+        && cell::slept(alloc, makes_calls)
+        && cell::left(alloc, makes_calls)
 }
 
-/// The core and the cell.
-fn below_the_lock(alloc: Global, makes_calls: bool) -> Option<()> {
-    internal::offers_and_takes(alloc, makes_calls)?;
-    internal::withdrawals(alloc, makes_calls)?;
-    internal::handles(alloc, makes_calls)?;
-    internal::questions(alloc, makes_calls)?;
-    internal::drains(alloc, makes_calls)?;
-    cell::settled(alloc, makes_calls)?;
-    cell::slept(alloc, makes_calls)?;
-    cell::left(alloc, makes_calls)
-}
-
-/// The handles, the futures and the recorded channel.
+/// Whether the handles, the futures and the recorded channel answer as they must.
 fn above_the_lock<R: Wait + RandomSource + AllocGlobal>(
     rt: &R,
     alloc: Global,
     makes_calls: bool,
-) -> Option<()> {
-    handles::sends_and_receives(rt, alloc, makes_calls)?;
-    handles::conversions(rt, alloc, makes_calls)?;
-    handles::questions_and_ends(rt, alloc, makes_calls)?;
-    handles::drains(rt, alloc, makes_calls)?;
-    polls::first_polls(rt, alloc, makes_calls)?;
-    polls::an_outcome(rt, alloc, makes_calls)?;
-    polls::a_drop(rt, alloc, makes_calls)?;
-    history::a_check(rt, alloc, makes_calls)
+) -> bool {
+    handles::sends_and_receives(rt, alloc, makes_calls)
+        && handles::conversions(rt, alloc, makes_calls)
+        && handles::questions_and_ends(rt, alloc, makes_calls)
+        && handles::drains(rt, alloc, makes_calls)
+        && polls::first_polls(rt, alloc, makes_calls)
+        && polls::an_outcome(rt, alloc, makes_calls)
+        && polls::a_drop(rt, alloc, makes_calls)
+        && history::a_check(rt, alloc, makes_calls)
 }
 
 /// Whether the command's word asks for the calls; None where it is neither word.
@@ -66,8 +62,8 @@ fn main(rt: HostRuntime) -> ExitCode {
     let Some(makes_calls) = makes_calls(&rt) else {
         return ExitCode::FAILURE;
     };
-    let answered = below_the_lock(rt.alloc(), makes_calls).is_some()
-        && above_the_lock(&rt, rt.alloc(), makes_calls).is_some();
+    let answered = below_the_lock(rt.alloc(), makes_calls)
+        && above_the_lock(&rt, rt.alloc(), makes_calls);
     if answered {
         ExitCode::SUCCESS
     } else {

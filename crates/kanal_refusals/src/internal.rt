@@ -81,32 +81,56 @@ fn drain(core: &mut Core, tally: &mut Tally, into: &mut Vec<u64>) -> Option<usiz
 /// A bounded channel: its buffer, waits of both sides, and a drain of all.
 pub fn bounded(alloc: Global, tally: &mut Tally) -> Option<()> {
     let mut core = channel(alloc, tally, 1)?;
-    wait_recv(&mut core, tally, 7)?;
-    holds(matches!(core.offer(1), Offer::Handed(_)))?;
-    holds(matches!(core.offer(2), Offer::Entered))?;
-    wait_send(&mut core, tally, 3, 8)?;
+    holds(fills(&mut core, tally) && drains(&mut core, alloc, tally, &[2, 3]))
+}
+
+/// Whether one message goes to a receive that waits, one enters, and one waits with its sender.
+fn fills(core: &mut Core, tally: &mut Tally) -> bool {
+    wait_recv(core, tally, 7).is_some()
+        && matches!(core.offer(1), Offer::Handed(_))
+        && matches!(core.offer(2), Offer::Entered)
+        && wait_send(core, tally, 3, 8).is_some()
+}
+
+/// Whether a drain moves these messages.
+fn drains(core: &mut Core, alloc: Global, tally: &mut Tally, expected: &[u64]) -> bool {
     let mut messages = Vec::new(alloc);
-    let count = drain(&mut core, tally, &mut messages)?;
-    holds(count == 2 && messages.as_slice() == [2, 3].as_slice())
+    let count = drain(core, tally, &mut messages);
+    count == Some(expected.len()) && messages.as_slice() == expected
 }
 
 /// A channel without limit: its buffer grows, and is drained.
 pub fn unlimited(alloc: Global, tally: &mut Tally) -> Option<()> {
     let mut core = Core::unbounded(alloc);
+    holds(twenty_enter(&mut core, tally) && drains_twenty(&mut core, alloc, tally))
+}
+
+/// Whether 20 messages enter.
+fn twenty_enter(core: &mut Core, tally: &mut Tally) -> bool {
     for message in 0..20 {
-        enter(&mut core, tally, message)?;
+        if enter(core, tally, message).is_none() {
+            return false;
+        }
     }
+    true
+}
+
+/// Whether a drain moves 20 messages.
+fn drains_twenty(core: &mut Core, alloc: Global, tally: &mut Tally) -> bool {
     let mut messages = Vec::new(alloc);
-    let count = drain(&mut core, tally, &mut messages)?;
-    holds(count == 20 && messages.len() == 20)
+    drain(core, tally, &mut messages) == Some(20) && messages.len() == 20
 }
 
 /// A seal asks for no memory: whoever receives ends, and nothing more enters.
 pub fn sealed(alloc: Global, tally: &mut Tally) -> Option<()> {
     let mut core = channel(alloc, tally, 1)?;
-    wait_recv(&mut core, tally, 7)?;
-    holds(core.seal().is_ok())?;
-    holds(core.seal().is_err())?;
-    holds(matches!(core.offer(1), Offer::Sealed(1)))?;
-    holds(matches!(core.take(), Take::SendClosed))
+    holds(wait_recv(&mut core, tally, 7).is_some() && seals(&mut core))
+}
+
+/// Whether one seal is made, and what is told after it.
+fn seals(core: &mut Core) -> bool {
+    core.seal().is_ok()
+        && core.seal().is_err()
+        && matches!(core.offer(1), Offer::Sealed(1))
+        && matches!(core.take(), Take::SendClosed)
 }

@@ -6,6 +6,7 @@ use futures::StreamExt;
 use futures::task::Poll;
 use futures::test::MockTask;
 use kanal::error::{ReceiveError, SendError};
+use kanal::{AsyncReceiver, AsyncSender, ReceiveFuture, ReceiveStream, SendFuture};
 use std::alloc::{AllocGlobal, Global};
 use std::random::RandomSource;
 use std::sync::Wait;
@@ -18,6 +19,28 @@ fn task<R: RandomSource + AllocGlobal>(rt: &R) -> Option<MockTask> {
     }
 }
 
+/// A channel without places, and a task.
+fn channel_and_task<T: Drop, R: RandomSource + AllocGlobal>(
+    rt: &R,
+    alloc: Global,
+    tally: &mut Tally,
+) -> Option<(AsyncSender<T>, AsyncReceiver<T>, MockTask)> {
+    let (sender, receiver) = task_channel(alloc, tally, 0)?;
+    let task = task(rt)?;
+    Some((sender, receiver, task))
+}
+
+/// A channel of numbers without places, and two tasks.
+fn channel_and_tasks<R: RandomSource + AllocGlobal>(
+    rt: &R,
+    alloc: Global,
+    tally: &mut Tally,
+) -> Option<(AsyncSender<u64>, AsyncReceiver<u64>, MockTask, MockTask)> {
+    let (sender, receiver, first) = channel_and_task(rt, alloc, tally)?;
+    let second = task(rt)?;
+    Some((sender, receiver, first, second))
+}
+
 /// The first poll of a send that finds no place. Where it is refused the future is over, and its
 /// message was dropped once.
 pub fn send_is_polled<R: Wait + RandomSource + AllocGlobal>(
@@ -26,21 +49,70 @@ pub fn send_is_polled<R: Wait + RandomSource + AllocGlobal>(
     tally: &mut Tally,
 ) -> Option<()> {
     let drops = Drops::new(alloc)?;
-    let (sender, receiver) = task_channel::<Counted>(alloc, tally, 0)?;
-    let task = task(rt)?;
-    let mut sending = sender.send(drops.message()?);
-    let mut first = task.poll(&mut sending);
-    if first == Poll::Ready(Err(SendError::NoMemory)) {
-        tally.add();
-        holds(drops.count() == 1 && sender.sender_count(rt) == 1)?;
-        holds(task.poll(&mut sending) == Poll::Ready(Err(SendError::Finished)))?;
-        holds(matches!(receiver.try_recv(rt), Ok(None)))?;
-        sending = sender.send(drops.message()?);
-        first = task.poll(&mut sending);
+    let (sender, receiver, task) = channel_and_task(rt, alloc, tally)?;
+    holds(send_waits(rt, tally, &drops, &sender, &receiver, &task))
+}
+
+/// Whether a send waits and is taken, if need be the second one.
+fn send_waits<R: Wait>(
+    rt: &R,
+    tally: &mut Tally,
+    drops: &Drops,
+    sender: &AsyncSender<Counted>,
+    receiver: &AsyncReceiver<Counted>,
+    task: &MockTask,
+) -> bool {
+    let Some(message) = drops.message() else {
+        return false;
+    };
+    let mut sending = sender.send(message);
+    match task.poll(&mut sending) {
+        Poll::Ready(Err(SendError::NoMemory)) => {
+            tally.add();
+            drops.count() == 1
+                && sender.sender_count(rt) == 1
+                && send_is_over(rt, receiver, task, &mut sending)
+                && second_send_waits(rt, drops, sender, receiver, task)
+        },
+        Poll::Pending => send_is_taken(rt, receiver, task, &mut sending),
+        _ => false,
     }
-    holds(first == Poll::Pending)?;
-    holds(matches!(receiver.try_recv(rt), Ok(Some(_message))))?;
-    holds(task.poll(&mut sending) == Poll::Ready(Ok(())))
+}
+
+/// Whether the second send waits and is taken.
+fn second_send_waits<R: Wait>(
+    rt: &R,
+    drops: &Drops,
+    sender: &AsyncSender<Counted>,
+    receiver: &AsyncReceiver<Counted>,
+    task: &MockTask,
+) -> bool {
+    let Some(message) = drops.message() else {
+        return false;
+    };
+    let mut sending = sender.send(message);
+    task.poll(&mut sending) == Poll::Pending && send_is_taken(rt, receiver, task, &mut sending)
+}
+
+/// Whether the send is over, and nothing of it is left.
+fn send_is_over<R: Wait>(
+    rt: &R,
+    receiver: &AsyncReceiver<Counted>,
+    task: &MockTask,
+    sending: &mut SendFuture<'_, Counted>,
+) -> bool {
+    task.poll(sending) == Poll::Ready(Err(SendError::Finished))
+        && matches!(receiver.try_recv(rt), Ok(None))
+}
+
+/// Whether the message of the send that waits is taken, and the send is told so.
+fn send_is_taken<R: Wait>(
+    rt: &R,
+    receiver: &AsyncReceiver<Counted>,
+    task: &MockTask,
+    sending: &mut SendFuture<'_, Counted>,
+) -> bool {
+    matches!(receiver.try_recv(rt), Ok(Some(_message))) && task.poll(sending) == Poll::Ready(Ok(()))
 }
 
 /// The first poll of a receive that finds no message. Where it is refused the future is over.
@@ -49,20 +121,51 @@ pub fn receive_is_polled<R: Wait + RandomSource + AllocGlobal>(
     alloc: Global,
     tally: &mut Tally,
 ) -> Option<()> {
-    let (sender, receiver) = task_channel::<u64>(alloc, tally, 0)?;
-    let task = task(rt)?;
+    let (sender, receiver, task) = channel_and_task(rt, alloc, tally)?;
+    holds(receive_waits(rt, tally, &sender, &receiver, &task))
+}
+
+/// Whether a receive waits and is given a message, if need be the second one.
+fn receive_waits<R: Wait>(
+    rt: &R,
+    tally: &mut Tally,
+    sender: &AsyncSender<u64>,
+    receiver: &AsyncReceiver<u64>,
+    task: &MockTask,
+) -> bool {
     let mut receiving = receiver.recv();
-    let mut first = task.poll(&mut receiving);
-    if first == Poll::Ready(Err(ReceiveError::NoMemory)) {
-        tally.add();
-        holds(task.poll(&mut receiving) == Poll::Ready(Err(ReceiveError::Finished)))?;
-        holds(sender.try_send(rt, 1) == Ok(false) && receiver.receiver_count(rt) == 1)?;
-        receiving = receiver.recv();
-        first = task.poll(&mut receiving);
+    match task.poll(&mut receiving) {
+        Poll::Ready(Err(ReceiveError::NoMemory)) => {
+            tally.add();
+            task.poll(&mut receiving) == Poll::Ready(Err(ReceiveError::Finished))
+                && sender.try_send(rt, 1) == Ok(false)
+                && receiver.receiver_count(rt) == 1
+                && second_receive_waits(rt, sender, receiver, task)
+        },
+        Poll::Pending => receive_is_given(rt, sender, task, &mut receiving),
+        _ => false,
     }
-    holds(first == Poll::Pending)?;
-    holds(sender.try_send(rt, 3) == Ok(true))?;
-    holds(task.poll(&mut receiving) == Poll::Ready(Ok(3)))
+}
+
+/// Whether the second receive waits and is given a message.
+fn second_receive_waits<R: Wait>(
+    rt: &R,
+    sender: &AsyncSender<u64>,
+    receiver: &AsyncReceiver<u64>,
+    task: &MockTask,
+) -> bool {
+    let mut receiving = receiver.recv();
+    task.poll(&mut receiving) == Poll::Pending && receive_is_given(rt, sender, task, &mut receiving)
+}
+
+/// Whether the receive that waits is given a message.
+fn receive_is_given<R: Wait>(
+    rt: &R,
+    sender: &AsyncSender<u64>,
+    task: &MockTask,
+    receiving: &mut ReceiveFuture<'_, u64>,
+) -> bool {
+    sender.try_send(rt, 3) == Ok(true) && task.poll(receiving) == Poll::Ready(Ok(3))
 }
 
 /// A poll by another task. Where its waker is refused it is pending and asks to be polled again at
@@ -72,21 +175,54 @@ pub fn receive_changes_its_task<R: Wait + RandomSource + AllocGlobal>(
     alloc: Global,
     tally: &mut Tally,
 ) -> Option<()> {
-    let (sender, receiver) = task_channel::<u64>(alloc, tally, 0)?;
-    let (first, second) = (task(rt)?, task(rt)?);
+    let (sender, receiver, first, second) = channel_and_tasks(rt, alloc, tally)?;
     let mut receiving = receiver.recv();
-    if first.poll(&mut receiving) != Poll::Pending {
-        tally.add();
-        receiving = receiver.recv();
-        holds(first.poll(&mut receiving) == Poll::Pending)?;
+    holds(
+        receive_begins(tally, &receiver, &first, &mut receiving)
+            && receive_goes_on(tally, &second, &mut receiving)
+            && receive_wakes(rt, &sender, &second, &mut receiving),
+    )
+}
+
+/// Whether the receive waits, if need be a new one.
+fn receive_begins<'a>(
+    tally: &mut Tally,
+    receiver: &'a AsyncReceiver<u64>,
+    task: &MockTask,
+    receiving: &mut ReceiveFuture<'a, u64>,
+) -> bool {
+    if task.poll(receiving) == Poll::Pending {
+        return true;
     }
-    holds(second.poll(&mut receiving) == Poll::Pending)?;
-    if second.is_woken() {
-        tally.add();
-        holds(second.poll(&mut receiving) == Poll::Pending && !second.is_woken())?;
+    tally.add();
+    *receiving = receiver.recv();
+    task.poll(receiving) == Poll::Pending
+}
+
+/// Whether the receive waits on where this task polls it, if need be the second time.
+fn receive_goes_on(
+    tally: &mut Tally,
+    task: &MockTask,
+    receiving: &mut ReceiveFuture<'_, u64>,
+) -> bool {
+    let waits = task.poll(receiving) == Poll::Pending;
+    if !task.is_woken() {
+        return waits;
     }
-    holds(sender.try_send(rt, 3) == Ok(true) && second.is_woken())?;
-    holds(second.poll(&mut receiving) == Poll::Ready(Ok(3)))
+    tally.add();
+    waits && task.poll(receiving) == Poll::Pending && !task.is_woken()
+}
+
+/// Whether a message wakes the task of the receive, which is then given it.
+fn receive_wakes<R: Wait>(
+    rt: &R,
+    sender: &AsyncSender<u64>,
+    task: &MockTask,
+    receiving: &mut ReceiveFuture<'_, u64>,
+) -> bool {
+    sender.try_send(rt, 3) == Ok(true)
+        && task.is_woken()
+        && task.poll(receiving) == Poll::Ready(Ok(3))
 }
 
 /// The same of a send.
@@ -95,21 +231,50 @@ pub fn send_changes_its_task<R: Wait + RandomSource + AllocGlobal>(
     alloc: Global,
     tally: &mut Tally,
 ) -> Option<()> {
-    let (sender, receiver) = task_channel::<u64>(alloc, tally, 0)?;
-    let (first, second) = (task(rt)?, task(rt)?);
+    let (sender, receiver, first, second) = channel_and_tasks(rt, alloc, tally)?;
     let mut sending = sender.send(3);
-    if first.poll(&mut sending) != Poll::Pending {
-        tally.add();
-        sending = sender.send(3);
-        holds(first.poll(&mut sending) == Poll::Pending)?;
+    holds(
+        send_begins(tally, &sender, &first, &mut sending)
+            && send_goes_on(tally, &second, &mut sending)
+            && send_wakes(rt, &receiver, &second, &mut sending),
+    )
+}
+
+/// Whether the send waits, if need be a new one.
+fn send_begins<'a>(
+    tally: &mut Tally,
+    sender: &'a AsyncSender<u64>,
+    task: &MockTask,
+    sending: &mut SendFuture<'a, u64>,
+) -> bool {
+    if task.poll(sending) == Poll::Pending {
+        return true;
     }
-    holds(second.poll(&mut sending) == Poll::Pending)?;
-    if second.is_woken() {
-        tally.add();
-        holds(second.poll(&mut sending) == Poll::Pending && !second.is_woken())?;
+    tally.add();
+    *sending = sender.send(3);
+    task.poll(sending) == Poll::Pending
+}
+
+/// Whether the send waits on where this task polls it, if need be the second time.
+fn send_goes_on(tally: &mut Tally, task: &MockTask, sending: &mut SendFuture<'_, u64>) -> bool {
+    let waits = task.poll(sending) == Poll::Pending;
+    if !task.is_woken() {
+        return waits;
     }
-    holds(receiver.try_recv(rt) == Ok(Some(3)) && second.is_woken())?;
-    holds(second.poll(&mut sending) == Poll::Ready(Ok(())))
+    tally.add();
+    waits && task.poll(sending) == Poll::Pending && !task.is_woken()
+}
+
+/// Whether a receive wakes the task of the send, which is then told that its message was taken.
+fn send_wakes<R: Wait>(
+    rt: &R,
+    receiver: &AsyncReceiver<u64>,
+    task: &MockTask,
+    sending: &mut SendFuture<'_, u64>,
+) -> bool {
+    receiver.try_recv(rt) == Ok(Some(3))
+        && task.is_woken()
+        && task.poll(sending) == Poll::Ready(Ok(()))
 }
 
 /// A poll of a stream that finds no message. Where it is refused the stream ends and tells so.
@@ -118,17 +283,30 @@ pub fn stream_is_polled<R: Wait + RandomSource + AllocGlobal>(
     alloc: Global,
     tally: &mut Tally,
 ) -> Option<()> {
-    let (sender, receiver) = task_channel::<u64>(alloc, tally, 0)?;
-    let task = task(rt)?;
+    let (sender, receiver, task) = channel_and_task(rt, alloc, tally)?;
     let mut stream = receiver.stream();
+    holds(
+        stream_waits(tally, &receiver, &task, &mut stream)
+            && sender.try_send(rt, 3) == Ok(true)
+            && task.poll(&mut stream.next()) == Poll::Ready(Some(3)),
+    )
+}
+
+/// Whether the stream waits for a message, if need be a new one.
+fn stream_waits<'a>(
+    tally: &mut Tally,
+    receiver: &'a AsyncReceiver<u64>,
+    task: &MockTask,
+    stream: &mut ReceiveStream<'a, u64>,
+) -> bool {
     let mut first = task.poll(&mut stream.next());
     if first == Poll::Ready(None) {
         tally.add();
-        holds(stream.fault() == Some(&ReceiveError::NoMemory))?;
-        stream = receiver.stream();
+        if stream.fault() != Some(&ReceiveError::NoMemory) {
+            return false;
+        }
+        *stream = receiver.stream();
         first = task.poll(&mut stream.next());
     }
-    holds(first == Poll::Pending && stream.fault().is_none())?;
-    holds(sender.try_send(rt, 3) == Ok(true))?;
-    holds(task.poll(&mut stream.next()) == Poll::Ready(Some(3)))
+    first == Poll::Pending && stream.fault().is_none()
 }

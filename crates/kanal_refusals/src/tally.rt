@@ -1,7 +1,7 @@
 //! What the tested calls came to.
 
 /// How many of the tested calls were refused for memory.
-#[derive(Clone, Copy, Debug, PartialEq, Eq)]
+#[derive(Clone, Copy)]
 pub struct Tally {
     refused: u32,
 }

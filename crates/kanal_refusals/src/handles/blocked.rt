@@ -51,6 +51,28 @@ fn start_take<R: Threads + Wait + Copy + Send + 'static>(
     Ok(thread)
 }
 
+/// A thread that hands a message over, started again where it was refused.
+fn giver<R: Threads + Wait + Copy + Send + 'static>(
+    rt: R,
+    sender: &Sender<u64>,
+) -> Option<JoinHandle<bool>> {
+    match start_give(rt, sender.clone(&rt).ok()?) {
+        Err(_refused) => start_give(rt, sender.clone(&rt).ok()?).ok(),
+        Ok(thread) => Some(thread),
+    }
+}
+
+/// A thread that takes a message, started again where it was refused.
+fn taker<R: Threads + Wait + Copy + Send + 'static>(
+    rt: R,
+    receiver: &Receiver<Counted>,
+) -> Option<JoinHandle<bool>> {
+    match start_take(rt, receiver.clone(&rt).ok()?) {
+        Err(_refused) => start_take(rt, receiver.clone(&rt).ok()?).ok(),
+        Ok(thread) => Some(thread),
+    }
+}
+
 /// A receive that waits.
 pub fn recv_waits<R: Threads + Wait + Copy + Send + 'static>(
     rt: R,
@@ -58,20 +80,25 @@ pub fn recv_waits<R: Threads + Wait + Copy + Send + 'static>(
     tally: &mut Tally,
 ) -> Option<()> {
     let (sender, receiver) = channel::<u64>(alloc, tally, 0)?;
-    let theirs = sender.clone(&rt).ok()?;
-    let thread = match start_give(rt, theirs) {
-        Err(_refused) => start_give(rt, sender).ok()?,
-        Ok(thread) => thread,
-    };
-    let got = match receiver.recv(&rt) {
-        Err(ReceiveError::NoMemory) => {
-            tally.add();
-            receiver.recv(&rt)
-        },
-        got => got,
-    };
+    let thread = giver(rt, &sender)?;
+    let got = receive(&rt, tally, &receiver);
     let gave = thread.join(&rt);
     holds(gave && got == Ok(7))
+}
+
+/// What a receive is answered, if need be the second time.
+fn receive<R: Wait>(
+    rt: &R,
+    tally: &mut Tally,
+    receiver: &Receiver<u64>,
+) -> Result<u64, ReceiveError> {
+    match receiver.recv(rt) {
+        Err(ReceiveError::NoMemory) => {
+            tally.add();
+            receiver.recv(rt)
+        },
+        got => got,
+    }
 }
 
 /// A send that waits. Where it is refused its message is dropped once.
@@ -82,21 +109,27 @@ pub fn send_waits<R: Threads + Wait + Copy + Send + 'static>(
 ) -> Option<()> {
     let drops = Drops::new(alloc)?;
     let (sender, receiver) = channel::<Counted>(alloc, tally, 0)?;
-    let theirs = receiver.clone(&rt).ok()?;
-    let thread = match start_take(rt, theirs) {
-        Err(_refused) => start_take(rt, receiver).ok()?,
-        Ok(thread) => thread,
-    };
-    let mut messages = 1;
-    let sent = match sender.send(&rt, drops.message()?) {
+    let thread = taker(rt, &receiver)?;
+    let messages = send(&rt, tally, &sender, &drops);
+    let took = thread.join(&rt);
+    holds(took && messages == Some(drops.count()))
+}
+
+/// How many messages it took until one was sent.
+fn send<R: Wait>(
+    rt: &R,
+    tally: &mut Tally,
+    sender: &Sender<Counted>,
+    drops: &Drops,
+) -> Option<u64> {
+    match sender.send(rt, drops.message()?) {
+        Ok(()) => Some(1),
         Err(SendError::NoMemory) => {
             tally.add();
-            messages = 2;
             holds(drops.count() == 1)?;
-            sender.send(&rt, drops.message()?)
+            sender.send(rt, drops.message()?).ok()?;
+            Some(2)
         },
-        sent => sent,
-    };
-    let took = thread.join(&rt);
-    holds(took && sent == Ok(()) && drops.count() == messages)
+        Err(_other) => None,
+    }
 }

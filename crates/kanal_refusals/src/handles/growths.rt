@@ -13,7 +13,7 @@ use std::time;
 use std::time::Duration;
 
 /// The forms of a send.
-#[derive(Clone, Copy, PartialEq, Eq)]
+#[derive(Clone, Copy)]
 enum Form {
     Send,
     TrySend,
@@ -126,15 +126,30 @@ fn grows_by<R: Wait + time::Clock>(
 ) -> Option<()> {
     let drops = Drops::new(alloc)?;
     let (sender, receiver) = unlimited::<Counted>(alloc, tally)?;
+    holds(ten_enter(rt, tally, &sender, &drops, form) && receiver.len(rt) == 10)
+}
+
+/// Whether ten messages enter, and a refused one was dropped once, or kept by its option.
+fn ten_enter<R: Wait + time::Clock>(
+    rt: &R,
+    tally: &mut Tally,
+    sender: &Sender<Counted>,
+    drops: &Drops,
+    form: Form,
+) -> bool {
     let mut refused = 0;
     for _ in 0..10 {
-        if !enters(rt, &sender, &drops, form)? {
-            refused = 1;
-            tally.add();
+        match enters(rt, sender, drops, form) {
+            Some(true) => {},
+            Some(false) => {
+                refused = 1;
+                tally.add();
+            },
+            None => return false,
         }
     }
     let dropped_once = if form.keeps() { 0 } else { refused };
-    holds(receiver.len(rt) == 10 && drops.count() == dropped_once)
+    drops.count() == dropped_once
 }
 
 /// Whether the message entered at once; where it found no memory it is sent again, and nothing else

@@ -8,7 +8,7 @@ use std::alloc::Global;
 use std::sync::Wait;
 
 /// Who makes a call.
-#[derive(Clone, Copy, PartialEq, Eq)]
+#[derive(Clone, Copy)]
 enum Party {
     A,
     B,
@@ -64,16 +64,41 @@ const CALLS: &[Call] = &[
 /// end.
 pub fn call_all<R: Wait>(rt: &R, alloc: Global, tally: &mut Tally) -> Option<()> {
     let channel = recorded(alloc, tally)?;
-    let (mut a, mut b) = (channel.pass(rt).ok()?, channel.pass(rt).ok()?);
-    for (party, event, reply) in CALLS {
-        let pass = match party {
-            Party::A => &mut a,
-            Party::B => &mut b,
-        };
-        replies(rt, &channel, pass, tally, *event, *reply)?;
-    }
-    let journal = channel.finish(both(alloc, a, b)?).ok()?;
+    let passes = called(rt, alloc, &channel, tally)?;
+    let journal = channel.finish(passes).ok()?;
     holds(journal.entries.len() == CALLS.len())
+}
+
+/// Both passes, by which all calls were made.
+fn called<R: Wait>(
+    rt: &R,
+    alloc: Global,
+    channel: &Recorded<u64>,
+    tally: &mut Tally,
+) -> Option<Vec<Pass<u64>>> {
+    let (mut a, mut b) = (channel.pass(rt).ok()?, channel.pass(rt).ok()?);
+    holds(all_reply(rt, channel, &mut a, &mut b, tally))?;
+    both(alloc, a, b)
+}
+
+/// Whether each call is answered as it must.
+fn all_reply<R: Wait>(
+    rt: &R,
+    channel: &Recorded<u64>,
+    a: &mut Pass<u64>,
+    b: &mut Pass<u64>,
+    tally: &mut Tally,
+) -> bool {
+    for (party, event, reply) in CALLS {
+        let answered = match party {
+            Party::A => replies(rt, channel, a, tally, *event, *reply),
+            Party::B => replies(rt, channel, b, tally, *event, *reply),
+        };
+        if answered.is_none() {
+            return false;
+        }
+    }
+    true
 }
 
 /// A recorded channel for one message.

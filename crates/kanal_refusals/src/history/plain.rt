@@ -213,12 +213,17 @@ impl PlainLine {
         })
     }
 
+    /// Where the oldest message is whose sender waits.
+    fn first_waiting(&self) -> Option<usize> {
+        self.line.iter().position(|entry| entry.ticket.is_some())
+    }
+
     /// The sender of what was taken is done, or else the oldest that waits has its place.
     fn let_one_in(&mut self, ticket: Option<u64>) -> Option<()> {
         if let Some(ticket) = ticket {
             return self.settle(ticket, Outcome::Taken);
         }
-        let Some(place) = self.line.iter().position(|entry| entry.ticket.is_some()) else {
+        let Some(place) = self.first_waiting() else {
             return Some(());
         };
         let Some(entry) = self.line.get_mut(place) else {
@@ -308,7 +313,7 @@ impl PlainLine {
 
     fn end_sends(&mut self, reason: Reason) -> Option<()> {
         for _ in 0..self.line.len() {
-            let Some(place) = self.line.iter().position(|entry| entry.ticket.is_some()) else {
+            let Some(place) = self.first_waiting() else {
                 break;
             };
             if place >= self.line.len() {

@@ -14,7 +14,7 @@ use kanal_journal::journal::{Entry, Event, Journal, RecordedState, Reply, Settle
 use std::alloc::{AllocError, Global};
 
 /// What an entry is beside its words.
-#[derive(Clone, Copy, Debug, PartialEq, Eq)]
+#[derive(Clone, Copy)]
 pub enum Mark {
     /// It was answered as asked.
     Plain,

@@ -7,7 +7,7 @@ use std::alloc::{AllocError, AllocFailed, Global};
 const SHOWN: usize = 8;
 
 /// A place in the picture: a row in a party's lane, and the slot of a wait there. An entry has slot 0.
-#[derive(Clone, Copy, Debug, PartialEq, Eq)]
+#[derive(Clone, Copy)]
 pub struct Spot {
     pub row: usize,
     pub party: u32,
@@ -15,14 +15,14 @@ pub struct Spot {
 }
 
 /// The way of a message, from the entry that sent it to its receive.
-#[derive(Clone, Copy, Debug, PartialEq, Eq, Drop)]
+#[derive(Clone, Copy, Drop)]
 pub struct Arrow {
     pub from: Spot,
     pub to: Spot,
 }
 
 /// A message in the line.
-#[derive(Clone, Copy, Debug, PartialEq, Eq, Drop)]
+#[derive(Clone, Copy, Drop)]
 struct Sent {
     from: Spot,
     message: u64,

@@ -5,7 +5,7 @@
 use std::alloc::{AllocFailed, Global};
 
 /// What became of a wait.
-#[derive(Clone, Copy, Debug, PartialEq, Eq)]
+#[derive(Clone, Copy, PartialEq, Eq)]
 pub enum Ending {
     /// Its message was taken, or it was given one.
     Served,
@@ -14,14 +14,14 @@ pub enum Ending {
 }
 
 /// Where a wait was settled, and how.
-#[derive(Clone, Copy, Debug, PartialEq, Eq)]
+#[derive(Clone, Copy)]
 pub struct End {
     pub row: usize,
     pub ending: Ending,
 }
 
 /// One wait.
-#[derive(Clone, Copy, Debug, PartialEq, Eq, Drop)]
+#[derive(Clone, Copy, Drop)]
 pub struct Wait {
     pub ticket: u64,
     pub party: u32,
@@ -32,7 +32,7 @@ pub struct Wait {
 }
 
 /// What a row shows of a slot.
-#[derive(Clone, Copy, Debug, PartialEq, Eq)]
+#[derive(Clone, Copy, PartialEq, Eq)]
 pub enum Bar {
     /// No wait has it.
     Free,

@@ -38,9 +38,7 @@ pub use error::{
     CloseError, DrainError, NewError, NoMemory, ReceiveError, ReceiveErrorTimeout, SendError,
     SendErrorTimeout, TooMany, WaitError,
 };
-pub use kanal_shared::{
-    Clock, ReceiveFuture, ReceiveStream, SendFuture, SystemClock, TestClock,
-};
+pub use kanal_shared::{Clock, ReceiveFuture, ReceiveStream, SendFuture, SystemClock, TestClock};
 pub use messages::Messages;
 pub use receiver::Receiver;
 pub use receiver_view::ReceiverView;

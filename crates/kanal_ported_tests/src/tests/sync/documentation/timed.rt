@@ -14,7 +14,11 @@ fn long() -> Duration {
 
 /// Sends the message.
 fn send_timed<T: Drop, R: Wait + time::Clock + Abort>(rt: &R, s: &Sender<T>, message: T) {
-    equal(rt, s.send_timeout(rt, message, long(), &TestClock::still(0)), Ok(()));
+    equal(
+        rt,
+        s.send_timeout(rt, message, long(), &TestClock::still(0)),
+        Ok(()),
+    );
 }
 
 /// Sends the message of an option, which is empty then.

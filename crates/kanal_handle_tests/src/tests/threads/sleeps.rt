@@ -6,7 +6,7 @@ use std::process::Abort;
 use std::thread;
 
 /// How often the system is asked before the test fails.
-const LOOKS: u32 = 1_000_000;
+const LOOKS: u32 = 20_000;
 
 /// How often in a row the thread is to be found asleep, so that no short wait for the lock counts.
 const IN_A_ROW: u32 = 100;

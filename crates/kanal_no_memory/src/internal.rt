@@ -1,5 +1,5 @@
 //! Calls of the channel's core, whose room was made before them.
-use kanal_core::internal::{ChannelInternal, Offer, Steps, Take, Ticket};
+use kanal_core::internal::{ChannelInternal, Closing, Offer, Steps, Take, Ticket};
 use std::alloc::Global;
 use std::marker::Brand;
 
@@ -132,4 +132,23 @@ fn drains_two(core: &mut Core, alloc: Global, makes_calls: bool) -> bool {
     !makes_calls
         || (matches!(core.drain_into(&mut messages), Ok((2, _)))
             && messages.as_slice() == [1, 2].as_slice())
+}
+
+/// A close with a message in the buffer and a sender that waits.
+pub fn full_close(alloc: Global, makes_calls: bool) -> bool {
+    let Ok(mut core) = Core::new(alloc, 1) else {
+        return false;
+    };
+    fills(&mut core) && (!makes_calls || closes_full(&mut core))
+}
+
+/// The close clears the buffer, and ends the wait.
+fn closes_full(core: &mut Core) -> bool {
+    match core.close() {
+        Ok(Closing { cleared, ended }) => {
+            let (mut cleared, mut ended) = (cleared, ended);
+            cleared.next() == Some(1) && ended.next().is_some() && ended.next().is_none()
+        },
+        Err(_refused) => false,
+    }
 }

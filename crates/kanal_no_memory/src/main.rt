@@ -7,6 +7,7 @@
 
 mod cell;
 mod handles;
+mod held;
 mod history;
 mod internal;
 mod polls;
@@ -26,6 +27,7 @@ fn below_the_lock(alloc: Global, makes_calls: bool) -> bool {
         && internal::last_drop(alloc, makes_calls)
         && internal::questions(alloc, makes_calls)
         && internal::drains(alloc, makes_calls)
+        && internal::full_close(alloc, makes_calls)
         && cell::settled(alloc, makes_calls)
         && cell::slept(alloc, makes_calls)
         && cell::left(alloc, makes_calls)
@@ -44,6 +46,8 @@ fn above_the_lock<R: Wait + RandomSource + AllocGlobal>(
         && polls::first_polls(rt, alloc, makes_calls)
         && polls::an_outcome(rt, alloc, makes_calls)
         && polls::a_drop(rt, alloc, makes_calls)
+        && held::a_notice(rt, alloc, makes_calls)
+        && cell::wakers(rt, alloc, makes_calls)
         && history::a_check(rt, alloc, makes_calls)
 }
 

@@ -15,7 +15,7 @@ mod polls;
 mod pool;
 mod tally;
 
-use handles::{blocked, calls, growths, timed};
+use handles::{beside, blocked, calls, growths, timed};
 use history::{lists, passes};
 use std::alloc::{AllocGlobal, Global};
 use std::process::ExitCode;
@@ -45,7 +45,7 @@ fn on_one_thread<R: Wait + time::Clock>(rt: &R, alloc: Global, tally: &mut Tally
 }
 
 /// Polls.
-fn in_tasks<R: Wait + RandomSource + AllocGlobal>(
+fn in_tasks<R: Wait + RandomSource + AllocGlobal + time::Clock>(
     rt: &R,
     alloc: Global,
     tally: &mut Tally,
@@ -54,7 +54,9 @@ fn in_tasks<R: Wait + RandomSource + AllocGlobal>(
     polls::receive_is_polled(rt, alloc, tally)?;
     polls::send_changes_its_task(rt, alloc, tally)?;
     polls::receive_changes_its_task(rt, alloc, tally)?;
-    polls::stream_is_polled(rt, alloc, tally)
+    polls::stream_is_polled(rt, alloc, tally)?;
+    beside::sends(rt, alloc, tally)?;
+    beside::receives(rt, alloc, tally)
 }
 
 fn main(rt: HostRuntime) -> ExitCode {

@@ -1,6 +1,6 @@
 //! Polls that start a wait, and one that brings another task's waker.
 use crate::handles::calls::task_channel;
-use crate::messages::{Counted, Drops};
+use crate::messages::{Counted, Drops, no_drops};
 use crate::tally::{Tally, holds};
 use futures::StreamExt;
 use futures::task::Poll;
@@ -12,7 +12,7 @@ use std::random::RandomSource;
 use std::sync::Wait;
 
 /// A task that is polled by hand, asked for again where it was refused.
-fn task<R: RandomSource + AllocGlobal>(rt: &R) -> Option<MockTask> {
+pub fn task<R: RandomSource + AllocGlobal>(rt: &R) -> Option<MockTask> {
     match MockTask::new(rt) {
         Err(_refused) => MockTask::new(rt).ok(),
         made => made.ok(),
@@ -48,7 +48,7 @@ pub fn send_is_polled<R: Wait + RandomSource + AllocGlobal>(
     alloc: Global,
     tally: &mut Tally,
 ) -> Option<()> {
-    let drops = Drops::new(alloc)?;
+    let drops = no_drops(alloc)?;
     let (sender, receiver, task) = channel_and_task(rt, alloc, tally)?;
     holds(send_waits(rt, tally, &drops, &sender, &receiver, &task))
 }
@@ -62,7 +62,7 @@ fn send_waits<R: Wait>(
     receiver: &AsyncReceiver<Counted>,
     task: &MockTask,
 ) -> bool {
-    let Some(message) = drops.message() else {
+    let Ok(message) = drops.message() else {
         return false;
     };
     let mut sending = sender.send(message);
@@ -87,7 +87,7 @@ fn second_send_waits<R: Wait>(
     receiver: &AsyncReceiver<Counted>,
     task: &MockTask,
 ) -> bool {
-    let Some(message) = drops.message() else {
+    let Ok(message) = drops.message() else {
         return false;
     };
     let mut sending = sender.send(message);
@@ -185,7 +185,7 @@ pub fn receive_changes_its_task<R: Wait + RandomSource + AllocGlobal>(
 }
 
 /// Whether the receive waits, if need be a new one.
-fn receive_begins<'a>(
+pub fn receive_begins<'a>(
     tally: &mut Tally,
     receiver: &'a AsyncReceiver<u64>,
     task: &MockTask,
@@ -241,7 +241,7 @@ pub fn send_changes_its_task<R: Wait + RandomSource + AllocGlobal>(
 }
 
 /// Whether the send waits, if need be a new one.
-fn send_begins<'a>(
+pub fn send_begins<'a>(
     tally: &mut Tally,
     sender: &'a AsyncSender<u64>,
     task: &MockTask,

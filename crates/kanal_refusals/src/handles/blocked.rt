@@ -1,7 +1,7 @@
 //! Calls that wait for another thread. With no buffer that thread's call meets a wait and nothing
 //! else, so each of these calls makes all that a wait needs.
 use super::calls::channel;
-use crate::messages::{Counted, Drops};
+use crate::messages::{Counted, Drops, no_drops};
 use crate::tally::{Tally, holds};
 use kanal::error::{ReceiveError, SendError};
 use kanal::{Receiver, Sender};
@@ -107,7 +107,7 @@ pub fn send_waits<R: Threads + Wait + Copy + Send + 'static>(
     alloc: Global,
     tally: &mut Tally,
 ) -> Option<()> {
-    let drops = Drops::new(alloc)?;
+    let drops = no_drops(alloc)?;
     let (sender, receiver) = channel::<Counted>(alloc, tally, 0)?;
     let thread = taker(rt, &receiver)?;
     let messages = send(&rt, tally, &sender, &drops);
@@ -122,12 +122,12 @@ fn send<R: Wait>(
     sender: &Sender<Counted>,
     drops: &Drops,
 ) -> Option<u64> {
-    match sender.send(rt, drops.message()?) {
+    match sender.send(rt, drops.message().ok()?) {
         Ok(()) => Some(1),
         Err(SendError::NoMemory) => {
             tally.add();
             holds(drops.count() == 1)?;
-            sender.send(rt, drops.message()?).ok()?;
+            sender.send(rt, drops.message().ok()?).ok()?;
             Some(2)
         },
         Err(_other) => None,

@@ -2,11 +2,10 @@
 //!
 //! A refused send drops its message once, and an option keeps it; the channel is as it was.
 use super::calls::unlimited;
-use super::timed::Still;
-use crate::messages::{Counted, Drops};
+use crate::messages::{Counted, Drops, no_drops};
 use crate::tally::{Tally, holds};
-use kanal::Sender;
 use kanal::error::{SendError, SendErrorTimeout};
+use kanal::{Sender, TestClock};
 use std::alloc::Global;
 use std::sync::Wait;
 use std::time;
@@ -67,7 +66,7 @@ impl Form {
         let sent = match self {
             Form::TrySendOption => tried(sender.try_send_option(rt, &mut option)),
             Form::TrySendOptionRealtime => tried(sender.try_send_option_realtime(&mut option)),
-            _ => timed(sender.send_option_timeout(rt, &mut option, now, &Still)),
+            _ => timed(sender.send_option_timeout(rt, &mut option, now, &TestClock::still(0))),
         };
         (sent, option)
     }
@@ -83,7 +82,7 @@ impl Form {
         match self {
             Form::TrySend => tried(sender.try_send(rt, message)),
             Form::TrySendRealtime => tried(sender.try_send_realtime(message)),
-            Form::SendTimeout => timed(sender.send_timeout(rt, message, now, &Still)),
+            Form::SendTimeout => timed(sender.send_timeout(rt, message, now, &TestClock::still(0))),
             _ => match sender.send(rt, message) {
                 Ok(()) => Sent::Entered,
                 Err(SendError::NoMemory) => Sent::NoMemory,
@@ -124,7 +123,7 @@ fn grows_by<R: Wait + time::Clock>(
     tally: &mut Tally,
     form: Form,
 ) -> Option<()> {
-    let drops = Drops::new(alloc)?;
+    let drops = no_drops(alloc)?;
     let (sender, receiver) = unlimited::<Counted>(alloc, tally)?;
     holds(ten_enter(rt, tally, &sender, &drops, form) && receiver.len(rt) == 10)
 }
@@ -165,7 +164,7 @@ fn enters<R: Wait + time::Clock>(
         sender.sender_count(rt),
         sender.receiver_count(rt),
     );
-    match form.send(rt, sender, drops.message()?) {
+    match form.send(rt, sender, drops.message().ok()?) {
         (Sent::Entered, _none) => Some(true),
         (Sent::Otherwise, _back) => None,
         (Sent::NoMemory, back) => {
@@ -177,7 +176,7 @@ fn enters<R: Wait + time::Clock>(
             holds(before == after && back.is_some() == form.keeps())?;
             let message = match back {
                 Some(message) => message,
-                None => drops.message()?,
+                None => drops.message().ok()?,
             };
             let (sent, _none) = form.send(rt, sender, message);
             holds(sent == Sent::Entered)?;

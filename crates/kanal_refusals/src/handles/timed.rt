@@ -1,22 +1,13 @@
 //! Waits that time out at once, on a clock that stands still: all of a wait is made, and withdrawn.
 use super::calls::channel;
-use crate::messages::{Counted, Drops};
+use crate::messages::{Counted, Drops, no_drops};
 use crate::tally::{Tally, holds};
 use kanal::error::{ReceiveErrorTimeout, SendErrorTimeout};
-use kanal::{Clock, Receiver, Sender};
+use kanal::{Receiver, Sender, TestClock};
 use std::alloc::Global;
 use std::sync::Wait;
 use std::time;
 use std::time::Duration;
-
-/// A clock that stands still.
-pub struct Still;
-
-impl Clock for Still {
-    fn now(&self) -> u64 {
-        0
-    }
-}
 
 /// A send to a full channel, whose option keeps the message.
 pub fn send_option_times_out<R: Wait + time::Clock>(
@@ -42,13 +33,13 @@ fn option_is_kept<R: Wait + time::Clock>(
 ) -> bool {
     let mut option = Some(7);
     let now = Duration::from_nanos(0);
-    let answer = match sender.send_option_timeout(rt, &mut option, now, &Still) {
+    let answer = match sender.send_option_timeout(rt, &mut option, now, &TestClock::still(0)) {
         Err(SendErrorTimeout::NoMemory) => {
             tally.add();
             if option != Some(7) || receiver.len(rt) != 1 {
                 return false;
             }
-            sender.send_option_timeout(rt, &mut option, now, &Still)
+            sender.send_option_timeout(rt, &mut option, now, &TestClock::still(0))
         },
         answer => answer,
     };
@@ -61,7 +52,7 @@ pub fn send_times_out<R: Wait + time::Clock>(
     alloc: Global,
     tally: &mut Tally,
 ) -> Option<()> {
-    let drops = Drops::new(alloc)?;
+    let drops = no_drops(alloc)?;
     let (sender, receiver) = channel::<Counted>(alloc, tally, 0)?;
     holds(
         message_is_dropped(rt, tally, &sender, &receiver, &drops)
@@ -96,8 +87,8 @@ fn send_late<R: Wait + time::Clock>(
     sender: &Sender<Counted>,
     drops: &Drops,
 ) -> Option<Result<(), SendErrorTimeout>> {
-    let message = drops.message()?;
-    Some(sender.send_timeout(rt, message, Duration::from_nanos(0), &Still))
+    let message = drops.message().ok()?;
+    Some(sender.send_timeout(rt, message, Duration::from_nanos(0), &TestClock::still(0)))
 }
 
 /// A receive from an empty channel, which then hands the next message to the next receive.
@@ -111,7 +102,7 @@ pub fn recv_times_out<R: Wait + time::Clock>(
     holds(
         finds_nothing(rt, tally, &receiver)
             && sender.send(rt, 5) == Ok(())
-            && receiver.recv_timeout(rt, now, &Still) == Ok(5),
+            && receiver.recv_timeout(rt, now, &TestClock::still(0)) == Ok(5),
     )
 }
 
@@ -122,13 +113,13 @@ fn finds_nothing<R: Wait + time::Clock>(
     receiver: &Receiver<u64>,
 ) -> bool {
     let now = Duration::from_nanos(0);
-    let answer = match receiver.recv_timeout(rt, now, &Still) {
+    let answer = match receiver.recv_timeout(rt, now, &TestClock::still(0)) {
         Err(ReceiveErrorTimeout::NoMemory) => {
             tally.add();
             if !receiver.is_empty(rt) || receiver.receiver_count(rt) != 1 {
                 return false;
             }
-            receiver.recv_timeout(rt, now, &Still)
+            receiver.recv_timeout(rt, now, &TestClock::still(0))
         },
         answer => answer,
     };

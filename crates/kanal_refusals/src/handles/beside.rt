@@ -1,0 +1,127 @@
+//! Calls that start a wait and are refused while another waits: that one stays in the line with all else as
+//! it was, and is served afterwards.
+use super::calls::task_channel;
+use crate::polls::{receive_begins, send_begins, task};
+use crate::tally::{Tally, holds};
+use futures::task::Poll;
+use futures::test::MockTask;
+use kanal::error::{ReceiveError, ReceiveErrorTimeout, SendError, SendErrorTimeout};
+use kanal::{AsyncReceiver, AsyncSender, TestClock};
+use std::alloc::{AllocGlobal, Global};
+use std::random::RandomSource;
+use std::sync::Wait;
+use std::time;
+use std::time::Duration;
+
+/// The two sends beside one that waits: until a deadline, and by a poll.
+pub fn sends<R: Wait + RandomSource + AllocGlobal + time::Clock>(
+    rt: &R,
+    alloc: Global,
+    tally: &mut Tally,
+) -> Option<()> {
+    let (sender, receiver) = task_channel::<u64>(alloc, tally, 0)?;
+    let (first, second) = (task(rt)?, task(rt)?);
+    let mut waiting = sender.send(3);
+    holds(
+        send_begins(tally, &sender, &first, &mut waiting)
+            && late_send(rt, tally, &sender)
+            && polled_send(rt, tally, &sender, &second)
+            && receiver.try_recv(rt) == Ok(Some(3))
+            && first.poll(&mut waiting) == Poll::Ready(Ok(()))
+            && receiver.try_recv(rt) == Ok(None),
+    )
+}
+
+/// Whether the line is as it was: nothing is in the buffer, and each side has its handle.
+fn is_as_it_was<R: Wait>(rt: &R, sender: &AsyncSender<u64>) -> bool {
+    sender.len(rt) == 0 && sender.sender_count(rt) == 1 && sender.receiver_count(rt) == 1
+}
+
+/// Whether a send is late beside the one that waits, if need be the second time.
+fn late_send<R: Wait + time::Clock>(rt: &R, tally: &mut Tally, sender: &AsyncSender<u64>) -> bool {
+    let now = Duration::from_nanos(0);
+    let view = sender.as_sync();
+    let answer = match view.send_timeout(rt, 4, now, &TestClock::still(0)) {
+        Err(SendErrorTimeout::NoMemory) => {
+            tally.add();
+            if !is_as_it_was(rt, sender) {
+                return false;
+            }
+            view.send_timeout(rt, 4, now, &TestClock::still(0))
+        },
+        answer => answer,
+    };
+    answer == Err(SendErrorTimeout::Timeout)
+}
+
+/// Whether a send is polled beside the one that waits, and waits too or is refused; then it is dropped.
+fn polled_send<R: Wait>(
+    rt: &R,
+    tally: &mut Tally,
+    sender: &AsyncSender<u64>,
+    task: &MockTask,
+) -> bool {
+    let polled = task.poll(&mut sender.send(5));
+    if polled == Poll::Ready(Err(SendError::NoMemory)) {
+        tally.add();
+        return is_as_it_was(rt, sender);
+    }
+    polled == Poll::Pending && is_as_it_was(rt, sender)
+}
+
+/// The two receives beside one that waits: until a deadline, and by a poll.
+pub fn receives<R: Wait + RandomSource + AllocGlobal + time::Clock>(
+    rt: &R,
+    alloc: Global,
+    tally: &mut Tally,
+) -> Option<()> {
+    let (sender, receiver) = task_channel::<u64>(alloc, tally, 0)?;
+    let (first, second) = (task(rt)?, task(rt)?);
+    let mut waiting = receiver.recv();
+    holds(
+        receive_begins(tally, &receiver, &first, &mut waiting)
+            && late_receive(rt, tally, &sender, &receiver)
+            && polled_receive(rt, tally, &sender, &receiver, &second)
+            && sender.try_send(rt, 7) == Ok(true)
+            && first.poll(&mut waiting) == Poll::Ready(Ok(7))
+            && sender.try_send(rt, 8) == Ok(false),
+    )
+}
+
+/// Whether a receive is late beside the one that waits, if need be the second time.
+fn late_receive<R: Wait + time::Clock>(
+    rt: &R,
+    tally: &mut Tally,
+    sender: &AsyncSender<u64>,
+    receiver: &AsyncReceiver<u64>,
+) -> bool {
+    let now = Duration::from_nanos(0);
+    let view = receiver.as_sync();
+    let answer = match view.recv_timeout(rt, now, &TestClock::still(0)) {
+        Err(ReceiveErrorTimeout::NoMemory) => {
+            tally.add();
+            if !is_as_it_was(rt, sender) {
+                return false;
+            }
+            view.recv_timeout(rt, now, &TestClock::still(0))
+        },
+        answer => answer,
+    };
+    answer == Err(ReceiveErrorTimeout::Timeout)
+}
+
+/// Whether a receive is polled beside the one that waits, and waits too or is refused; then it is dropped.
+fn polled_receive<R: Wait>(
+    rt: &R,
+    tally: &mut Tally,
+    sender: &AsyncSender<u64>,
+    receiver: &AsyncReceiver<u64>,
+    task: &MockTask,
+) -> bool {
+    let polled = task.poll(&mut receiver.recv());
+    if polled == Poll::Ready(Err(ReceiveError::NoMemory)) {
+        tally.add();
+        return is_as_it_was(rt, sender);
+    }
+    polled == Poll::Pending && is_as_it_was(rt, sender)
+}

@@ -1,5 +1,5 @@
 //! Two threads exchange messages on a channel with one history, and a third party, which made none of
-//! their calls, says in its contract that what was received is what was sent, in order.
+//! their calls, says in its contract that in their history the i-th kept message went to the i-th kept receive.
 #![tactic(auto)]
 
 mod exchange;

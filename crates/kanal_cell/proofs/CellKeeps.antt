@@ -11,6 +11,7 @@ use Rattle.kanal_cell.specs.declared.signal.rule.Role.TheVariants.{Maker, Waiter
 use Rattle.kanal_cell.specs.declared.signal.rule.View.{View}
 use Rattle.kanal_cell.specs.declared.signal.rule.Held.{Held}
 use Rattle.kanal_cell.specs.CellRule.{Slot, Seated, bits, number, fresh, stepped_to, after_settle, after_sleep, implies, is_within, word_bits, agreement, agree, Recalls, is_home, is_asleep, LiesIf, IsOutcome, IsSleeper, OutcomeLies, cell_state, IsKept, TookIf, waiter_began, settler_began, settled, slept, polled, quit, Carries}
+use Rattle.kanal_cell.proofs.CellWord.{ended_set, or_left, or_ended, or_sleeping, left_of, set_of, sleeping_unset}
 use Rattle.kanal_cell.proofs.CellBools.{and_left, and_right, both, follows, implied, bool_case, not_true, and_false, false_not, same_bool, within_all, within_trans}
 
 -- a poll finds the outcome at home
@@ -114,6 +115,7 @@ recalls_wait sl le w t r agreed grown = record {
   settler_found = within_trans t.found (word_bits w t) (bits sl t.set.ended le) r.settler_found grown;
   waiter_set = r.waiter_set;
   settler_set = r.settler_set;
+  settler_new = r.settler_new;
 }
 
 -- and after the settler's
@@ -126,6 +128,7 @@ recalls_settle w t r going = let grown : is_within (word_bits w t) (bits w.set.s
   settler_found = grown;
   waiter_set = r.waiter_set;
   settler_set = r.settler_set;
+  settler_new = λ e. absurd (true≢false e);
 }
 
 module _ {P : Type 0} where
@@ -212,21 +215,6 @@ module _ {P : Type 0} where
       (within_all (word_bits w t) (word_bits w t) (implied w.set.sleeping w.set.sleeping (λ e. e)) (implied t.set.ended t.set.ended (λ e. e)) (implied w.set.left w.set.left (λ e. e)))
       (λ d took. (word_bits w t, refl, refl, took)))
 
--- what a bit of the word that was found shows
-pub ended_set : (s e l : Bool) → (bit_and (number (bits s e l)) 2 ≡ 0 → ⊥) → e ≡ true
-ended_set s true l n = refl
-ended_set true false true n = absurd (n refl)
-ended_set true false false n = absurd (n refl)
-ended_set false false true n = absurd (n refl)
-ended_set false false false n = absurd (n refl)
-
-pub ended_unset : (s e l : Bool) → bit_and (number (bits s e l)) 2 ≡ 0 → e ≡ false
-ended_unset s false l n = refl
-ended_unset true true true n = absurd (omega arith)
-ended_unset true true false n = absurd (omega arith)
-ended_unset false true true n = absurd (omega arith)
-ended_unset false true false n = absurd (omega arith)
-
 module _ {P : Type 0} where
   pub took_outcome : (k : ℕ) (kind : Held P → Type 0) (b : Bool) (c d : List (ℕ × Slot P)) → b ≡ true → TookIf b k kind c d → Carries k kind d
   took_outcome k kind b c d e t = let x = subst (λ v. TookIf v k kind c d) e t in (x.0, x.1, x.2 ∙ ap (λ l. (k, Some x.0) ∷ l) (sym (ap rest x.2)))
@@ -247,36 +235,6 @@ settle_agrees = follows (λ a b c d e f. agreement a b c d e f && not d) (λ a b
 
 not_had : (a b c d e f : Bool) → agreement a b c d e f && not d ≡ true → not c ≡ true
 not_had = follows (λ a b c d e f. agreement a b c d e f && not d) (λ a b c d e f. not c) refl
-
-or_left : (s e l : Bool) → bit_or (number (bits s e l)) 4 ≡ number (bits s e true)
-or_left true true true = refl
-or_left true true false = refl
-or_left true false true = refl
-or_left true false false = refl
-or_left false true true = refl
-or_left false true false = refl
-or_left false false true = refl
-or_left false false false = refl
-
-or_ended : (s e l : Bool) → bit_or (number (bits s e l)) 2 ≡ number (bits s true l)
-or_ended true true true = refl
-or_ended true true false = refl
-or_ended true false true = refl
-or_ended true false false = refl
-or_ended false true true = refl
-or_ended false true false = refl
-or_ended false false true = refl
-or_ended false false false = refl
-
-or_sleeping : (s e l : Bool) → bit_or (number (bits s e l)) 1 ≡ number (bits true e l)
-or_sleeping true true true = refl
-or_sleeping true true false = refl
-or_sleeping true false true = refl
-or_sleeping true false false = refl
-or_sleeping false true true = refl
-or_sleeping false true false = refl
-or_sleeping false false true = refl
-or_sleeping false false false = refl
 
 module _ {P : Type 0} where
   -- a leave
@@ -444,39 +402,9 @@ module _ {P : Type 0} where
         fresh Settler,
         takes 0 None,
         ap some at_home,
-        inr record { waiter = w; settler = fresh Settler; outcome = none; sleeper = k; is = refl; waits = l.0; agreed = agrees; outcome_lies = refl; sleeper_lies = asleep; recalls = record { back = refl; had = recalled.had; once = refl; waiter_found = recalled.waiter_found; settler_found = recalled.settler_found; waiter_set = recalled.waiter_set; settler_set = recalled.settler_set } },
+        inr record { waiter = w; settler = fresh Settler; outcome = none; sleeper = k; is = refl; waits = l.0; agreed = agrees; outcome_lies = refl; sleeper_lies = asleep; recalls = record { back = refl; had = recalled.had; once = refl; waiter_found = recalled.waiter_found; settler_found = recalled.settler_found; waiter_set = recalled.waiter_set; settler_set = recalled.settler_set; settler_new = λ e. refl } },
         refl,
       ))
-
-pub sleeping_set : (s e l : Bool) → (bit_and (number (bits s e l)) 1 ≡ 0 → ⊥) → s ≡ true
-sleeping_set true e l n = refl
-sleeping_set false true true n = absurd (n refl)
-sleeping_set false true false n = absurd (n refl)
-sleeping_set false false true n = absurd (n refl)
-sleeping_set false false false n = absurd (n refl)
-
-pub left_set : (s e l : Bool) → (bit_and (number (bits s e l)) 4 ≡ 0 → ⊥) → l ≡ true
-left_set s e true n = refl
-left_set true true false n = absurd (n refl)
-left_set true false false n = absurd (n refl)
-left_set false true false n = absurd (n refl)
-left_set false false false n = absurd (n refl)
-
-pub set_of : (f : Bits) (r : ℕ) → r ≡ number f → (bit_and r 1 ≡ 0 → ⊥) → f.sleeping ≡ true
-set_of f r e n = sleeping_set f.sleeping f.ended f.left (subst (λ (x : ℕ). bit_and x 1 ≡ 0 → ⊥) e n)
-
-pub left_of : (f : Bits) (r : ℕ) → r ≡ number f → (bit_and r 4 ≡ 0 → ⊥) → f.left ≡ true
-left_of f r e n = left_set f.sleeping f.ended f.left (subst (λ (x : ℕ). bit_and x 4 ≡ 0 → ⊥) e n)
-
-pub ended_of : (f : Bits) (r : ℕ) → r ≡ number f → (bit_and r 2 ≡ 0 → ⊥) → f.ended ≡ true
-ended_of f r e n = ended_set f.sleeping f.ended f.left (subst (λ (x : ℕ). bit_and x 2 ≡ 0 → ⊥) e n)
-
-sleeping_unset : (s e l : Bool) → bit_and (number (bits s e l)) 1 ≡ 0 → s ≡ false
-sleeping_unset true true true n = absurd (omega arith)
-sleeping_unset true true false n = absurd (omega arith)
-sleeping_unset true false true n = absurd (omega arith)
-sleeping_unset true false false n = absurd (omega arith)
-sleeping_unset false e l n = refl
 
 module _ {P : Type 0} where
   headed : (x : ℕ × Slot P) (r l : List (ℕ × Slot P)) → l ≡ x ∷ r → l ≡ x ∷ rest l

@@ -1,6 +1,9 @@
 pub mod CellBools
 pub mod CellPlaces
 pub mod CellLawful
+pub mod CellWord
 pub mod CellKeeps
 pub mod CellSecond
 pub mod CellSlots
+pub mod CellValues
+pub mod CellOutcome

@@ -95,6 +95,8 @@ pub record Recalls (w t : View) : Type 0 where
   -- neither end set a bit of the other's
   pub waiter_set : w.set.ended ≡ false
   pub settler_set : (t.set.sleeping ≡ false) × (t.set.left ≡ false)
+  -- before it settles, the settler has found no bit
+  pub settler_new : t.set.ended ≡ false → t.found ≡ no_bits
 
 -- the outcome is in the cell: it ended, and neither end has it
 abbrev pub is_home : View → View → Bool

@@ -5,4 +5,5 @@ pub mod CellLaw
 pub mod CellRule
 pub mod CellRunningLaw
 pub mod CellSlots
+pub mod CellOutcome
 pub mod CellEnds

@@ -1,7 +1,8 @@
 use Rattle.std.proofs.Common.{rules, ◌∷◌, Some, sym, ap, ◌∙◌}
 use Rattle.atomic_table.specs.Table.{rest, turned}
 use Rattle.kanal_cell.specs.declared.signal.rule.Held.TheVariants.{Outcome}
-use Rattle.kanal_cell.proofs.CellKeeps.{settles, set_of, took_outcome, back_plain, back_turned}
+use Rattle.kanal_cell.proofs.CellWord.{set_of}
+use Rattle.kanal_cell.proofs.CellKeeps.{settles, took_outcome, back_plain, back_turned}
 use Rattle.kanal_cell.proofs.signal.SettleEnd.end.Goals as goal
 use Rattle.kanal_cell.proofs.signal.SettleEnd.end.Goals.{then-found-ne0, else-found-ne0}
 

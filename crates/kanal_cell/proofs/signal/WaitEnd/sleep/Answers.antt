@@ -1,6 +1,7 @@
 use Rattle.std.proofs.Common.{rules}
 use Rattle.kanal_cell.specs.declared.signal.rule.Held.TheVariants.{Sleeper}
-use Rattle.kanal_cell.proofs.CellKeeps.{falls_asleep, ended_of, took_outcome}
+use Rattle.kanal_cell.proofs.CellWord.{ended_of}
+use Rattle.kanal_cell.proofs.CellKeeps.{falls_asleep, took_outcome}
 use Rattle.kanal_cell.proofs.signal.WaitEnd.sleep.Goals as goal
 
 pub fetch_or-found-requires : goal.fetch_or-found-requires

@@ -1,8 +1,8 @@
 //! What can be asked of a core without changing it.
 //!
 //! Stands on the core's fields. An answer holds until the next call that changes the core.
-ghost use Rattle.std.specs.Prelude.{◌≡◌, ◌==◌, ◌&&◌, length};
-ghost use Rattle.kanal_core.specs.Line.{buffered, capacity_word, is_at, is_bounded};
+ghost use Rattle.std.specs.Prelude.{◌≡◌, ◌==◌, ◌&&◌, not, length};
+ghost use Rattle.kanal_core.specs.Line.{buffered, capacity_word, is_at, is_bounded, last_word};
 ghost use Rattle.kanal_core.specs.Channel.{line_of};
 
 use super::ChannelInternal;
@@ -146,5 +146,17 @@ impl<T, W> ChannelInternal<T, W> {
         ensures { result ≡ (self.now.senders == 0) && (length (line_of self.now).line == 0) }
     {
         self.send_side_gone() && self.is_empty() && !self.waiters.sender_first()
+    }
+
+    /// Whether a further wait gets a ticket. Where it doesn't, the wait is refused as `TooMany`.
+    ///
+    /// # Examples
+    /// ```text
+    /// core.has_ticket()   answers  true   in a new core
+    /// ```
+    pub fn has_ticket(&self) -> bool
+        ensures { result ≡ not (self.now.next == last_word) }
+    {
+        self.next != u64::MAX
     }
 }

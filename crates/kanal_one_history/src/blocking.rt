@@ -47,8 +47,7 @@ pub(crate) enum Begun<T, J: Naming> {
 /// What a wait needs: the blocked call's half, and the settler for the core.
 fn ends<T: Drop, J: Naming>(alloc: Global) -> Option<(Waiting<Delivered<T, J>>, Settler<T, J>)> {
     let (end, settling) = signal::new(alloc).ok()?;
-    let waiting = Waiting::new(alloc, end).ok()?;
-    Some((waiting, Settler::new(settling)))
+    Some((Waiting::new(alloc, end), Settler::new(settling)))
 }
 
 impl<T: Drop, J: Naming> Channel<T, J> {
@@ -126,7 +125,7 @@ impl<T: Drop, J: Naming> Channel<T, J> {
         match self.begin(rt, pass, event) {
             Begun::Replied(reply) => Came::Replied(reply),
             Begun::Waits(ticket, waiting) => {
-                let delivered = waiting.outcome(rt);
+                let delivered = waiting.outcome(rt, &self.policy);
                 Came::Settled(self.learn_of(rt, pass, delivered, ticket.number()))
             },
             Begun::Lacking => Came::Lacking,

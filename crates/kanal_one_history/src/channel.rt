@@ -15,6 +15,7 @@ use kanal_board::{Board, Naming, Opened};
 use kanal_core::error::NewError;
 use kanal_core::internal::ChannelInternal;
 use kanal_core::mutex::Mutex;
+use kanal_shared::WaitPolicy;
 use std::alloc::Global;
 
 /// A channel under a name, which threads share by a reference.
@@ -23,6 +24,7 @@ pub struct Channel<T, J: Naming> {
     pub(crate) board: Board<Call<T>, J>,
     pub(crate) state: Mutex<State<T, J>>,
     pub(crate) alloc: Global,
+    pub(crate) policy: WaitPolicy,
 }
 
 impl<T: Drop, J: Naming> Channel<T, J> {
@@ -58,6 +60,7 @@ impl<T: Drop, J: Naming> Channel<T, J> {
                 board,
                 state,
                 alloc,
+                policy: WaitPolicy::new(capacity),
             },
             pass,
         ))
@@ -88,6 +91,7 @@ impl<T: Drop, J: Naming> Channel<T, J> {
                 board,
                 state,
                 alloc,
+                policy: WaitPolicy::new(usize::MAX),
             },
             pass,
         )

@@ -73,7 +73,7 @@ impl<T: Drop, J: Naming> Channel<T, J> {
         match self.begin(rt, pass, event) {
             Begun::Replied(reply) => Timed::Replied(reply),
             Begun::Waits(ticket, waiting) => {
-                let looked = waiting.outcome_until(rt, clock, deadline);
+                let looked = waiting.outcome_until(rt, &self.policy, clock, deadline);
                 match self.end(rt, pass, ticket, looked) {
                     Some(outcome) => Timed::Settled(outcome),
                     None => Timed::Withdrawn,
@@ -105,7 +105,7 @@ impl<T: Drop, J: Naming> Channel<T, J> {
                 None
             },
             None => {
-                let delivered = waiting.outcome(rt);
+                let delivered = waiting.outcome(rt, &self.policy);
                 Some(self.learn_of(rt, pass, delivered, ticket.number()))
             },
         }

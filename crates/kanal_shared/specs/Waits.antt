@@ -6,8 +6,8 @@ use Rattle.kanal_shared.specs.declared.backoff.Watch.TheVariants.{Awake, Asleep}
 
 -- the end at which it looks, whether its sleeper is in the cell or not
 abbrev pub end_at : {P : Type 0} → Watch P → WaitEnd P
-end_at (Awake waiter sleeper) = waiter.end
-end_at (Asleep waiter) = waiter.end
+end_at (Awake waiter) = waiter.end
+end_at (Asleep waiter parker) = waiter.end
 
 -- the end at which a blocked call waits
 abbrev pub waits_at : {P : Type 0} → Waiting P → WaitEnd P

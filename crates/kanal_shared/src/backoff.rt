@@ -1,28 +1,31 @@
-//! A blocked call's wait: it looks for its outcome with pauses, then with yields, and then sleeps
-//! until it is told or its deadline comes.
+//! A blocked call's wait: it looks for its outcome with pauses, and a few times with yields, and then
+//! sleeps until it is told or its deadline comes.
 //!
 //! Its name is kanal's, after the spinning that is its first part. Stands on the cell's waiting end,
-//! on parking and on clocks. Only blocked calls use it, those of a channel with one history too; what
-//! is asked for memory is there before the wait starts, so nothing is refused later.
-ghost use Rattle.std.specs.Prelude.{◌≡◌, IfOk};
+//! on parking and on clocks. Only blocked calls use it, those of a channel with one history too. What
+//! it sleeps with is made when it is about to sleep; where there is no memory for that it naps and looks
+//! again, so a wait that has begun is never refused.
+ghost use Rattle.std.specs.Prelude.{◌≡◌};
 ghost use Rattle.kanal_cell.specs.CellRule.{MaySleep};
 ghost use Rattle.kanal_cell.specs.CellEnds.{wait_view};
 ghost use Rattle.kanal_shared.specs.Waits.{waits_at};
 
 mod awake;
+mod policy;
 
 use crate::clock::Clock;
 use awake::{Asleep, Awake};
-use crossbeam_utils::Backoff;
 use crossbeam_utils::sync::{Parker, Unparker};
 use kanal_cell::signal::WaitEnd;
-use std::alloc::{AllocError, Global};
+use policy::Looks;
+pub use policy::WaitPolicy;
+use std::alloc::Global;
 use std::sync::Wait;
-use std::time;
 use std::time::Duration;
+use std::{thread, time};
 
-/// How often a call looks with yields between before it sleeps.
-const YIELDS: u32 = 64;
+/// How often a call looks at most before it sleeps.
+const LOOKS: u32 = 64;
 
 /// How long a timed wait sleeps at most before it reads its clock again, in nanoseconds.
 const NAP: u64 = 1_000_000;
@@ -31,9 +34,9 @@ const NAP: u64 = 1_000_000;
 #[derive(Drop)]
 enum Watch<P> {
     /// It has not.
-    Awake(Awake<P>, Unparker),
-    /// It has.
-    Asleep(Asleep<P>),
+    Awake(Awake<P>),
+    /// It has, and this is what it sleeps with.
+    Asleep(Asleep<P>, Parker),
 }
 
 /// What looking at a cell came to.
@@ -47,47 +50,39 @@ enum Looked<P> {
     Early(Awake<P>),
 }
 
-/// A blocked call's half of its wait: the cell's waiting end, and what it sleeps with.
+/// A blocked call's half of its wait: the cell's waiting end, and what it asks for a sleeper's memory.
 ///
 /// # Examples
 /// ```text
 /// let (end, settling) = signal::new(alloc)?;
-/// let waiting = Waiting::new(alloc, end)?;
-/// waiting.outcome(&rt)   answers  7   when another thread has made settling.settle(7)
+/// let waiting = Waiting::new(alloc, end);
+/// waiting.outcome(&rt, &policy)   answers  7   when another thread has made settling.settle(7)
 /// ```
 #[derive(Drop)]
 pub struct Waiting<P> {
     watch: Watch<P>,
-    parker: Parker,
+    alloc: Global,
 }
 
 impl<P: Drop> Waiting<P> {
-    /// The wait at an end that has neither slept nor had its outcome.
-    ///
-    /// # Errors
-    /// `AllocError` where there is no memory for what the call sleeps with. The end is let go then.
-    pub fn new(alloc: Global, end: WaitEnd<P>) -> Result<Self, AllocError>
+    /// The wait at an end that has neither slept nor had its outcome. It asks for no memory.
+    pub fn new(alloc: Global, end: WaitEnd<P>) -> Self
         requires fresh { MaySleep (wait_view end) }
-        ensures end { IfOk result (λ waiting. waits_at waiting ≡ end) }
+        ensures end { waits_at result ≡ end }
     {
-        let parker = Parker::new(alloc)?;
-        let sleeper = parker.unparker().clone()?;
-        let watch = Watch::Awake(Awake::new(end), sleeper);
-        Ok(Waiting { watch, parker })
+        let watch = Watch::Awake(Awake::new(end));
+        Waiting { watch, alloc }
     }
 
     /// Waits for the outcome, and answers it.
-    pub fn outcome<R: Wait>(self, rt: &R) -> P {
-        let Waiting { watch, parker } = self;
+    pub fn outcome<R: Wait>(self, rt: &R, policy: &WaitPolicy) -> P {
+        let Waiting { watch, alloc } = self;
         match watch {
-            Watch::Awake(awake, sleeper) => match look(awake) {
+            Watch::Awake(awake) => match look(policy, awake) {
                 Ok(outcome) => outcome,
-                Err(awake) => match awake.sleep(sleeper) {
-                    Ok(outcome) => outcome,
-                    Err(asleep) => park(rt, &parker, asleep),
-                },
+                Err(awake) => sleep(rt, alloc, awake),
             },
-            Watch::Asleep(asleep) => park(rt, &parker, asleep),
+            Watch::Asleep(asleep, parker) => park(rt, &parker, asleep),
         }
     }
 
@@ -99,62 +94,138 @@ impl<P: Drop> Waiting<P> {
     pub fn outcome_until<R: Wait + time::Clock, C: Clock>(
         self,
         rt: &R,
+        policy: &WaitPolicy,
         clock: &C,
         deadline: u64,
     ) -> Result<P, Self> {
-        let Waiting { watch, parker } = self;
-        let asleep = match watch {
-            Watch::Awake(awake, sleeper) => match look_until(awake, clock, deadline) {
+        let Waiting { watch, alloc } = self;
+        let rest = match watch {
+            Watch::Awake(awake) => match look_until(policy, awake, clock, deadline) {
                 Looked::Outcome(outcome) => return Ok(outcome),
-                Looked::Late(awake) => {
-                    let watch = Watch::Awake(awake, sleeper);
-                    return Err(Waiting { watch, parker });
-                },
-                Looked::Early(awake) => match awake.sleep(sleeper) {
-                    Ok(outcome) => return Ok(outcome),
-                    Err(asleep) => asleep,
-                },
+                Looked::Late(awake) => Err(Watch::Awake(awake)),
+                Looked::Early(awake) => sleep_until(rt, alloc, awake, clock, deadline),
             },
-            Watch::Asleep(asleep) => asleep,
+            Watch::Asleep(asleep, parker) => park_until(rt, parker, asleep, clock, deadline),
         };
-        match park_until(rt, &parker, asleep, clock, deadline) {
+        match rest {
             Ok(outcome) => Ok(outcome),
-            Err(asleep) => {
-                let watch = Watch::Asleep(asleep);
-                Err(Waiting { watch, parker })
-            },
+            Err(watch) => Err(Waiting { watch, alloc }),
         }
     }
 }
 
-/// Looks for the outcome, with growing pauses and then with yields between.
-fn look<P: Drop>(awake: Awake<P>) -> Result<P, Awake<P>> {
-    let backoff = Backoff::new();
+/// What a call sleeps with, and what wakes it; `None` where there is no memory for them.
+fn sleeper(alloc: Global) -> Option<(Parker, Unparker)> {
+    let parker = Parker::new(alloc).ok()?;
+    let sleeper = parker.unparker().clone().ok()?;
+    Some((parker, sleeper))
+}
+
+/// The outcome, or the watch with the sleeper in the cell. Where there is no memory for a sleeper it
+/// looks once and stays awake.
+fn fall_asleep<P: Drop>(alloc: Global, awake: Awake<P>) -> Result<P, Watch<P>> {
+    match sleeper(alloc) {
+        Some((parker, sleeper)) => match awake.sleep(sleeper) {
+            Ok(outcome) => Ok(outcome),
+            Err(asleep) => Err(Watch::Asleep(asleep, parker)),
+        },
+        None => match awake.poll() {
+            Ok(outcome) => Ok(outcome),
+            Err(awake) => Err(Watch::Awake(awake)),
+        },
+    }
+}
+
+/// Naps for so many nanoseconds, with no memory, and nobody wakes it.
+fn nap<R: Wait>(rt: &R, nanoseconds: u64) {
+    thread::Parker::new().park_timeout(rt, Duration::from_nanos(nanoseconds));
+}
+
+/// Sleeps until the outcome is there, and naps while there is no memory for a sleeper.
+#[cold]
+fn sleep<P: Drop, R: Wait>(rt: &R, alloc: Global, awake: Awake<P>) -> P {
     let mut awake = awake;
-    for _ in 0..YIELDS {
-        match awake.poll() {
+    for _ in rt.forever() {
+        match fall_asleep(alloc, awake) {
+            Ok(outcome) => return outcome,
+            Err(Watch::Asleep(asleep, parker)) => return park(rt, &parker, asleep),
+            Err(Watch::Awake(back)) => awake = back,
+        }
+        nap(rt, NAP);
+    }
+    unreachable!()
+}
+
+/// The same, while the clock is below the deadline, and looks once after that.
+#[cold]
+fn sleep_until<P: Drop, R: Wait + time::Clock, C: Clock>(
+    rt: &R,
+    alloc: Global,
+    awake: Awake<P>,
+    clock: &C,
+    deadline: u64,
+) -> Result<P, Watch<P>> {
+    let mut awake = awake;
+    for _ in rt.forever() {
+        let now = clock.now();
+        match fall_asleep(alloc, awake) {
             Ok(outcome) => return Ok(outcome),
+            Err(Watch::Asleep(asleep, parker)) => {
+                return park_until(rt, parker, asleep, clock, deadline);
+            },
+            Err(Watch::Awake(back)) => awake = back,
+        }
+        if now >= deadline {
+            return Err(Watch::Awake(awake));
+        }
+        nap(rt, NAP.min(deadline - now));
+    }
+    unreachable!()
+}
+
+/// Looks for the outcome, as the channel's policy says.
+fn look<P: Drop>(policy: &WaitPolicy, awake: Awake<P>) -> Result<P, Awake<P>> {
+    let mut looks = Looks::new(policy);
+    let mut awake = awake;
+    for _ in 0..LOOKS {
+        match awake.poll() {
+            Ok(outcome) => {
+                looks.end();
+                return Ok(outcome);
+            },
             Err(back) => awake = back,
         }
-        backoff.snooze();
+        if !looks.go_on() {
+            return Err(awake);
+        }
     }
     Err(awake)
 }
 
 /// The same, while the clock is below the deadline, and once after that.
-fn look_until<P: Drop, C: Clock>(awake: Awake<P>, clock: &C, deadline: u64) -> Looked<P> {
-    let backoff = Backoff::new();
+fn look_until<P: Drop, C: Clock>(
+    policy: &WaitPolicy,
+    awake: Awake<P>,
+    clock: &C,
+    deadline: u64,
+) -> Looked<P> {
+    let mut looks = Looks::new(policy);
     let mut awake = awake;
-    for _ in 0..YIELDS {
+    for _ in 0..LOOKS {
         let is_late = clock.now() >= deadline;
         match awake.poll() {
-            Ok(outcome) => return Looked::Outcome(outcome),
+            Ok(outcome) => {
+                looks.end();
+                return Looked::Outcome(outcome);
+            },
             Err(back) => awake = back,
         }
         if is_late {
             return Looked::Late(awake);
         }
-        backoff.snooze();
+        if !looks.go_on() {
+            return Looked::Early(awake);
+        }
     }
     Looked::Early(awake)
 }
@@ -175,11 +246,11 @@ fn park<P: Drop, R: Wait>(rt: &R, parker: &Parker, asleep: Asleep<P>) -> P {
 /// a millisecond of real time before it reads the clock again, and for no longer than is left.
 fn park_until<P: Drop, R: Wait + time::Clock, C: Clock>(
     rt: &R,
-    parker: &Parker,
+    parker: Parker,
     asleep: Asleep<P>,
     clock: &C,
     deadline: u64,
-) -> Result<P, Asleep<P>> {
+) -> Result<P, Watch<P>> {
     let mut asleep = asleep;
     for _ in rt.forever() {
         let now = clock.now();
@@ -187,7 +258,7 @@ fn park_until<P: Drop, R: Wait + time::Clock, C: Clock>(
             return Ok(outcome);
         }
         if now >= deadline {
-            return Err(asleep);
+            return Err(Watch::Asleep(asleep, parker));
         }
         let left = deadline - now;
         parker.park_timeout(rt, Duration::from_nanos(left.min(NAP)));

@@ -88,14 +88,14 @@ impl Wakers {
         &self,
         alloc: Global,
         cx: &mut Context<'_>,
-    ) -> Option<(WaitEnd<Outcome<T>>, Box<Seat<T>>)>
+    ) -> Option<(WaitEnd<Outcome<T>>, Seat<T>)>
         ensures unspent { IfSome result (λ cell. HasNotLeft (wait_view cell.0)) }
-        ensures cell { IfSome result (λ cell. AreOfOneCell cell.0 (end_of cell.1.value)) }
+        ensures cell { IfSome result (λ cell. AreOfOneCell cell.0 (end_of cell.1)) }
         ensures registered { IfSome result (λ _. Covers cx.new (λ s. s ≡ self.now.source.id)) }
         ensures kept { Keeps cx.old cx.new }
     {
         let (end, settler) = signal::new(alloc).ok()?;
-        let mut seat = Seat::new(alloc, settler)?;
+        let mut seat = Seat::of_task(alloc, settler)?;
         let mut waker = None;
         let _: Poll<()> = cx.register(&self.source, &mut waker);
         seat.renew(&mut waker);

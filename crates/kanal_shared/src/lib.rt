@@ -15,7 +15,7 @@ mod receiving;
 mod sending;
 mod shared;
 
-pub use backoff::Waiting;
+pub use backoff::{WaitPolicy, Waiting};
 pub use clock::{Clock, SystemClock, TestClock, deadline};
 pub use future::{ReceiveFuture, ReceiveStream, SendFuture};
 pub use shared::{Locked, Shared};

@@ -1,18 +1,21 @@
 //! Receiving on a shared channel: what doesn't wait for the other side, and the blocking receive.
 //!
 //! Stands on the lock, on the steps and on how a blocked call waits. A message is asked for first;
-//! only where there is none is the memory of a wait asked for.
+//! only where there is none is the memory of a wait asked for, in the same turn of the lock.
 ghost use Rattle.std.specs.Prelude.{◌≡◌, IfOk, IfErr, OnErr};
 ghost use Rattle.std.specs.Vec.{vec_capacity};
+ghost use Rattle.kanal_cell.specs.CellRule.{MaySleep};
+ghost use Rattle.kanal_cell.specs.CellEnds.{wait_view};
+ghost use Rattle.kanal_steps.specs.Steps.{IfReceiveWaits};
 ghost use Rattle.kanal_shared.specs.Drains.{GoesOnBy};
 
 mod timed;
 
-use crate::sending::wait;
+use crate::backoff::Waiting;
+use crate::pause::pause_once;
 use crate::shared::{Locked, Shared};
 use kanal_core::error::ReceiveError;
 use kanal_core::internal::{Outcome, Reason};
-use kanal_steps::seat::Seat;
 use kanal_steps::steps;
 use kanal_steps::steps::Received;
 use std::sync::Wait;
@@ -112,30 +115,54 @@ impl<T: Drop> Shared<T> {
     /// ```
     #[inline]
     pub fn recv_blocking<R: Wait>(&self, rt: &R) -> Result<T, ReceiveError> {
-        match self.try_recv(rt) {
-            Ok(Some(message)) => Ok(message),
-            Ok(None) => self.recv_waiting(rt),
-            Err(error) => Err(error),
-        }
-    }
-
-    /// Receives a message with what a wait needs in hand.
-    #[cold]
-    fn recv_waiting<R: Wait>(&self, rt: &R) -> Result<T, ReceiveError> {
-        let Some((waiting, seat)) = wait(self.alloc) else {
-            return Err(ReceiveError::NoMemory);
-        };
-        match self.recv_seated(rt, seat) {
-            Received::Got(message, _seat) => Ok(message),
-            Received::Waits(_ticket) => answer_of(waiting.outcome(rt)),
-            Received::Refused(error, _seat) => Err(error),
-        }
-    }
-
-    /// Takes the front message, or starts a wait with the seat where there is none.
-    fn recv_seated<R: Wait>(&self, rt: &R, seat: Box<Seat<T>>) -> Received<T> {
         let mut locked = self.hold(rt);
-        let (received, owed) = steps::recv(&mut locked.core, seat);
+        match locked.core.pop() {
+            Some(message) => {
+                locked.give_back_quiet();
+                Ok(message)
+            },
+            None => self.recv_held(rt, locked),
+        }
+    }
+
+    /// Receives a message under the lock, where none left the buffer by itself, and waits where there is
+    /// none.
+    #[cold]
+    fn recv_held<R: Wait>(&self, rt: &R, locked: Locked<'_, T>) -> Result<T, ReceiveError> {
+        match self.begin_recv(rt, locked) {
+            Received::Got(message) => Ok(message),
+            Received::Waits(_ticket, end) => {
+                answer_of(Waiting::new(self.alloc, end).outcome(rt, &self.policy))
+            },
+            Received::Refused(error) => Err(error),
+        }
+    }
+
+    /// Takes the front message under the lock, and starts a wait where there is none. A channel with a
+    /// buffer looks once more after a pause before that, since a sender is often about to bring one.
+    pub(crate) fn begin_recv<R: Wait>(&self, rt: &R, locked: Locked<'_, T>) -> Received<T>
+        ensures fresh { IfReceiveWaits result (λ end. MaySleep (wait_view end)) }
+    {
+        if !self.has_buffer {
+            return self.recv_or_wait(locked);
+        }
+        match try_recv_held(locked) {
+            Ok(Some(message)) => Received::Got(message),
+            Err(error) => Received::Refused(error),
+            Ok(None) => {
+                pause_once();
+                self.recv_or_wait(self.hold(rt))
+            },
+        }
+    }
+
+    /// Takes the front message under the lock, or starts a wait where there is none.
+    #[inline]
+    fn recv_or_wait(&self, locked: Locked<'_, T>) -> Received<T>
+        ensures fresh { IfReceiveWaits result (λ end. MaySleep (wait_view end)) }
+    {
+        let mut locked = locked;
+        let (received, owed) = steps::recv(&mut locked.core, self.alloc);
         locked.give_back(owed);
         received
     }

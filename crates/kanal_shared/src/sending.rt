@@ -1,24 +1,21 @@
 //! Sending on a shared channel: what doesn't wait for the other side, and the blocking send.
 //!
 //! Stands on the lock, on the steps and on how a blocked call waits. The message is offered first;
-//! only where there is no place for it is the memory of a wait asked for.
+//! only where there is no place for it is the memory of a wait asked for, in the same turn of the lock.
 ghost use Rattle.std.specs.Prelude.{◌≡◌, IfSome};
-ghost use Rattle.kanal_cell.specs.CellEnds.{AreOfOneCell};
-ghost use Rattle.kanal_steps.specs.Seats.{end_of};
-ghost use Rattle.kanal_steps.specs.Steps.{IfRefused, back_of};
-ghost use Rattle.kanal_shared.specs.Waits.{waits_at};
+ghost use Rattle.kanal_cell.specs.CellRule.{MaySleep};
+ghost use Rattle.kanal_cell.specs.CellEnds.{wait_view};
+ghost use Rattle.kanal_steps.specs.Steps.{IfRefused, IfSendWaits, back_of};
 
 mod timed;
 
 use crate::backoff::Waiting;
+use crate::pause::pause_once;
 use crate::shared::{Locked, Shared};
-use kanal_cell::signal;
 use kanal_core::error::SendError;
 use kanal_core::internal::{Outcome, Reason};
-use kanal_steps::seat::Seat;
 use kanal_steps::steps;
 use kanal_steps::steps::{Offered, Sent};
-use std::alloc::Global;
 use std::sync::Wait;
 
 /// What the end of a sender's wait answers.
@@ -29,17 +26,6 @@ pub(crate) fn answer_of<T: Drop>(outcome: Outcome<T>) -> Result<(), SendError> {
         Outcome::Ended(_reason, _message) => Err(SendError::Closed),
         Outcome::Given(_message) => Err(SendError::Closed),
     }
-}
-
-/// What a wait needs: the blocked call's half, and the seat for the core.
-pub(crate) fn wait<T: Drop>(alloc: Global) -> Option<(Waiting<Outcome<T>>, Box<Seat<T>>)>
-    ensures cell { IfSome result (λ made.
-        AreOfOneCell (waits_at made.0) (end_of made.1.value)) }
-{
-    let (end, settler) = signal::new(alloc).ok()?;
-    let waiting = Waiting::new(alloc, end).ok()?;
-    let seat = Seat::new(alloc, settler)?;
-    Some((waiting, seat))
 }
 
 /// Offers the message under the lock, where it did not enter by itself.
@@ -106,32 +92,62 @@ impl<T: Drop> Shared<T> {
     /// ```
     #[inline]
     pub fn send_blocking<R: Wait>(&self, rt: &R, message: T) -> Result<(), SendError> {
-        match self.offer(rt, message) {
-            Offered::Entered => Ok(()),
-            Offered::Full(message) => self.send_waiting(rt, message),
-            Offered::Refused(error, _message) => Err(error),
-        }
-    }
-
-    /// Sends the message with what a wait needs in hand.
-    #[cold]
-    fn send_waiting<R: Wait>(&self, rt: &R, message: T) -> Result<(), SendError> {
-        let Some((waiting, seat)) = wait(self.alloc) else {
-            return Err(SendError::NoMemory);
-        };
-        match self.send_seated(rt, message, seat) {
-            Sent::Entered(_seat) => Ok(()),
-            Sent::Waits(_ticket) => answer_of(waiting.outcome(rt)),
-            Sent::Refused(error, _message, _seat) => Err(error),
-        }
-    }
-
-    /// Offers the message, and starts its wait with the seat where there is no place for it.
-    fn send_seated<R: Wait>(&self, rt: &R, message: T, seat: Box<Seat<T>>) -> Sent<T>
-        ensures refused { IfRefused result (λ back. back ≡ message) }
-    {
         let mut locked = self.hold(rt);
-        let (sent, owed) = steps::send(&mut locked.core, message, seat);
+        match locked.core.push(message) {
+            Ok(()) => {
+                locked.give_back_quiet();
+                Ok(())
+            },
+            Err(message) => self.send_held(rt, locked, message),
+        }
+    }
+
+    /// Sends the message under the lock, where it did not enter by itself, and waits where there is no
+    /// place for it.
+    #[cold]
+    fn send_held<R: Wait>(
+        &self,
+        rt: &R,
+        locked: Locked<'_, T>,
+        message: T,
+    ) -> Result<(), SendError> {
+        match self.begin_send(rt, locked, message) {
+            Sent::Entered => Ok(()),
+            Sent::Waits(_ticket, end) => {
+                answer_of(Waiting::new(self.alloc, end).outcome(rt, &self.policy))
+            },
+            Sent::Refused(error, _message) => Err(error),
+        }
+    }
+
+    /// Offers the message under the lock, and starts its wait where there is no place for it. A channel
+    /// with a buffer looks once more after a pause before that, since a receiver is often about to make
+    /// a place.
+    pub(crate) fn begin_send<R: Wait>(&self, rt: &R, locked: Locked<'_, T>, message: T) -> Sent<T>
+        ensures refused { IfRefused result (λ back. back ≡ message) }
+        ensures fresh { IfSendWaits result (λ end. MaySleep (wait_view end)) }
+    {
+        if !self.has_buffer {
+            return self.send_or_wait(locked, message);
+        }
+        match offer_held(locked, message) {
+            Offered::Entered => Sent::Entered,
+            Offered::Refused(error, back) => Sent::Refused(error, back),
+            Offered::Full(back) => {
+                pause_once();
+                self.send_or_wait(self.hold(rt), back)
+            },
+        }
+    }
+
+    /// Offers the message under the lock, and starts its wait where there is no place for it.
+    #[inline]
+    fn send_or_wait(&self, locked: Locked<'_, T>, message: T) -> Sent<T>
+        ensures refused { IfRefused result (λ back. back ≡ message) }
+        ensures fresh { IfSendWaits result (λ end. MaySleep (wait_view end)) }
+    {
+        let mut locked = locked;
+        let (sent, owed) = steps::send(&mut locked.core, message, self.alloc);
         locked.give_back(owed);
         sent
     }

@@ -7,6 +7,7 @@
 //! notice's counter, and alone releases the lock.
 mod locked;
 
+use crate::backoff::WaitPolicy;
 use kanal_core::internal::{Ticket, Waiter};
 use kanal_core::mutex::Mutex;
 use kanal_steps::owed::Owed;
@@ -20,12 +21,13 @@ use std::sync::atomic::AtomicU64;
 use std::sync::atomic::Ordering::SeqCst;
 
 /// A channel, as its handles share it: the lock round the core, what the memory of a wait is asked
-/// of, whether a message may lie in a buffer, whether there are notices, and how many of each kind.
+/// of, whether a message may lie in a buffer, how blocked calls wait, whether there are notices, and how many of each kind.
 #[derive(Drop)]
 pub struct Shared<T> {
     core: Mutex<Core<T>>,
     pub(crate) alloc: Global,
     pub(crate) has_buffer: bool,
+    pub(crate) policy: WaitPolicy,
     notices: AtomicU64,
     left: AtomicU64,
     senders: AtomicU64,
@@ -41,11 +43,13 @@ impl<T: Drop> Shared<T> {
     /// let shared = Arc::new(alloc, Shared::new(core, alloc))?;
     /// ```
     pub fn new(core: Core<T>, alloc: Global) -> Self {
-        let has_buffer = core.capacity() > 0;
+        let places = core.capacity();
+        let has_buffer = places > 0;
         Shared {
             core: Mutex::new(core),
             alloc,
             has_buffer,
+            policy: WaitPolicy::new(places),
             notices: AtomicU64::new(0),
             left: AtomicU64::new(0),
             senders: AtomicU64::new(0),

@@ -6,7 +6,7 @@ use Rattle.kanal_core.specs.Channel.{settlement}
 use Rattle.kanal_steps.specs.declared.owed.Owed.{Owed}
 use Rattle.kanal_steps.specs.declared.owed.Waits.{Waits}
 use Rattle.kanal_steps.specs.declared.owed.Waits.TheVariants.{Nothing, One, All}
-use Rattle.kanal_steps.specs.Seats.{Boxed}
+use Rattle.kanal_steps.specs.declared.seat.Seat.{Seat}
 
 -- a wait, if there is one, as a list
 abbrev pub listed : {A : Type 0} → Option A → List A
@@ -20,13 +20,13 @@ first (a ∷ rest) = Some a
 
 module _ {T : Type 0} where
   -- the waits of each kind
-  abbrev pub waits_of : Waits T → List (Settled T (Boxed T))
+  abbrev pub waits_of : Waits T → List (Settled T (Seat T))
   waits_of Nothing = []
   waits_of (One settled) = settled ∷ []
   waits_of (All ended) = ended
 
   -- the waits whose waiters have to be told, oldest first
-  abbrev pub waits_in : Owed T → List (Settled T (Boxed T))
+  abbrev pub waits_in : Owed T → List (Settled T (Seat T))
   waits_in owed = waits_of owed.waits
 
   -- their tickets, each with what became of its wait

@@ -6,7 +6,7 @@ use Rattle.kanal_core.specs.Waiters.{waiter_of, with_w}
 use Rattle.kanal_core.specs.declared.internal.outcome.Ticket.{Ticket}
 use Rattle.kanal_core.specs.declared.internal.outcome.Waiter.{Waiter}
 use Rattle.kanal_steps.specs.declared.seat.Seat.{Seat}
-use Rattle.kanal_steps.specs.Seats.{Boxed, end_of}
+use Rattle.kanal_steps.specs.Seats.{end_of}
 
 -- the waker that a seat's settling will wake
 abbrev pub waker_of : {T : Type 0} → Seat T → Option Waker
@@ -19,7 +19,7 @@ Swaps (Some waker) old new after = (waker_of new ≡ Some waker) × (after ≡ w
 
 module _ {T : Type 0} where
   -- the waiter with the ticket has swapped its waker for the spare, and nobody else changed; nothing did where it doesn't wait
-  abbrev pub Renews : Ticket → Option Waker → List (Waiter T (Boxed T)) → List (Waiter T (Boxed T)) → Option Waker → Type 0
+  abbrev pub Renews : Ticket → Option Waker → List (Waiter T (Seat T)) → List (Waiter T (Seat T)) → Option Waker → Type 0
   Renews t spare old new after =
       MatchOption (waiter_of t old) ((new ≡ old) × (after ≡ spare))
-      (λ w. (seat : Boxed T) × (new ≡ with_w t seat old) × Swaps spare w.w.value seat.value after)
+      (λ w. (seat : Seat T) × (new ≡ with_w t seat old) × Swaps spare w.w seat after)

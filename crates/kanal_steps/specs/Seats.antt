@@ -1,6 +1,5 @@
 -- What a seat brings.
-use Rattle.std.specs.Prelude.{Box}
-use Rattle.std.specs.declared.alloc.Global.{Global}
+use Rattle.std.specs.Prelude.{◌≡◌, length}
 use Rattle.kanal_core.specs.declared.internal.outcome.Outcome.{Outcome}
 use Rattle.kanal_cell.specs.declared.signal.SettleEnd.{SettleEnd}
 use Rattle.kanal_steps.specs.declared.seat.Seat.{Seat}
@@ -9,6 +8,6 @@ use Rattle.kanal_steps.specs.declared.seat.Seat.{Seat}
 abbrev pub end_of : {T : Type 0} → Seat T → SettleEnd (Outcome T)
 end_of seat = seat.settler.end
 
--- a seat in memory of its own
-abbrev pub Boxed : Type 0 → Type 0
-Boxed T = Box (Seat T) Global
+-- it has a room for its entry
+abbrev pub HasRoom : {T : Type 0} → Seat T → Type 0
+HasRoom seat = length seat.room ≡ 1

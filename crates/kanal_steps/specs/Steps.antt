@@ -15,14 +15,17 @@ use Rattle.kanal_core.specs.Moves.{Moved, quiet, wait_send, wait_recv}
 use Rattle.kanal_core.specs.Channel.{Channel}
 use Rattle.kanal_core.specs.Tickets.{number_of}
 use Rattle.kanal_core.specs.Calls.{Enters, TakesFront, Stays, IsFull, IsEmpty, OldestLeft}
+use Rattle.kanal_cell.specs.declared.signal.WaitEnd.{WaitEnd}
+use Rattle.kanal_cell.specs.CellEnds.{AreOfOneCell}
 use Rattle.kanal_steps.specs.declared.steps.Offered.{Offered}
 use Rattle.kanal_steps.specs.declared.steps.Offered.TheVariants.{Entered as OfferEntered, Full as OfferFull, Refused as OfferRefused}
-use Rattle.kanal_steps.specs.declared.steps.Sent.{Sent}
-use Rattle.kanal_steps.specs.declared.steps.Sent.TheVariants.{Entered as SendEntered, Waits as SendWaits, Refused as SendRefused}
-use Rattle.kanal_steps.specs.declared.steps.Received.{Received}
-use Rattle.kanal_steps.specs.declared.steps.Received.TheVariants.{Got, Waits as ReceiveWaits, Refused as ReceiveRefused}
+use Rattle.kanal_steps.specs.declared.steps.waits.Sent.{Sent}
+use Rattle.kanal_steps.specs.declared.steps.waits.Sent.TheVariants.{Entered as SendEntered, Waits as SendWaits, Refused as SendRefused}
+use Rattle.kanal_steps.specs.declared.steps.waits.Received.{Received}
+use Rattle.kanal_steps.specs.declared.steps.waits.Received.TheVariants.{Got, Waits as ReceiveWaits, Refused as ReceiveRefused}
+use Rattle.kanal_steps.specs.declared.seat.Seat.{Seat}
 use Rattle.kanal_steps.specs.Owing.{first}
-use Rattle.kanal_steps.specs.Seats.{Boxed}
+use Rattle.kanal_steps.specs.Seats.{end_of}
 
 -- a buffer without limit may have found no memory to grow
 abbrev pub MayNotGrow : {T : Type 0} → Line T → Type 0
@@ -122,11 +125,23 @@ module _ {T : Type 0} where
   back_of (OfferFull back) = Some back
   back_of (OfferRefused reason back) = Some back
 
-  -- a fact of the message that comes back from a send, if it does
+  -- a fact of the message that comes back from a send that may wait, if it does
   abbrev pub IfRefused : Sent T → (T → Type 0) → Type 0
-  IfRefused (SendEntered seat) Fact = Unit {0}
-  IfRefused (SendWaits ticket) Fact = Unit {0}
-  IfRefused (SendRefused reason back seat) Fact = Fact back
+  IfRefused SendEntered Fact = Unit {0}
+  IfRefused (SendWaits ticket end) Fact = Unit {0}
+  IfRefused (SendRefused reason back) Fact = Fact back
+
+  -- a fact of the end at which a send waits, if it does
+  abbrev pub IfSendWaits : Sent T → (WaitEnd (Outcome T) → Type 0) → Type 0
+  IfSendWaits SendEntered Fact = Unit {0}
+  IfSendWaits (SendWaits ticket end) Fact = Fact end
+  IfSendWaits (SendRefused reason back) Fact = Unit {0}
+
+  -- a fact of the end at which a receive waits, if it does
+  abbrev pub IfReceiveWaits : Received T → (WaitEnd (Outcome T) → Type 0) → Type 0
+  IfReceiveWaits (Got m) Fact = Unit {0}
+  IfReceiveWaits (ReceiveWaits ticket end) Fact = Fact end
+  IfReceiveWaits (ReceiveRefused reason) Fact = Unit {0}
 
   -- a message was asked for by a call that doesn't wait: it got the front, there was none, or it was refused
   abbrev pub TriesToReceive : Line T → Result (Option T) ReceiveError → List (ℕ × Outcome T) → Line T → Type 0
@@ -140,45 +155,45 @@ module _ {T : Type 0} where
   ReceivesLate old (Err reason) settled new = RefusesLate old reason × (new ≡ old) × (settled ≡ [])
 
   -- a send that found no place waits, or it was refused and came back
-  abbrev pub WaitsToSend : Line T → T → Result Ticket (SendError × T × Boxed T) → Line T → Type 0
+  abbrev pub WaitsToSend : Line T → T → Result Ticket (SendError × T × Seat T) → Line T → Type 0
   WaitsToSend old m (Ok ticket) new = (number_of ticket ≡ old.next) × (new ≡ wait_send old m)
   WaitsToSend old m (Err back) new = RefusesWaitingSend old back.0 × (back.1 ≡ m) × (new ≡ old)
 
   -- who joined those that wait by a send that found no place, whose seat came back where it doesn't wait
-  abbrev pub WaitingSeats : List (Waiter T (Boxed T)) → T → Boxed T → Result Ticket (SendError × T × Boxed T) → List (Waiter T (Boxed T)) → Type 0
+  abbrev pub WaitingSeats : List (Waiter T (Seat T)) → T → Seat T → Result Ticket (SendError × T × Seat T) → List (Waiter T (Seat T)) → Type 0
   WaitingSeats old m seat (Ok ticket) new = new ≡ old ++ record { ticket = ticket; message = Some m; w = seat } ∷ []
   WaitingSeats old m seat (Err back) new = (new ≡ old) × (back.2 ≡ seat)
 
   -- a message was sent: it entered, it waits, or it was refused and came back
   abbrev pub Sends : Line T → T → Sent T → List (ℕ × Outcome T) → Line T → Type 0
-  Sends old m (SendEntered seat) settled new = Enters old m settled new
-  Sends old m (SendWaits ticket) settled new = IsFull old × (number_of ticket ≡ old.next) × (new ≡ wait_send old m) × (settled ≡ [])
-  Sends old m (SendRefused reason back seat) settled new = RefusesSend old reason × (back ≡ m) × (new ≡ old) × (settled ≡ [])
+  Sends old m SendEntered settled new = Enters old m settled new
+  Sends old m (SendWaits ticket end) settled new = IsFull old × (number_of ticket ≡ old.next) × (new ≡ wait_send old m) × (settled ≡ [])
+  Sends old m (SendRefused reason back) settled new = RefusesSend old reason × (back ≡ m) × (new ≡ old) × (settled ≡ [])
 
-  -- who left or joined those that wait by a send, whose seat came back where it doesn't wait
-  abbrev pub SendSeats : List (Waiter T (Boxed T)) → T → Boxed T → Sent T → List (Settled T (Boxed T)) → List (Waiter T (Boxed T)) → Type 0
-  SendSeats old m seat (SendEntered back) settled new = OldestLeft old (first settled) new × (back ≡ seat)
-  SendSeats old m seat (SendWaits ticket) settled new = new ≡ old ++ record { ticket = ticket; message = Some m; w = seat } ∷ []
-  SendSeats old m seat (SendRefused reason message back) settled new = (new ≡ old) × (back ≡ seat)
+  -- who left or joined those that wait by a send: who joined is told at the end that came back
+  abbrev pub SendSeats : List (Waiter T (Seat T)) → T → Sent T → List (Settled T (Seat T)) → List (Waiter T (Seat T)) → Type 0
+  SendSeats old m SendEntered settled new = OldestLeft old (first settled) new
+  SendSeats old m (SendWaits ticket end) settled new = (seat : Seat T) × (new ≡ old ++ record { ticket = ticket; message = Some m; w = seat } ∷ []) × AreOfOneCell end (end_of seat)
+  SendSeats old m (SendRefused reason back) settled new = new ≡ old
 
   -- a receive that found no message waits, or it was refused
-  abbrev pub WaitsToReceive : Line T → Result Ticket (ReceiveError × Boxed T) → Line T → Type 0
+  abbrev pub WaitsToReceive : Line T → Result Ticket (ReceiveError × Seat T) → Line T → Type 0
   WaitsToReceive old (Ok ticket) new = (number_of ticket ≡ old.next) × (new ≡ wait_recv old)
   WaitsToReceive old (Err back) new = RefusesWaitingReceive old back.0 × (new ≡ old)
 
   -- who joined those that wait by a receive that found no message, whose seat came back where it doesn't wait
-  abbrev pub AwaitingSeats : List (Waiter T (Boxed T)) → Boxed T → Result Ticket (ReceiveError × Boxed T) → List (Waiter T (Boxed T)) → Type 0
+  abbrev pub AwaitingSeats : List (Waiter T (Seat T)) → Seat T → Result Ticket (ReceiveError × Seat T) → List (Waiter T (Seat T)) → Type 0
   AwaitingSeats old seat (Ok ticket) new = new ≡ old ++ record { ticket = ticket; message = None; w = seat } ∷ []
   AwaitingSeats old seat (Err back) new = (new ≡ old) × (back.1 ≡ seat)
 
   -- a message was received: it was the front, the receiver waits, or it was refused
   abbrev pub Receives : Line T → Received T → List (ℕ × Outcome T) → Line T → Type 0
-  Receives old (Got m seat) settled new = TakesFront old m settled new
-  Receives old (ReceiveWaits ticket) settled new = IsEmpty old × (number_of ticket ≡ old.next) × (new ≡ wait_recv old) × (settled ≡ [])
-  Receives old (ReceiveRefused reason seat) settled new = RefusesReceive old reason × (new ≡ old) × (settled ≡ [])
+  Receives old (Got m) settled new = TakesFront old m settled new
+  Receives old (ReceiveWaits ticket end) settled new = IsEmpty old × (number_of ticket ≡ old.next) × (new ≡ wait_recv old) × (settled ≡ [])
+  Receives old (ReceiveRefused reason) settled new = RefusesReceive old reason × (new ≡ old) × (settled ≡ [])
 
-  -- who left or joined those that wait by a receive, whose seat came back where it doesn't wait
-  abbrev pub ReceiveSeats : List (Waiter T (Boxed T)) → Boxed T → Received T → List (Settled T (Boxed T)) → List (Waiter T (Boxed T)) → Type 0
-  ReceiveSeats old seat (Got m back) settled new = OldestLeft old (first settled) new × (back ≡ seat)
-  ReceiveSeats old seat (ReceiveWaits ticket) settled new = new ≡ old ++ record { ticket = ticket; message = None; w = seat } ∷ []
-  ReceiveSeats old seat (ReceiveRefused reason back) settled new = (new ≡ old) × (back ≡ seat)
+  -- who left or joined those that wait by a receive: who joined is told at the end that came back
+  abbrev pub ReceiveSeats : List (Waiter T (Seat T)) → Received T → List (Settled T (Seat T)) → List (Waiter T (Seat T)) → Type 0
+  ReceiveSeats old (Got m) settled new = OldestLeft old (first settled) new
+  ReceiveSeats old (ReceiveWaits ticket end) settled new = (seat : Seat T) × (new ≡ old ++ record { ticket = ticket; message = None; w = seat } ∷ []) × AreOfOneCell end (end_of seat)
+  ReceiveSeats old (ReceiveRefused reason) settled new = new ≡ old

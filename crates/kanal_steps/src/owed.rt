@@ -15,9 +15,9 @@ enum Waits<T> {
     /// No wait.
     Nothing,
     /// The wait that was settled.
-    One(Settled<T, Box<Seat<T>>>),
+    One(Settled<T, Seat<T>>),
     /// The waits that ended, oldest first.
-    All(Ended<T, Box<Seat<T>>>),
+    All(Ended<T, Seat<T>>),
 }
 
 impl<T: Drop> Waits<T> {
@@ -66,7 +66,7 @@ impl<T: Drop> Owed<T> {
 
     /// Of a step that settled this wait.
     #[inline]
-    pub(crate) fn one(settled: Settled<T, Box<Seat<T>>>) -> Self
+    pub(crate) fn one(settled: Settled<T, Seat<T>>) -> Self
         ensures waits { waits_in result ≡ settled ∷ [] }
     {
         Owed {
@@ -76,7 +76,7 @@ impl<T: Drop> Owed<T> {
 
     /// Of a step that settled this wait, if there is one.
     #[inline]
-    pub(crate) fn at_most_one(settled: Option<Settled<T, Box<Seat<T>>>>) -> Self
+    pub(crate) fn at_most_one(settled: Option<Settled<T, Seat<T>>>) -> Self
         ensures waits { waits_in result ≡ listed settled }
     {
         match settled {
@@ -87,7 +87,7 @@ impl<T: Drop> Owed<T> {
 
     /// Of a step that ended these waits.
     #[inline]
-    pub(crate) fn all(ended: Ended<T, Box<Seat<T>>>) -> Self
+    pub(crate) fn all(ended: Ended<T, Seat<T>>) -> Self
         ensures waits { waits_in result ≡ ended }
     {
         Owed {

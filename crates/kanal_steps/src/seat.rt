@@ -3,7 +3,6 @@
 //!
 //! Stands on the settling end and on the kit's linked list. What leaves the core is settled or let go
 //! in `calls`, and only after the lock was released.
-ghost use Rattle.std.specs.Prelude.{◌≡◌, length};
 
 mod calls;
 
@@ -13,7 +12,7 @@ use kanal_core::internal::ChannelInternal;
 use std::collections::LinkedList;
 
 /// The core of a channel whose waiters bring seats.
-pub type Core<T> = ChannelInternal<T, Box<Seat<T>>>;
+pub type Core<T> = ChannelInternal<T, Seat<T>>;
 
 /// Who left by notice: the end of its cell, and the message of its entry.
 #[derive(Drop)]
@@ -28,10 +27,10 @@ pub type Leavers<T> = LinkedList<Option<Leaver<T>>>;
 /// A waiter's end of its cell, with the room that keeps its entry when it leaves by notice.
 ///
 /// The room is a list of one place, so that those who left are strung together with no memory asked
-/// for, and a seat holds no other seat.
+/// for, and a seat holds no other seat. A blocked call never leaves by notice, so the seat that it
+/// brings has no room, and asks for no memory.
 #[derive(Drop)]
 pub struct Seat<T> {
     settler: Settler<T>,
     room: Leavers<T>,
-    ghost one_place: { length room ≡ 1 },
 }

@@ -4,7 +4,8 @@
 //! that left the core; what it owes to those whose waits it settled or ended is an `Owed`. Nothing is
 //! settled or let go here, since the lock is held. A handle changes a core by a step or by the core's
 //! own calls, and by nothing else.
-ghost use Rattle.std.specs.Prelude.{◌≡◌, ◌⊎◌, ◌↔◌, ◌+◌, ◌^◌, ◌<◌, ◌≤◌, ◌++◌, List, [], ◌∷◌, IsSome, true, cond, map, length, IfNone, IfOk, IfErr, OnErr, IsErr, IsErrOf};
+ghost use Rattle.std.specs.Prelude.{◌≡◌, ◌⊎◌, ◌↔◌, ◌+◌, ◌^◌, ◌<◌, ◌≤◌, ◌++◌, List, [], ◌∷◌, Some, IsSome, true, cond, map, length, IfNone, IfOk, IfErr, OnErr, IsErr, IsErrOf};
+ghost use Rattle.std.specs.Fn.{FnReturnsAt};
 ghost use Rattle.std.specs.Option.{option_map};
 ghost use Rattle.std.specs.Vec.{vec_capacity, vec_len};
 ghost use Rattle.kanal_core.specs.Line.{messages};
@@ -12,21 +13,23 @@ ghost use Rattle.kanal_core.specs.Moves.{cleared, close, drain, drop_receiver, d
 ghost use Rattle.kanal_core.specs.Channel.{closed, after_drain, ended_by, line_of, sealed, taken_by};
 ghost use Rattle.kanal_core.specs.Waiters.{IsPlaced, receiver_first, sender_first, waiter_of, without};
 ghost use Rattle.kanal_core.specs.Calls.{IsFull, IsEmpty, MovesTo, OldestLeft, Withdraws};
+ghost use Rattle.kanal_core.specs.declared.internal.outcome.Ticket.{Ticket};
 ghost use Rattle.kanal_core.specs.declared.internal.outcome.Waiter.{Waiter};
-ghost use Rattle.kanal_steps.specs.Leaving.{LeaveInTurn, kept_of, kept_by};
+ghost use Rattle.kanal_steps.specs.Leaving.{BringsRoom, LeaveInTurn, TellsRoom, kept_of, kept_by};
 ghost use Rattle.kanal_steps.specs.Owing.{first, settled_in, waits_in};
 ghost use Rattle.kanal_steps.specs.Renewing.{Renews};
-ghost use Rattle.kanal_steps.specs.Seats.{Boxed};
-ghost use Rattle.kanal_steps.specs.Steps.{TriesToSend, TriesToReceive, RefusesDrain, Sends, SendSeats, WaitsToSend, WaitingSeats, ReceivesLate, Receives, ReceiveSeats, WaitsToReceive, AwaitingSeats, drops_last, receivers_dropped, senders_dropped, times};
+ghost use Rattle.kanal_steps.specs.Seats.{HasRoom};
+ghost use Rattle.kanal_steps.specs.Steps.{TriesToSend, TriesToReceive, RefusesDrain, ReceivesLate, drops_last, receivers_dropped, senders_dropped, times};
+
+mod waits;
 
 use crate::owed::Owed;
 use crate::seat::{Core, Leavers, Seat};
 use futures::task::Waker;
-use kanal_core::error::{
-    CloseError, DrainError, ReceiveError, ReceiveErrorTimeout, SendError, WaitError,
-};
+use kanal_core::error::{CloseError, DrainError, ReceiveError, ReceiveErrorTimeout, SendError};
 use kanal_core::internal::{Cleared, Closing, Offer, Reason, Steps, Take, Ticket, Waiter};
 use std::marker::Brand;
+pub use waits::{Received, Sent, recv, send, wait_recv, wait_send};
 
 /// How many waits that were left are withdrawn at most at once: more are never there.
 const MOST: u64 = 1 << 62;
@@ -40,28 +43,6 @@ pub enum Offered<T> {
     Full(T),
     /// It was refused, and comes back.
     Refused(SendError, T),
-}
-
-/// What a send came to.
-#[derive(Drop)]
-pub enum Sent<T> {
-    /// The message is in the line, or with a receiver that waited; the seat comes back.
-    Entered(Box<Seat<T>>),
-    /// The message waits.
-    Waits(Ticket),
-    /// It was refused; message and seat come back.
-    Refused(SendError, T, Box<Seat<T>>),
-}
-
-/// What a receive came to.
-#[derive(Drop)]
-pub enum Received<T> {
-    /// The front message; the seat comes back.
-    Got(T, Box<Seat<T>>),
-    /// The receiver waits.
-    Waits(Ticket),
-    /// It was refused; the seat comes back.
-    Refused(ReceiveError, Box<Seat<T>>),
 }
 
 /// Offers the message: it enters where there is a place for it, and comes back otherwise.
@@ -137,111 +118,6 @@ pub fn recv_late<T: Drop>(core: &mut Core<T>) -> (Result<T, ReceiveErrorTimeout>
         Take::Empty | Take::SendClosed => ReceiveErrorTimeout::Timeout,
     };
     (Err(error), Owed::nothing())
-}
-
-/// Starts the wait of a send that found no place.
-///
-/// # Errors
-/// `NoMemory` where memory was refused, and `TooMany` where the tickets are used up. Message and seat
-/// come back then, and the core is as it was.
-///
-/// # Examples
-/// ```text
-/// wait_send(&mut core, 8, seat)   answers  Ok(ticket)   where `try_send` answered Full(8)
-/// ```
-pub fn wait_send<T: Drop>(
-    core: &mut Core<T>,
-    message: T,
-    seat: Box<Seat<T>>,
-) -> Result<Ticket, (SendError, T, Box<Seat<T>>)>
-    requires full { IsFull (line_of core.old) }
-    ensures step { WaitsToSend (line_of core.old) message result (line_of core.new) }
-    ensures seats { WaitingSeats core.old.waiters message seat result core.new.waiters }
-{
-    match core.wait_send(message, seat) {
-        Ok(ticket) => Ok(ticket),
-        Err((WaitError::NoMemory, back, seat)) => Err((SendError::NoMemory, back, seat)),
-        Err((WaitError::TooMany, back, seat)) => Err((SendError::TooMany, back, seat)),
-    }
-}
-
-/// Offers the message, and starts its wait where there is no place for it.
-///
-/// A send is refused as `try_send` is, and where its wait finds no memory or no ticket. Message and
-/// seat come back then, and the core is as it was.
-///
-/// # Examples
-/// ```text
-/// send(&mut core, 7, seat)   answers  Entered(seat)   in a new core for one message
-/// send(&mut core, 8, seat)   answers  Waits(ticket)   after that
-/// ```
-pub fn send<T: Drop>(core: &mut Core<T>, message: T, seat: Box<Seat<T>>) -> (Sent<T>, Owed<T>)
-    ensures step { Sends (line_of core.old) message result.0 (settled_in result.1)
-        (line_of core.new) }
-    ensures seats { SendSeats core.old.waiters message seat result.0 (waits_in result.1)
-        core.new.waiters }
-{
-    let (offered, owed) = try_send(core, message);
-    let sent = match offered {
-        Offered::Entered => Sent::Entered(seat),
-        Offered::Full(back) => match wait_send(core, back, seat) {
-            Ok(ticket) => Sent::Waits(ticket),
-            Err((error, back, seat)) => Sent::Refused(error, back, seat),
-        },
-        Offered::Refused(error, back) => Sent::Refused(error, back, seat),
-    };
-    (sent, owed)
-}
-
-/// Starts the wait of a receive that found no message.
-///
-/// # Errors
-/// `NoMemory` where memory was refused, and `TooMany` where the tickets are used up. The seat comes
-/// back then, and the core is as it was.
-///
-/// # Examples
-/// ```text
-/// wait_recv(&mut core, seat)   answers  Ok(ticket)   where `try_recv` answered Ok(None)
-/// ```
-pub fn wait_recv<T: Drop>(
-    core: &mut Core<T>,
-    seat: Box<Seat<T>>,
-) -> Result<Ticket, (ReceiveError, Box<Seat<T>>)>
-    requires empty { IsEmpty (line_of core.old) }
-    ensures step { WaitsToReceive (line_of core.old) result (line_of core.new) }
-    ensures seats { AwaitingSeats core.old.waiters seat result core.new.waiters }
-{
-    match core.wait_recv(seat) {
-        Ok(ticket) => Ok(ticket),
-        Err((WaitError::NoMemory, seat)) => Err((ReceiveError::NoMemory, seat)),
-        Err((WaitError::TooMany, seat)) => Err((ReceiveError::TooMany, seat)),
-    }
-}
-
-/// Takes the front message, and starts a wait where there is none.
-///
-/// A receive is refused as `try_recv` is, and where its wait finds no memory or no ticket. The seat
-/// comes back then, and the core is as it was.
-///
-/// # Examples
-/// ```text
-/// recv(&mut core, seat)   answers  Waits(ticket)   in a new core
-/// ```
-pub fn recv<T: Drop>(core: &mut Core<T>, seat: Box<Seat<T>>) -> (Received<T>, Owed<T>)
-    ensures step { Receives (line_of core.old) result.0 (settled_in result.1) (line_of core.new) }
-    ensures seats { ReceiveSeats core.old.waiters seat result.0 (waits_in result.1)
-        core.new.waiters }
-{
-    let (answer, owed) = try_recv(core);
-    let received = match answer {
-        Ok(Some(message)) => Received::Got(message, seat),
-        Ok(None) => match wait_recv(core, seat) {
-            Ok(ticket) => Received::Waits(ticket),
-            Err((error, seat)) => Received::Refused(error, seat),
-        },
-        Err(error) => Received::Refused(error, seat),
-    };
-    (received, owed)
 }
 
 /// Swaps the waker of the wait with the ticket for the spare one, if there is a spare, and answers
@@ -415,10 +291,10 @@ pub fn drop_receivers<T: Drop>(core: &mut Core<T>, count: u64) -> Owed<T>
 /// withdraw(&mut core, ticket)   answers  Some(waiter)   with a sender's message
 /// withdraw(&mut core, ticket)   answers  None           after that
 /// ```
-pub fn withdraw<T: Drop>(core: &mut Core<T>, ticket: Ticket) -> Option<Waiter<T, Box<Seat<T>>>>
+pub fn withdraw<T: Drop>(core: &mut Core<T>, ticket: Ticket) -> Option<Waiter<T, Seat<T>>>
     ensures step { IsSome result ⊎ IsPlaced ticket core.old.waiters
         → Withdraws (line_of core.old) ticket
-        (option_map (λ (w : Waiter T (Boxed T)). w.message) result) (line_of core.new) }
+        (option_map (λ (w : Waiter T (Seat T)). w.message) result) (line_of core.new) }
     ensures missing { IfNone result (core.new ≡ core.old) }
     ensures waiter { result ≡ waiter_of ticket core.old.waiters }
     ensures others { core.new.waiters ≡ without ticket core.old.waiters }
@@ -428,7 +304,8 @@ pub fn withdraw<T: Drop>(core: &mut Core<T>, ticket: Ticket) -> Option<Waiter<T,
 }
 
 /// Keeps the entry in the room of its own seat, in front of those that left before.
-fn keep<T: Drop>(waiter: Waiter<T, Box<Seat<T>>>, before: Option<Leavers<T>>) -> Leavers<T>
+fn keep<T: Drop>(waiter: Waiter<T, Seat<T>>, before: Option<Leavers<T>>) -> Leavers<T>
+    requires room { HasRoom waiter.w }
     requires few { length (kept_by before) < 2 ^ 62 }
     ensures kept { result ≡ kept_of waiter ∷ kept_by before }
 {
@@ -437,7 +314,7 @@ fn keep<T: Drop>(waiter: Waiter<T, Box<Seat<T>>>, before: Option<Leavers<T>>) ->
         message,
         w,
     } = waiter;
-    let mut leavers = Box::into_inner(w).keep(message);
+    let mut leavers = w.keep(message);
     let Some(mut before) = before else {
         return leavers;
     };
@@ -445,6 +322,31 @@ fn keep<T: Drop>(waiter: Waiter<T, Box<Seat<T>>>, before: Option<Leavers<T>>) ->
         unreachable!()
     };
     leavers
+}
+
+/// The oldest that has left, by a test that passes only a seat with a room.
+fn first_left<T: Drop, F: Fn(&Seat<T>) -> bool + Drop>(core: &Core<T>, test: F) -> Option<Ticket>
+    requires callable { F.IsAlwaysCallable test }
+    requires tells { TellsRoom (FnReturnsAt F.Fn test) }
+    ensures room { (t : Ticket) → result ≡ Some t → BringsRoom t core.now.waiters }
+{
+    core.holds();
+    core.first_waiter(test)
+}
+
+/// The oldest behind the one with the ticket that has left, by the same test.
+fn next_left<T: Drop, F: Fn(&Seat<T>) -> bool + Drop>(
+    core: &Core<T>,
+    ticket: Ticket,
+    test: F,
+) -> Option<Ticket>
+    requires callable { F.IsAlwaysCallable test }
+    requires tells { TellsRoom (FnReturnsAt F.Fn test) }
+    ensures room { (t : Ticket) → result ≡ Some t
+        → BringsRoom t (without ticket core.now.waiters) }
+{
+    core.holds();
+    core.next_waiter(ticket, test)
 }
 
 /// Withdraws all waits that were left, at most 2 to the power of 62 of them, and hands out their
@@ -456,16 +358,16 @@ fn keep<T: Drop>(waiter: Waiter<T, Box<Seat<T>>>, before: Option<Leavers<T>>) ->
 /// withdraw_left(&mut core)   answers  None   where everybody who waits still does
 /// ```
 pub fn withdraw_left<T: Drop>(core: &mut Core<T>) -> Option<Leavers<T>>
-    ensures withdrawn { (gone : List (Waiter T (Boxed T))) × LeaveInTurn core.old gone core.new
+    ensures withdrawn { (gone : List (Waiter T (Seat T))) × LeaveInTurn core.old gone core.new
         × (kept_by result ≡ map kept_of gone) }
 {
     let mut leavers = None;
-    let mut found = core.first_waiter(|seat| seat.is_left());
+    let mut found = first_left(core, |seat| seat.is_left());
     for _count in 0..MOST {
         let Some(ticket) = found else {
             return leavers;
         };
-        found = core.next_waiter(ticket, |seat| seat.is_left());
+        found = next_left(core, ticket, |seat| seat.is_left());
         let Some(waiter) = withdraw(core, ticket) else {
             return leavers;
         };

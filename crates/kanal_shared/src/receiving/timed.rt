@@ -4,8 +4,7 @@
 use super::answer_of;
 use crate::backoff::Waiting;
 use crate::clock::{Clock, deadline};
-use crate::sending::wait;
-use crate::shared::Shared;
+use crate::shared::{Locked, Shared};
 use kanal_core::error::{ReceiveError, ReceiveErrorTimeout};
 use kanal_core::internal::{Outcome, Ticket};
 use kanal_steps::steps;
@@ -49,10 +48,13 @@ impl<T: Drop> Shared<T> {
         if clock.now() > deadline {
             return self.recv_late(rt);
         }
-        match self.try_recv(rt) {
-            Ok(Some(message)) => Ok(message),
-            Ok(None) => self.recv_until(rt, deadline, clock),
-            Err(error) => Err(timed(error)),
+        let mut locked = self.hold(rt);
+        match locked.core.pop() {
+            Some(message) => {
+                locked.give_back_quiet();
+                Ok(message)
+            },
+            None => self.recv_until(rt, locked, deadline, clock),
         }
     }
 
@@ -64,23 +66,24 @@ impl<T: Drop> Shared<T> {
         answer
     }
 
-    /// Receives a message with what a wait needs in hand, until the deadline.
+    /// Receives a message under the lock, where none left the buffer by itself, and waits until the
+    /// deadline where there is none.
+    #[cold]
     fn recv_until<R: Wait + time::Clock, C: Clock>(
         &self,
         rt: &R,
+        locked: Locked<'_, T>,
         deadline: u64,
         clock: &C,
     ) -> Result<T, ReceiveErrorTimeout> {
-        let Some((waiting, seat)) = wait(self.alloc) else {
-            return Err(ReceiveErrorTimeout::NoMemory);
-        };
-        match self.recv_seated(rt, seat) {
-            Received::Got(message, _seat) => Ok(message),
-            Received::Waits(ticket) => {
-                let looked = waiting.outcome_until(rt, clock, deadline);
+        match self.begin_recv(rt, locked) {
+            Received::Got(message) => Ok(message),
+            Received::Waits(ticket, end) => {
+                let waiting = Waiting::new(self.alloc, end);
+                let looked = waiting.outcome_until(rt, &self.policy, clock, deadline);
                 self.end_recv(rt, ticket, looked)
             },
-            Received::Refused(error, _seat) => Err(timed(error)),
+            Received::Refused(error) => Err(timed(error)),
         }
     }
 
@@ -98,7 +101,7 @@ impl<T: Drop> Shared<T> {
         };
         match self.withdraw(rt, ticket) {
             Some(_message) => Err(ReceiveErrorTimeout::Timeout),
-            None => answer_of(waiting.outcome(rt)).map_err(timed),
+            None => answer_of(waiting.outcome(rt, &self.policy)).map_err(timed),
         }
     }
 }

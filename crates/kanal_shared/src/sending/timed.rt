@@ -4,13 +4,12 @@
 ghost use Rattle.std.specs.Prelude.{◌≡◌, Some, IfErr};
 ghost use Rattle.kanal_shared.specs.Timed.{StartedNoWait};
 
-use super::wait;
 use crate::backoff::Waiting;
 use crate::clock::{Clock, deadline};
-use crate::shared::Shared;
+use crate::shared::{Locked, Shared};
 use kanal_core::error::{SendError, SendErrorTimeout};
 use kanal_core::internal::{Outcome, Reason, Ticket};
-use kanal_steps::steps::{Offered, Sent};
+use kanal_steps::steps::Sent;
 use std::sync::Wait;
 use std::time;
 use std::time::Duration;
@@ -68,33 +67,37 @@ impl<T: Drop> Shared<T> {
         let Some(deadline) = deadline(clock, duration) else {
             return Err((SendErrorTimeout::DeadlineOutOfRange, Some(message)));
         };
-        match self.offer(rt, message) {
-            Offered::Entered => Ok(()),
-            Offered::Full(message) => self.send_until(rt, message, deadline, clock),
-            Offered::Refused(error, message) => Err((timed(error), Some(message))),
+        let mut locked = self.hold(rt);
+        match locked.core.push(message) {
+            Ok(()) => {
+                locked.give_back_quiet();
+                Ok(())
+            },
+            Err(message) => self.send_until(rt, locked, message, deadline, clock),
         }
     }
 
-    /// Sends the message with what a wait needs in hand.
+    /// Sends the message under the lock, where it did not enter by itself, and waits until the deadline
+    /// where there is no place for it.
+    #[cold]
     fn send_until<R: Wait + time::Clock, C: Clock>(
         &self,
         rt: &R,
+        locked: Locked<'_, T>,
         message: T,
         deadline: u64,
         clock: &C,
     ) -> Result<(), Kept<T>>
         ensures kept { IfErr result (λ e. StartedNoWait e.0 → e.1 ≡ Some message) }
     {
-        let Some((waiting, seat)) = wait(self.alloc) else {
-            return Err((SendErrorTimeout::NoMemory, Some(message)));
-        };
-        match self.send_seated(rt, message, seat) {
-            Sent::Entered(_seat) => Ok(()),
-            Sent::Waits(ticket) => {
-                let looked = waiting.outcome_until(rt, clock, deadline);
+        match self.begin_send(rt, locked, message) {
+            Sent::Entered => Ok(()),
+            Sent::Waits(ticket, end) => {
+                let waiting = Waiting::new(self.alloc, end);
+                let looked = waiting.outcome_until(rt, &self.policy, clock, deadline);
                 self.end_send(rt, ticket, looked)
             },
-            Sent::Refused(error, back, _seat) => Err((timed(error), Some(back))),
+            Sent::Refused(error, back) => Err((timed(error), Some(back))),
         }
     }
 
@@ -114,7 +117,7 @@ impl<T: Drop> Shared<T> {
         };
         match self.withdraw(rt, ticket) {
             Some(message) => Err((SendErrorTimeout::Timeout, message)),
-            None => timed_answer_of(waiting.outcome(rt)),
+            None => timed_answer_of(waiting.outcome(rt, &self.policy)),
         }
     }
 }

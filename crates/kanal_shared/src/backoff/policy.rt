@@ -1,0 +1,146 @@
+//! How a blocked call passes the time between its looks at its cell, and when it has looked enough.
+//!
+//! Stands on pauses and on the kit's yield. A pause spins: it keeps the processor, and ends by itself. A
+//! yield hands the processor to any thread that is ready. A thread of the same channel gives it back
+//! within a microsecond; a thread that computes keeps it for milliseconds. No call can know beforehand
+//! which of the two it will be. So where the buffer is short, a call yields only while the channel has
+//! credit for that, and the channel gets credit from waits that ended while they paused. On a busy
+//! machine few waits end so, and a call that is not told soon sleeps until it is told.
+use crate::pause::pause;
+use std::sync::atomic::AtomicU64;
+use std::sync::atomic::Ordering::SeqCst;
+use std::thread;
+
+/// From how many places on a buffer is long.
+const LONG: usize = 128;
+
+/// The longest pause between two looks, as a power of two of spins.
+const LONGEST: u32 = 6;
+
+/// How often a call pauses before it yields or sleeps, where the buffer is short.
+const PAUSES: u32 = 23;
+
+/// How often a call pauses before it yields, where the buffer is long.
+const FEW_PAUSES: u32 = 7;
+
+/// How often a call yields at most.
+const YIELDS: u32 = 4;
+
+/// How much credit a call needs to yield. A wait that ended while it paused gives 1.
+const COST: u64 = 8;
+
+/// How much credit a channel has at most.
+const MOST: u64 = 64;
+
+/// How the blocked calls of one channel wait before they sleep. All of them share it.
+///
+/// It is advice alone: whatever it says, a call looks at its cell before it sleeps.
+///
+/// # Examples
+/// ```text
+/// let policy = WaitPolicy::new(1);
+/// waiting.outcome(&rt, &policy)   answers  7   when another thread has settled with 7
+/// ```
+#[derive(Drop)]
+pub struct WaitPolicy {
+    is_long: bool,
+    credit: AtomicU64,
+}
+
+impl WaitPolicy {
+    /// Of a channel whose buffer has so many places. It has no credit yet.
+    pub fn new(places: usize) -> Self {
+        WaitPolicy {
+            is_long: places >= LONG,
+            credit: AtomicU64::new(0),
+        }
+    }
+
+    /// Adds the credit of a wait that ended while it paused.
+    fn add_credit(&self) {
+        let credit = self.credit.load(SeqCst);
+        if credit < MOST {
+            self.credit.store(credit + 1, SeqCst);
+        }
+    }
+
+    /// Takes the credit that a call needs to yield, and answers whether there was so much.
+    fn take_credit(&self) -> bool {
+        let credit = self.credit.load(SeqCst);
+        if credit < COST {
+            return false;
+        }
+        self.credit.store(credit - COST, SeqCst);
+        true
+    }
+}
+
+/// How often one call has looked at its cell.
+pub(super) struct Looks<'a> {
+    policy: &'a WaitPolicy,
+    count: u32,
+}
+
+impl Drop for Looks<'_> {
+    fn drop(self) {
+        let Looks {
+            policy: _,
+            count: _,
+        } = self;
+    }
+}
+
+impl<'a> Looks<'a> {
+    /// Of a call that has not looked yet.
+    pub(super) fn new(policy: &'a WaitPolicy) -> Self {
+        Looks { policy, count: 0 }
+    }
+
+    /// The call found its outcome.
+    pub(super) fn end(self) {
+        if self.count <= PAUSES {
+            self.policy.add_credit();
+        }
+    }
+
+    /// Passes the time until the next look, and answers whether there is one. Where there is none the
+    /// call sleeps.
+    pub(super) fn go_on(&mut self) -> bool {
+        let count = self.count;
+        self.count = count.saturating_add(1);
+        if self.policy.is_long {
+            pause_and_yield(count)
+        } else {
+            self.pause_mostly(count)
+        }
+    }
+
+    /// The same, where the buffer is short: it pauses, yields where there is credit, and then sleeps.
+    fn pause_mostly(&self, count: u32) -> bool {
+        if count < PAUSES {
+            pause(count.min(LONGEST));
+            return true;
+        }
+        if count == PAUSES && !self.policy.take_credit() {
+            return false;
+        }
+        if count < PAUSES + YIELDS {
+            thread::yield_now();
+            return true;
+        }
+        false
+    }
+}
+
+/// The same, where the buffer is long: it pauses for a short time, yields, and pauses again before it
+/// sleeps. Whoever has the processor meanwhile fills the buffer or empties it.
+fn pause_and_yield(count: u32) -> bool {
+    if count < FEW_PAUSES {
+        pause(count);
+    } else if count < FEW_PAUSES + YIELDS {
+        thread::yield_now();
+    } else {
+        pause(LONGEST);
+    }
+    count < PAUSES + YIELDS
+}

@@ -1,4 +1,5 @@
 //! Calls of the handles.
+pub mod asleep;
 pub mod beside;
 pub mod blocked;
 pub mod calls;

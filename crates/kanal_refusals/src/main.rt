@@ -15,7 +15,7 @@ mod polls;
 mod pool;
 mod tally;
 
-use handles::{beside, blocked, calls, growths, timed};
+use handles::{asleep, beside, blocked, calls, growths, timed};
 use history::{lists, passes};
 use std::alloc::{AllocGlobal, Global};
 use std::process::ExitCode;
@@ -41,6 +41,8 @@ fn on_one_thread<R: Wait + time::Clock>(rt: &R, alloc: Global, tally: &mut Tally
     timed::send_option_times_out(rt, alloc, tally)?;
     timed::send_times_out(rt, alloc, tally)?;
     timed::recv_times_out(rt, alloc, tally)?;
+    asleep::recv_is_given(rt, alloc, tally)?;
+    asleep::send_is_taken(rt, alloc, tally)?;
     passes::call_all(rt, alloc, tally)
 }
 

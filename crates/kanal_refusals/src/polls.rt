@@ -234,24 +234,25 @@ pub fn send_changes_its_task<R: Wait + RandomSource + AllocGlobal>(
     let (sender, receiver, first, second) = channel_and_tasks(rt, alloc, tally)?;
     let mut sending = sender.send(3);
     holds(
-        send_begins(tally, &sender, &first, &mut sending)
+        send_begins(tally, &sender, &first, &mut sending, 3)
             && send_goes_on(tally, &second, &mut sending)
             && send_wakes(rt, &receiver, &second, &mut sending),
     )
 }
 
-/// Whether the send waits, if need be a new one.
-pub fn send_begins<'a>(
+/// Whether the send waits, if need be a new one of the other message.
+pub fn send_begins<'a, T: Drop>(
     tally: &mut Tally,
-    sender: &'a AsyncSender<u64>,
+    sender: &'a AsyncSender<T>,
     task: &MockTask,
-    sending: &mut SendFuture<'a, u64>,
+    sending: &mut SendFuture<'a, T>,
+    other: T,
 ) -> bool {
     if task.poll(sending) == Poll::Pending {
         return true;
     }
     tally.add();
-    *sending = sender.send(3);
+    *sending = sender.send(other);
     task.poll(sending) == Poll::Pending
 }
 

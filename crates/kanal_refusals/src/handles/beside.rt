@@ -23,7 +23,7 @@ pub fn sends<R: Wait + RandomSource + AllocGlobal + time::Clock>(
     let (first, second) = (task(rt)?, task(rt)?);
     let mut waiting = sender.send(3);
     holds(
-        send_begins(tally, &sender, &first, &mut waiting)
+        send_begins(tally, &sender, &first, &mut waiting, 3)
             && late_send(rt, tally, &sender)
             && polled_send(rt, tally, &sender, &second)
             && receiver.try_recv(rt) == Ok(Some(3))

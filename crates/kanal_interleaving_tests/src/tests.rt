@@ -5,6 +5,7 @@ mod forgotten;
 mod given;
 mod line;
 mod lists;
+mod meeting;
 mod notices;
 mod races;
 mod recorded;

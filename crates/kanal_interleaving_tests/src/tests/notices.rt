@@ -1,16 +1,17 @@
 //! Races of notices: one thread drops handles while another has the lock for a call that doesn't wait.
 //!
 //! Whoever had the lock, or left the notice, applies it: a receive that the last drop ends is told before
-//! anybody makes a further call.
+//! anybody makes a further call. The threads meet right before: a round in which they don't fails the test.
+//! Whether a drop finds the lock held is left to the schedule.
 use crate::tests::given::{equal, holds, new_task};
-use crate::tests::races::{Word, arrive, meet, new_word};
+use crate::tests::meeting::{Meeting, shared};
 use futures::task::Poll;
 use kanal::error::ReceiveError;
 use kanal::{AsyncReceiver, AsyncSender, bounded_async};
-use std::alloc::AllocGlobal;
+use std::alloc::{AllocGlobal, Global};
 use std::process::Abort;
 use std::random::RandomSource;
-use std::sync::Wait;
+use std::sync::{Arc, Wait};
 use std::thread;
 use std::thread::{JoinHandle, Threads};
 
@@ -21,11 +22,11 @@ const ROUNDS: u32 = 5_000;
 fn start_drop<R: Threads + Wait + Abort + Copy + Send + 'static>(
     rt: R,
     sender: AsyncSender<u64>,
-    word: Word,
+    meeting: Arc<Meeting, Global>,
     pauses: u32,
 ) -> JoinHandle<()> {
     let dropping = thread::spawn(&rt, move || {
-        arrive(&word, pauses);
+        meeting.attend(&rt, pauses);
         drop(sender);
     });
     dropping.expect(&rt, "a thread")
@@ -37,22 +38,18 @@ fn drop_beside_a_try<R>(
     rt: R,
     senders: Vec<AsyncSender<u64>>,
     receiver: &AsyncReceiver<u64>,
+    meeting: &Arc<Meeting, Global>,
     round: u32,
 )
 where
     R: Threads + Wait + Abort + AllocGlobal + Copy + Send + 'static,
 {
     let mut dropping = Vec::new(rt.alloc());
-    let mut words = Vec::new(rt.alloc());
     for sender in senders {
-        let (word, mine) = new_word(&rt);
-        let thread = start_drop(rt, sender, word, round % 40);
+        let thread = start_drop(rt, sender, shared(&rt, meeting), round % 40);
         dropping.push(thread).expect(&rt, "memory for a thread");
-        words.push(mine).expect(&rt, "memory for a word");
     }
-    for word in words.iter() {
-        meet(word);
-    }
+    meeting.attend(&rt, 0);
     let answer = receiver.try_recv_realtime();
     for thread in dropping {
         thread.join(&rt);
@@ -64,7 +61,7 @@ where
 }
 
 /// A receive waits, and the drops of so many senders end it.
-fn end_a_receive<R>(rt: R, senders: usize, round: u32)
+fn end_a_receive<R>(rt: R, senders: u32, round: u32)
 where
     R: Threads + Wait + Abort + RandomSource + AllocGlobal + Copy + Send + 'static,
 {
@@ -78,7 +75,8 @@ where
     let task = new_task(&rt);
     let mut receiving = receiver.recv();
     equal(&rt, task.poll(&mut receiving), Poll::Pending);
-    drop_beside_a_try(rt, all, &receiver, round);
+    let meeting = Meeting::new(&rt, senders.wrapping_add(1));
+    drop_beside_a_try(rt, all, &receiver, &meeting, round);
     holds(&rt, task.is_woken());
     let ended = task.poll(&mut receiving);
     equal(&rt, ended, Poll::Ready(Err(ReceiveError::SendClosed)));

@@ -1,9 +1,11 @@
 //! Races: in each round one thread closes, drops or seals a channel while this one makes a call on it.
 //!
 //! Whoever comes first, the call has an answer that the rules have for one of the orders, and each message
-//! is dropped once.
+//! is dropped once. The two threads meet right before: a round in which they don't fails the test. Who is
+//! first after that is left to the schedule.
 use crate::tests::counted::{Counted, Drops};
 use crate::tests::given::{equal, holds, new_task};
+use crate::tests::meeting::{Meeting, shared};
 use futures::task::Poll;
 use futures::test::MockTask;
 use kanal::error::{ReceiveError, SendError, SendErrorTimeout};
@@ -11,12 +13,10 @@ use kanal::{AsyncSender, Receiver, Sender, TestClock, bounded};
 use std::alloc::{AllocGlobal, Global};
 use std::process::Abort;
 use std::random::RandomSource;
-use std::sync::atomic::AtomicBool;
-use std::sync::atomic::Ordering::SeqCst;
 use std::sync::{Arc, Wait};
 use std::thread::{JoinHandle, Threads};
 use std::time::Duration;
-use std::{hint, thread, time};
+use std::{thread, time};
 
 /// How the other thread ends the channel.
 #[derive(Clone, Copy, PartialEq, Eq)]
@@ -65,48 +65,16 @@ impl Round {
     }
 }
 
-/// How often a thread looks for the other's word before it goes on alone.
-const TURNS: u32 = 100_000;
-
-/// The other thread's word that it is there.
-pub(super) type Word = Arc<AtomicBool, Global>;
-
-/// Says that this thread is there, and puts its end off.
-pub(super) fn arrive(word: &AtomicBool, pauses: u32) {
-    word.store(true, SeqCst);
-    for _ in 0..pauses {
-        hint::spin_loop();
-    }
-}
-
-/// Waits until the other thread is there, for so many turns at most.
-pub(super) fn meet(word: &AtomicBool) {
-    for turn in 0..TURNS {
-        if word.load(SeqCst) {
-            return;
-        }
-        if turn % 64 == 63 {
-            thread::yield_now();
-        }
-    }
-}
-
-/// A word that was not said, twice.
-pub(super) fn new_word(rt: &(impl Abort + AllocGlobal)) -> (Word, Word) {
-    let word = Arc::new(rt.alloc(), AtomicBool::new(false)).expect(rt, "a word");
-    let other = Arc::try_clone(&word).expect(rt, "one more");
-    (word, other)
-}
-
 /// Ends the channel through its receiver, in another thread, which this one has met.
 fn end_by_receiver<R: Threads + Wait + Abort + AllocGlobal + Copy + Send + 'static>(
     rt: R,
     receiver: Receiver<Counted>,
     round: Round,
 ) -> JoinHandle<()> {
-    let (word, mine) = new_word(&rt);
+    let meeting = Meeting::new(&rt, 2);
+    let theirs = shared(&rt, &meeting);
     let ending = thread::spawn(&rt, move || {
-        arrive(&word, round.pauses);
+        theirs.attend(&rt, round.pauses);
         let _ = match round.end {
             End::Close => receiver.close(&rt),
             End::Drop => Ok(()),
@@ -114,8 +82,9 @@ fn end_by_receiver<R: Threads + Wait + Abort + AllocGlobal + Copy + Send + 'stat
         };
         drop(receiver);
     });
-    meet(&mine);
-    ending.expect(&rt, "a thread")
+    let ending = ending.expect(&rt, "a thread");
+    meeting.attend(&rt, 0);
+    ending
 }
 
 /// The same through its sender.
@@ -124,9 +93,10 @@ fn end_by_sender<R: Threads + Wait + Abort + AllocGlobal + Copy + Send + 'static
     sender: Sender<Counted>,
     round: Round,
 ) -> JoinHandle<()> {
-    let (word, mine) = new_word(&rt);
+    let meeting = Meeting::new(&rt, 2);
+    let theirs = shared(&rt, &meeting);
     let ending = thread::spawn(&rt, move || {
-        arrive(&word, round.pauses);
+        theirs.attend(&rt, round.pauses);
         let _ = match round.end {
             End::Close => sender.close(&rt),
             End::Drop => Ok(()),
@@ -134,8 +104,9 @@ fn end_by_sender<R: Threads + Wait + Abort + AllocGlobal + Copy + Send + 'static
         };
         drop(sender);
     });
-    meet(&mine);
-    ending.expect(&rt, "a thread")
+    let ending = ending.expect(&rt, "a thread");
+    meeting.attend(&rt, 0);
+    ending
 }
 
 /// Whether a send can be refused so. The channel is sealed before its receiver goes.

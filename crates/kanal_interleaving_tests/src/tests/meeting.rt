@@ -1,0 +1,61 @@
+//! A meeting of threads: nobody goes on before all are there, and one that doesn't come fails the test.
+use crate::tests::given::holds;
+use std::alloc::{AllocGlobal, Global};
+use std::process::Abort;
+use std::sync::Arc;
+use std::sync::atomic::AtomicU32;
+use std::sync::atomic::Ordering::SeqCst;
+use std::{hint, thread};
+
+/// How often a thread looks for the others before the test fails.
+const TURNS: u32 = 100_000_000;
+
+/// How many threads are to meet, and how many are there.
+#[derive(Drop)]
+pub struct Meeting {
+    threads: u32,
+    there: AtomicU32,
+}
+
+/// Lets so many pauses pass.
+fn pause(pauses: u32) {
+    for _ in 0..pauses {
+        hint::spin_loop();
+    }
+}
+
+impl Meeting {
+    /// A meeting of so many threads, where nobody is yet.
+    pub fn new(rt: &(impl Abort + AllocGlobal), threads: u32) -> Arc<Meeting, Global> {
+        let meeting = Meeting {
+            threads,
+            there: AtomicU32::new(0),
+        };
+        Arc::new(rt.alloc(), meeting).expect(rt, "memory for a meeting")
+    }
+
+    /// Comes, and waits until all are there. Ends the test where that takes too many turns.
+    fn wait_for_all(&self, rt: &impl Abort) {
+        self.there.fetch_add(1, SeqCst);
+        for turn in 0..TURNS {
+            if self.there.load(SeqCst) >= self.threads {
+                return;
+            }
+            if turn % 64 == 63 {
+                thread::yield_now();
+            }
+        }
+        holds(rt, false);
+    }
+
+    /// Meets the others, and then puts off what comes next for so many pauses.
+    pub fn attend(&self, rt: &impl Abort, pauses: u32) {
+        self.wait_for_all(rt);
+        pause(pauses);
+    }
+}
+
+/// The same meeting, for another thread.
+pub fn shared(rt: &impl Abort, meeting: &Arc<Meeting, Global>) -> Arc<Meeting, Global> {
+    Arc::try_clone(meeting).expect(rt, "one more")
+}

@@ -11,3 +11,4 @@ mod races;
 mod recorded;
 mod sync;
 mod tasks;
+mod watch;

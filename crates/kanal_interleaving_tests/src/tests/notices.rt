@@ -5,6 +5,7 @@
 //! Whether a drop finds the lock held is left to the schedule.
 use crate::tests::given::{equal, holds, new_task};
 use crate::tests::meeting::{Meeting, shared};
+use crate::tests::watch::Watch;
 use futures::task::Poll;
 use kanal::error::ReceiveError;
 use kanal::{AsyncReceiver, AsyncSender, bounded_async};
@@ -12,8 +13,8 @@ use std::alloc::{AllocGlobal, Global};
 use std::process::Abort;
 use std::random::RandomSource;
 use std::sync::{Arc, Wait};
-use std::thread;
 use std::thread::{JoinHandle, Threads};
+use std::{thread, time};
 
 /// How many rounds there are.
 const ROUNDS: u32 = 5_000;
@@ -82,16 +83,25 @@ where
     equal(&rt, ended, Poll::Ready(Err(ReceiveError::SendClosed)));
 }
 
+/// Runs all rounds with so many senders. How many they were.
+fn end_receives<R>(rt: R, senders: u32) -> u32
+where
+    R: Threads + Wait + time::Clock + Abort + RandomSource + AllocGlobal + Copy + Send + 'static,
+{
+    let watch = Watch::start(rt);
+    for round in 0..ROUNDS {
+        end_a_receive(rt, senders, round);
+        watch.count();
+    }
+    watch.stop(&rt)
+}
+
 #[test]
 fn the_last_drop_beside_a_try_ends_a_receive(rt: HostRuntime) {
-    for round in 0..ROUNDS {
-        end_a_receive(rt, 1, round);
-    }
+    equal(&rt, end_receives(rt, 1), 5_000);
 }
 
 #[test]
 fn two_drops_beside_a_try_end_a_receive(rt: HostRuntime) {
-    for round in 0..ROUNDS {
-        end_a_receive(rt, 2, round);
-    }
+    equal(&rt, end_receives(rt, 2), 5_000);
 }

@@ -2,10 +2,11 @@
 //!
 //! Whoever comes first, the call has an answer that the rules have for one of the orders, and each message
 //! is dropped once. The two threads meet right before: a round in which they don't fails the test. Who is
-//! first after that is left to the schedule.
+//! first after that is left to the schedule, and a round that doesn't end fails the test, too.
 use crate::tests::counted::{Counted, Drops};
 use crate::tests::given::{equal, holds, new_task};
 use crate::tests::meeting::{Meeting, shared};
+use crate::tests::watch::Watch;
 use futures::task::Poll;
 use futures::test::MockTask;
 use kanal::error::{ReceiveError, SendError, SendErrorTimeout};
@@ -261,7 +262,7 @@ fn race<
     R: Threads + Wait + time::Clock + Abort + RandomSource + AllocGlobal + Copy + Send + 'static,
 >(rt: R, call: Call) -> u32 {
     let (task, drops) = (new_task(&rt), Drops::new(&rt));
-    let mut rounds = 0u32;
+    let watch = Watch::start(rt);
     for number in 0..ROUNDS {
         let round = Round::numbered(number);
         match call {
@@ -271,9 +272,9 @@ fn race<
             Call::TimeOut => time_out(rt, round, &drops),
             Call::DropWaiting => drop_waiting(rt, &task, round, &drops),
         }
-        rounds = rounds.wrapping_add(1);
+        watch.count();
     }
-    rounds
+    watch.stop(&rt)
 }
 
 #[test]

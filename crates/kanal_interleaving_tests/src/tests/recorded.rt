@@ -2,6 +2,7 @@
 //!
 //! The passes agree with the journal each time, and its events, run on a new channel, get its replies.
 use crate::tests::given::equal;
+use crate::tests::watch::Watch;
 use kanal_core::mutex::Mutex;
 use kanal_journal::journal::{Ask, Event, Journal, Reply, Side, run};
 use kanal_recorded::{Pass, Recorded, Seen};
@@ -169,10 +170,13 @@ fn run_again(rt: &(impl Abort + AllocGlobal), journal: &Journal<u64>) -> usize {
 #[test]
 fn random_calls_of_four_threads(rt: HostRuntime) {
     let mut replies = 0usize;
+    let watch = Watch::start(rt);
     for round in 0..200u64 {
         let journal = journal(&rt, round);
         replies = replies.wrapping_add(run_again(&rt, &journal));
+        watch.count();
     }
+    equal(&rt, watch.stop(&rt), 200);
     // 200 rounds of 25 calls by each of four threads.
     equal(&rt, replies, 20_000);
 }

@@ -8,6 +8,7 @@ mod lists;
 mod meeting;
 mod notices;
 mod races;
+mod receives;
 mod recorded;
 mod sync;
 mod tasks;

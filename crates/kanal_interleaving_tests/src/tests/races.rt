@@ -21,7 +21,7 @@ use std::{thread, time};
 
 /// How the other thread ends the channel.
 #[derive(Clone, Copy, PartialEq, Eq)]
-enum End {
+pub(super) enum End {
     Close,
     Drop,
     Seal,
@@ -39,20 +39,20 @@ enum Call {
 
 /// One round of a race.
 #[derive(Clone, Copy)]
-struct Round {
-    end: End,
+pub(super) struct Round {
+    pub(super) end: End,
     /// How many places the channel has, or how many messages are in it: 0 or 1.
-    count: usize,
+    pub(super) count: usize,
     /// How long the other thread puts its end off.
-    pauses: u32,
+    pub(super) pauses: u32,
 }
 
 /// How many rounds a call has: 10,000 beside each of the three ends.
-const ROUNDS: u32 = 30_000;
+pub(super) const ROUNDS: u32 = 30_000;
 
 impl Round {
     /// The round with this number.
-    fn numbered(number: u32) -> Self {
+    pub(super) fn numbered(number: u32) -> Self {
         let end = match number % 3 {
             0 => End::Close,
             1 => End::Drop,
@@ -88,7 +88,17 @@ fn end_by_receiver<R: Threads + Wait + Abort + AllocGlobal + Copy + Send + 'stat
     ending
 }
 
-/// The same through its sender.
+/// Ends the channel through its sender, which is dropped.
+pub(super) fn end_sender<R: Wait>(rt: &R, sender: Sender<Counted>, end: End) {
+    let _ = match end {
+        End::Close => sender.close(rt),
+        End::Drop => Ok(()),
+        End::Seal => sender.seal(rt),
+    };
+    drop(sender);
+}
+
+/// The same as by the receiver, but through the sender.
 fn end_by_sender<R: Threads + Wait + Abort + AllocGlobal + Copy + Send + 'static>(
     rt: R,
     sender: Sender<Counted>,
@@ -98,12 +108,7 @@ fn end_by_sender<R: Threads + Wait + Abort + AllocGlobal + Copy + Send + 'static
     let theirs = shared(&rt, &meeting);
     let ending = thread::spawn(&rt, move || {
         theirs.attend(&rt, round.pauses);
-        let _ = match round.end {
-            End::Close => sender.close(&rt),
-            End::Drop => Ok(()),
-            End::Seal => sender.seal(&rt),
-        };
-        drop(sender);
+        end_sender(&rt, sender, round.end);
     });
     let ending = ending.expect(&rt, "a thread");
     meeting.attend(&rt, 0);

@@ -50,6 +50,9 @@ pub(super) struct Round {
 /// How many rounds a call has: 10,000 beside each of the three ends.
 pub(super) const ROUNDS: u32 = 30_000;
 
+/// As many pauses as let a blocked call that looks for its outcome go to sleep: it has to be woken then.
+const LONG: u32 = 20_000;
+
 impl Round {
     /// The round with this number.
     pub(super) fn numbered(number: u32) -> Self {
@@ -61,7 +64,10 @@ impl Round {
         Round {
             end,
             count: if number / 3 % 2 == 0 { 0 } else { 1 },
-            pauses: number / 6 % 50,
+            pauses: match number / 6 % 50 {
+                49 => LONG,
+                pauses => pauses,
+            },
         }
     }
 }

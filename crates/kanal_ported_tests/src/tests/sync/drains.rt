@@ -34,12 +34,13 @@ fn send_number<R: Wait + Abort>(rt: &R, tx: &Sender<u64>) {
     equal(rt, tx.send(rt, 0xFF), Ok(()));
 }
 
-/// Sends a number from each of so many threads, and joins them.
+/// Sends a number from each of so many threads, each through a clone of its own, and joins them.
 fn send_numbers<R: Threads + Wait + Abort + Sync>(rt: &R, tx: &Sender<u64>) {
     thread::scope(thread::scope_env(), rt, |scope| {
         for _ in 0..SENDERS {
+            let theirs = tx.clone(rt).expect(rt, "a clone");
             scope
-                .spawn(move || send_number(rt, tx))
+                .spawn(move || send_number(rt, &theirs))
                 .expect(rt, "a thread");
         }
     });

@@ -135,15 +135,16 @@ fn send_and_tell<R: Wait + Abort>(
     equal(rt, tx.send(rt, message), Err(SendError::Closed));
 }
 
-/// Ten threads send, and once all have begun the channel is closed.
+/// Ten threads send, each through a clone of its own, and once all have begun the channel is closed.
 fn close_upon_ten<R: Threads + Wait + Abort + AllocGlobal + Sync>(rt: &R, drops: &Drops) {
     let (sender, receiver) = new(rt, Some(0));
     let begun = counter(rt);
-    let (tx, told) = (&sender, &begun);
+    let told = &begun;
     thread::scope(thread::scope_env(), rt, |scope| {
         for _ in 0..10 {
+            let theirs = sender.clone(rt).expect(rt, "a clone");
             scope
-                .spawn(move || send_and_tell(rt, tx, drops, told))
+                .spawn(move || send_and_tell(rt, &theirs, drops, told))
                 .expect(rt, "a thread");
         }
         wait_until(rt, told, 10);

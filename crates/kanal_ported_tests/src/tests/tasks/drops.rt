@@ -39,20 +39,21 @@ fn receive_any<T: Drop, R: Wait + Abort + RandomSource + AllocGlobal>(
     }
 }
 
-/// Several tasks send such messages to as many.
+/// Several tasks send such messages to as many, each through a clone of its own.
 fn pass_testers<R>(rt: &R, drops: &Drops)
 where
     R: Threads + Wait + Abort + RandomSource + AllocGlobal + Sync,
 {
-    let (sender, receiver) = new(rt, Some(1));
-    let (tx, rx) = (&sender, &receiver);
+    let (tx, rx) = new(rt, Some(1));
     thread::scope(thread::scope_env(), rt, |scope| {
         for _ in 0..THREADS {
+            let theirs = tx.clone(rt).expect(rt, "a clone");
             scope
-                .spawn(move || send_testers(rt, tx, drops))
+                .spawn(move || send_testers(rt, &theirs, drops))
                 .expect(rt, "a thread");
+            let theirs = rx.clone(rt).expect(rt, "a clone");
             scope
-                .spawn(move || receive_any(rt, rx))
+                .spawn(move || receive_any(rt, &theirs))
                 .expect(rt, "a thread");
         }
     });
@@ -72,20 +73,21 @@ fn send_vectors<R: Wait + Abort + RandomSource + AllocGlobal>(rt: &R, tx: &Async
     }
 }
 
-/// Several tasks send vectors to as many.
+/// Several tasks send vectors to as many, each through a clone of its own.
 fn pass_vectors<R>(rt: &R)
 where
     R: Threads + Wait + Abort + RandomSource + AllocGlobal + Sync,
 {
-    let (sender, receiver) = new(rt, Some(1));
-    let (tx, rx) = (&sender, &receiver);
+    let (tx, rx) = new(rt, Some(1));
     thread::scope(thread::scope_env(), rt, |scope| {
         for _ in 0..THREADS {
+            let theirs = tx.clone(rt).expect(rt, "a clone");
             scope
-                .spawn(move || send_vectors(rt, tx))
+                .spawn(move || send_vectors(rt, &theirs))
                 .expect(rt, "a thread");
+            let theirs = rx.clone(rt).expect(rt, "a clone");
             scope
-                .spawn(move || receive_any(rt, rx))
+                .spawn(move || receive_any(rt, &theirs))
                 .expect(rt, "a thread");
         }
     });
@@ -147,15 +149,16 @@ fn send_tester<R: Wait + Abort + RandomSource + AllocGlobal>(
     let _answer = send(rt, tx, DropTester::new(rt, drops));
 }
 
-/// Ten tasks send one message each.
+/// Ten tasks send one message each, each through a clone of its own.
 fn send_from_ten<R>(rt: &R, tx: &AsyncSender<DropTester>, drops: &Drops)
 where
     R: Threads + Wait + Abort + RandomSource + AllocGlobal + Sync,
 {
     thread::scope(thread::scope_env(), rt, |scope| {
         for _ in 0..10 {
+            let theirs = tx.clone(rt).expect(rt, "a clone");
             scope
-                .spawn(move || send_tester(rt, tx, drops))
+                .spawn(move || send_tester(rt, &theirs, drops))
                 .expect(rt, "a thread");
         }
     });

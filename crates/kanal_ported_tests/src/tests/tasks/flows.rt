@@ -15,7 +15,7 @@ fn seq<R: Wait + Abort + RandomSource + AllocGlobal>(rt: &R, capacity: Option<us
     receive_ones(rt, &rx, MESSAGES);
 }
 
-/// One task sends to another.
+/// One task has the sole sender, and sends to another.
 fn spsc<R>(rt: &R, capacity: Option<usize>)
 where
     R: Threads + Wait + Abort + RandomSource + AllocGlobal + Sync,
@@ -23,44 +23,45 @@ where
     let (tx, rx) = new(rt, capacity);
     thread::join(
         rt,
-        || send_ones(rt, &tx, MESSAGES),
+        move || send_ones(rt, &tx, MESSAGES),
         || receive_ones(rt, &rx, MESSAGES),
     );
 }
 
-/// Several tasks send to one.
+/// Several tasks send to one, each through a clone of its own.
 fn mpsc<R>(rt: &R, capacity: Option<usize>)
 where
     R: Threads + Wait + Abort + RandomSource + AllocGlobal + Sync,
 {
-    let (sender, receiver) = new(rt, capacity);
-    let (tx, rx) = (&sender, &receiver);
+    let (tx, rx) = new(rt, capacity);
     thread::scope(thread::scope_env(), rt, |scope| {
         for _ in 0..THREADS {
             let each = MESSAGES / THREADS;
+            let theirs = tx.clone(rt).expect(rt, "a clone");
             scope
-                .spawn(move || send_ones(rt, tx, each))
+                .spawn(move || send_ones(rt, &theirs, each))
                 .expect(rt, "a thread");
         }
-        receive_ones(rt, rx, MESSAGES);
+        receive_ones(rt, &rx, MESSAGES);
     });
 }
 
-/// Several tasks send to as many.
+/// Several tasks send to as many, each through a clone of its own.
 fn mpmc<R>(rt: &R, capacity: Option<usize>)
 where
     R: Threads + Wait + Abort + RandomSource + AllocGlobal + Sync,
 {
-    let (sender, receiver) = new(rt, capacity);
-    let (tx, rx) = (&sender, &receiver);
+    let (tx, rx) = new(rt, capacity);
     thread::scope(thread::scope_env(), rt, |scope| {
         for _ in 0..THREADS {
             let each = MESSAGES / THREADS;
+            let theirs = tx.clone(rt).expect(rt, "a clone");
             scope
-                .spawn(move || send_ones(rt, tx, each))
+                .spawn(move || send_ones(rt, &theirs, each))
                 .expect(rt, "a thread");
+            let theirs = rx.clone(rt).expect(rt, "a clone");
             scope
-                .spawn(move || receive_ones(rt, rx, each))
+                .spawn(move || receive_ones(rt, &theirs, each))
                 .expect(rt, "a thread");
         }
     });

@@ -36,7 +36,7 @@ where
     }
 }
 
-/// Both go from one thread to another, with no place between.
+/// Both go from one thread, which has the sole sender, to another, with no place between.
 fn integrity_test<T, R>(rt: &R, zero: T, ones: T)
 where
     T: Drop + Copy + PartialEq + Debug + Send + Sync,
@@ -45,7 +45,7 @@ where
     let (tx, rx) = new::<T>(rt, Some(0));
     thread::join(
         rt,
-        || send_both(rt, &tx, zero, ones),
+        move || send_both(rt, &tx, zero, ones),
         || receive_both(rt, &rx, zero, ones),
     );
 }

@@ -28,7 +28,7 @@ fn receive_all<R: Wait + Abort + RandomSource + AllocGlobal>(rt: &R, rx: &AsyncR
 #[test]
 fn spsc_overaligned_zst(rt: HostRuntime) {
     let (tx, rx) = new::<Nothing>(&rt, Some(0));
-    thread::join(&rt, || send_all(&rt, &tx), || receive_all(&rt, &rx));
+    thread::join(&rt, move || send_all(&rt, &tx), || receive_all(&rt, &rx));
 }
 
 /// A send waits with its message, and a receive takes it from there.

@@ -28,13 +28,13 @@ fn receive_two<R: Wait + Abort + RandomSource + AllocGlobal>(rt: &R, rx: &AsyncR
     receive_one(rt, rx, 1);
 }
 
-/// Two messages go through a channel with so many places.
+/// Two messages go through a channel with so many places, whose sole sender is the task's that sends.
 fn two_msg<R>(rt: &R, size: usize)
 where
     R: Threads + Wait + Abort + RandomSource + AllocGlobal + Sync,
 {
     let (tx, rx) = new::<u8>(rt, Some(size));
-    thread::join(rt, || send_two(rt, &tx), || receive_two(rt, &rx));
+    thread::join(rt, move || send_two(rt, &tx), || receive_two(rt, &rx));
 }
 
 #[test]

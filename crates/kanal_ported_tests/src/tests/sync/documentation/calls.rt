@@ -45,7 +45,11 @@ fn try_to_send_option_realtime<R: Wait + Abort>(rt: &R, s: &Sender<u64>) {
 #[test]
 fn try_send(rt: HostRuntime) {
     let (s, r) = new::<u64>(&rt, Some(0));
-    thread::join(&rt, || try_to_send(&rt, &s), || receive_one(&rt, &r, 1));
+    thread::join(
+        &rt,
+        move || try_to_send(&rt, &s),
+        || receive_one(&rt, &r, 1),
+    );
 }
 
 #[test]
@@ -53,7 +57,7 @@ fn try_send_realtime(rt: HostRuntime) {
     let (s, r) = new::<u64>(&rt, Some(0));
     thread::join(
         &rt,
-        || try_to_send_realtime(&rt, &s),
+        move || try_to_send_realtime(&rt, &s),
         || receive_one(&rt, &r, 1),
     );
 }
@@ -63,7 +67,7 @@ fn try_send_option(rt: HostRuntime) {
     let (s, r) = new::<u64>(&rt, Some(0));
     thread::join(
         &rt,
-        || try_to_send_option(&rt, &s),
+        move || try_to_send_option(&rt, &s),
         || receive_one(&rt, &r, 1),
     );
 }
@@ -73,7 +77,7 @@ fn try_send_option_realtime(rt: HostRuntime) {
     let (s, r) = new::<u64>(&rt, Some(0));
     thread::join(
         &rt,
-        || try_to_send_option_realtime(&rt, &s),
+        move || try_to_send_option_realtime(&rt, &s),
         || receive_one(&rt, &r, 1),
     );
 }
@@ -83,7 +87,7 @@ fn send(rt: HostRuntime) {
     let (s, r) = new::<&'static str>(&rt, Some(0));
     thread::join(
         &rt,
-        || send_one(&rt, &s, "Hello"),
+        move || send_one(&rt, &s, "Hello"),
         || receive_one(&rt, &r, "Hello"),
     );
 }
@@ -111,7 +115,7 @@ fn try_recv(rt: HostRuntime) {
     let (s, r) = new::<&'static str>(&rt, Some(0));
     thread::join(
         &rt,
-        || send_one(&rt, &s, "Buddy"),
+        move || send_one(&rt, &s, "Buddy"),
         || try_to_recv(&rt, &r, "Buddy"),
     );
 }
@@ -121,7 +125,7 @@ fn try_recv_realtime(rt: HostRuntime) {
     let (s, r) = new::<&'static str>(&rt, Some(0));
     thread::join(
         &rt,
-        || send_one(&rt, &s, "Buddy"),
+        move || send_one(&rt, &s, "Buddy"),
         || try_to_recv_realtime(&rt, &r, "Buddy"),
     );
 }

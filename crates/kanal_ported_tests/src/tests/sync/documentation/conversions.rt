@@ -43,7 +43,7 @@ fn sender_as_async(rt: HostRuntime) {
     let (s, r) = new::<&'static str>(&rt, Some(0));
     thread::join(
         &rt,
-        || send_in_task(&rt, s.as_async(), "World"),
+        move || send_in_task(&rt, s.as_async(), "World"),
         || receive_one(&rt, &r, "World"),
     );
 }
@@ -71,7 +71,7 @@ fn receiver_as_async(rt: HostRuntime) {
     let (s, r) = new::<&'static str>(&rt, Some(0));
     thread::join(
         &rt,
-        || receive_in_task(&rt, r.as_async(), "World"),
+        move || receive_in_task(&rt, r.as_async(), "World"),
         || send_one(&rt, &s, "World"),
     );
 }

@@ -34,7 +34,7 @@ fn send_timeout(rt: HostRuntime) {
     let (s, r) = new::<&'static str>(&rt, Some(0));
     thread::join(
         &rt,
-        || send_timed(&rt, &s, "Hello"),
+        move || send_timed(&rt, &s, "Hello"),
         || receive_one(&rt, &r, "Hello"),
     );
 }
@@ -44,7 +44,7 @@ fn send_option_timeout(rt: HostRuntime) {
     let (s, r) = new::<&'static str>(&rt, Some(0));
     thread::join(
         &rt,
-        || send_option_timed(&rt, &s, "Hello"),
+        move || send_option_timed(&rt, &s, "Hello"),
         || receive_one(&rt, &r, "Hello"),
     );
 }

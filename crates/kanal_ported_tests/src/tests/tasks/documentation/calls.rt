@@ -14,7 +14,7 @@ fn recv(rt: HostRuntime) {
     let (s, r) = new::<&'static str>(&rt, Some(0));
     thread::join(
         &rt,
-        || send_one(&rt, &s, "Buddy"),
+        move || send_one(&rt, &s, "Buddy"),
         || receive_one(&rt, &r, "Buddy"),
     );
 }
@@ -24,7 +24,7 @@ fn bounded_async(rt: HostRuntime) {
     let (s, r) = new::<&'static str>(&rt, Some(0));
     thread::join(
         &rt,
-        || send_one(&rt, &s, "hello!"),
+        move || send_one(&rt, &s, "hello!"),
         || receive_one(&rt, &r, "hello!"),
     );
 }
@@ -34,7 +34,7 @@ fn unbounded_async(rt: HostRuntime) {
     let (s, r) = new::<&'static str>(&rt, None);
     thread::join(
         &rt,
-        || send_one(&rt, &s, "hello!"),
+        move || send_one(&rt, &s, "hello!"),
         || receive_one(&rt, &r, "hello!"),
     );
 }

@@ -59,7 +59,7 @@ fn sender_as_sync(rt: HostRuntime) {
     let (s, r) = new::<&'static str>(&rt, Some(0));
     thread::join(
         &rt,
-        || send_through_a_view(&rt, &s, "World"),
+        move || send_through_a_view(&rt, &s, "World"),
         || receive_one(&rt, &r, "World"),
     );
 }
@@ -93,7 +93,7 @@ fn receiver_as_sync(rt: HostRuntime) {
     let (s, r) = new::<&'static str>(&rt, Some(0));
     thread::join(
         &rt,
-        || receive_through_a_view(&rt, &r, "World"),
+        move || receive_through_a_view(&rt, &r, "World"),
         || send_one(&rt, &s, "World"),
     );
 }

@@ -1,11 +1,22 @@
-//! Polls while the lock is held by the test: each makes no step and asks for another poll.
+//! Polls while the lock is held by the test: each makes no step and asks for another poll, once.
+//!
+//! Wakes that come before the next poll are one wake to a task. So each is used up before the next one is
+//! looked for.
 use crate::tests::given::{channel, equal, holds, new_task};
 use futures::task::Poll;
 use futures::test::MockTask;
 use kanal_core::error::{ReceiveError, SendError};
 use kanal_shared::{ReceiveFuture, SendFuture, Shared};
 use kanal_steps::owed::Owed;
+use std::process::Abort;
 use std::sync::Wait;
+
+/// Ends the test unless the task was woken, once: after a poll that does nothing no wake is left.
+fn woken_once(rt: &impl Abort, task: &MockTask) {
+    holds(rt, task.is_woken());
+    task.enter(|_cx| {});
+    holds(rt, !task.is_woken());
+}
 
 /// Polls a send once while the lock is held; the answer, and how many messages the buffer had at the
 /// release.
@@ -44,7 +55,7 @@ fn a_send_is_polled_while_the_lock_is_held(rt: HostRuntime) {
     let (polled, held) = poll_send_held(&rt, &shared, &task, &mut sending);
     equal(&rt, polled, Poll::Pending);
     equal(&rt, held, 0);
-    holds(&rt, task.is_woken());
+    woken_once(&rt, &task);
     equal(&rt, task.poll(&mut sending), Poll::Ready(Ok(())));
     holds(&rt, !task.is_woken());
 }
@@ -58,21 +69,24 @@ fn a_receive_is_polled_while_the_lock_is_held(rt: HostRuntime) {
     let (polled, held) = poll_recv_held(&rt, &shared, &task, &mut receiving);
     equal(&rt, polled, Poll::Pending);
     equal(&rt, held, 1);
-    holds(&rt, task.is_woken());
+    woken_once(&rt, &task);
     equal(&rt, task.poll(&mut receiving), Poll::Ready(Ok(7)));
     holds(&rt, !task.is_woken());
 }
 
-/// A wait that was started goes on, and its waker is the same.
+/// A wait that was started goes on, and its waker is the same: the message wakes the task once more.
 #[test]
 fn a_wait_is_polled_while_the_lock_is_held(rt: HostRuntime) {
     let shared = channel::<u64>(&rt, 0);
     let task = new_task(&rt);
     let mut receiving = shared.recv();
     equal(&rt, task.poll(&mut receiving), Poll::Pending);
+    holds(&rt, !task.is_woken());
     let (polled, _held) = poll_recv_held(&rt, &shared, &task, &mut receiving);
     equal(&rt, polled, Poll::Pending);
-    holds(&rt, task.is_woken());
+    woken_once(&rt, &task);
     equal(&rt, shared.send_blocking(&rt, 7), Ok(()));
+    woken_once(&rt, &task);
     equal(&rt, task.poll(&mut receiving), Poll::Ready(Ok(7)));
+    holds(&rt, !task.is_woken());
 }

@@ -8,4 +8,5 @@ mod flows;
 pub mod given;
 mod integrity;
 mod nothing;
+mod ring;
 mod shared;

@@ -1,5 +1,6 @@
 //! Messages of size 0 between threads, and through a buffer.
 use super::given::new;
+use super::ring::round_the_end;
 use crate::tests::given::{counter, holds, wait_until};
 use crate::tests::messages::Nothing;
 use kanal::{Receiver, Sender};
@@ -39,22 +40,7 @@ fn spsc_overaligned_zst(rt: HostRuntime) {
     );
 }
 
-/// Fills the buffer, and empties it.
-fn fill_and_empty<R: Wait + Abort>(rt: &R, tx: &Sender<Nothing>, rx: &Receiver<Nothing>) {
-    for _ in 0..FEW {
-        holds(rt, tx.try_send(rt, []) == Ok(true));
-    }
-    holds(rt, tx.try_send(rt, []) == Ok(false));
-    for _ in 0..FEW {
-        holds(rt, rx.recv(rt).is_ok());
-    }
-    holds(rt, rx.is_empty(rt));
-}
-
-/// The second time round the messages begin where the first ones ended.
 #[test]
 fn nothing_through_a_buffer(rt: HostRuntime) {
-    let (tx, rx) = new::<Nothing>(&rt, Some(10));
-    fill_and_empty(&rt, &tx, &rx);
-    fill_and_empty(&rt, &tx, &rx);
+    round_the_end::<Nothing, _>(&rt, [], [], []);
 }

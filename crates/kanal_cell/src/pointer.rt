@@ -6,11 +6,10 @@ ghost use Rattle.std.specs.Prelude.{◌≡◌, ◌∷◌};
 ghost use Rattle.atomic_table.specs.Table.{rest};
 ghost use Rattle.kanal_cell.specs.CellRule.{Carries, IsOutcome, IsSleeper};
 
-use crate::signal::{Held, SignalRule, View};
+use crate::signal::{Held, SignalRule, Sleeper, View};
 use atomic_table::{Seat, Shared};
-use crossbeam_utils::sync::Unparker;
 
-type Slots<P> = Shared<Option<Held<P>>, View, (), SignalRule>;
+pub(crate) type Slots<P> = Shared<Option<Held<P>>, View, (), SignalRule>;
 
 type Place<P> = Seat<Option<Held<P>>, View>;
 
@@ -42,7 +41,7 @@ pub(crate) fn take_outcome<P: Drop>(cell: &Slots<P>, seat: &mut Place<P>) -> P
 }
 
 /// Puts the sleeper into its slot, which is lent and empty.
-pub(crate) fn put_sleeper<P: Drop>(cell: &Slots<P>, seat: &mut Place<P>, sleeper: Unparker)
+pub(crate) fn put_sleeper<P: Drop>(cell: &Slots<P>, seat: &mut Place<P>, sleeper: Sleeper)
     requires table { seat.old.table_id ≡ cell.now.table_id }
     requires empty { seat.old.me.1 ≡ (1, None) ∷ rest seat.old.me.1 }
     ensures table { (seat.new.table_id ≡ seat.old.table_id) × (seat.new.id ≡ seat.old.id) }
@@ -55,7 +54,7 @@ pub(crate) fn put_sleeper<P: Drop>(cell: &Slots<P>, seat: &mut Place<P>, sleeper
 }
 
 /// Takes the sleeper out of its slot, which is lent and holds it.
-pub(crate) fn take_sleeper<P: Drop>(cell: &Slots<P>, seat: &mut Place<P>) -> Unparker
+pub(crate) fn take_sleeper<P: Drop>(cell: &Slots<P>, seat: &mut Place<P>) -> Sleeper
     requires table { seat.old.table_id ≡ cell.now.table_id }
     requires full { Carries 1 IsSleeper seat.old.me.1 }
     ensures table { (seat.new.table_id ≡ seat.old.table_id) × (seat.new.id ≡ seat.old.id) }

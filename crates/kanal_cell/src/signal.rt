@@ -2,8 +2,8 @@
 //! may act at the same instant on two threads.
 //!
 //! It stands on `atomic_table` and on `pointer`, and every step is one atomic operation on one
-//! word. No call waits, takes a runtime value or memory (but for `new` and `cell_run`), or tries
-//! a step again. The same cell as plain data is `CellCore`.
+//! word. No call waits or takes a runtime value (but for `park` and `park_timeout`), takes memory (but
+//! for `new` and `cell_run`), or tries a step again. The same cell as plain data is `CellCore`.
 //!
 //! What may not be done with an end: a `WaitEnd` that has left may not be polled, put to sleep or
 //! left again. It may be put to sleep once, and not after it gave the outcome. A `SettleEnd` that
@@ -27,7 +27,7 @@ mod waking;
 
 pub use calls::new;
 pub use law::{cell_law, signal_law};
-pub use rule::{Bits, Held, Role, Signal, SignalRule, View};
+pub use rule::{Bits, Held, Role, Signal, SignalRule, Sleeper, View};
 pub use steps::{CellCore, CellReply, CellReport, CellStep, Owner, cell_run};
 
 /// The end that waits for the outcome. Once it has left it may not be used any more.

@@ -9,7 +9,7 @@ ghost use Rattle.kanal_cell.specs.declared.signal.rule.Role.TheVariants.{Waiter,
 
 use super::rule::{
     CellTable, ENDED, EndSeat, LEFT, Leaves, Parts, Polls, SLEEPING, SettlerBegins, Settles,
-    Signal, Sleeps, WaiterBegins,
+    Signal, Sleeper, Sleeps, WaiterBegins,
 };
 use super::waking::{Waking, take_out};
 use super::{SettleEnd, WaitEnd};
@@ -19,7 +19,11 @@ use atomic_table::Table;
 use crossbeam_utils::sync::Unparker;
 use futures::task::Waker;
 use std::alloc::Global;
-use std::sync::Arc;
+use std::sync::{Arc, Wait};
+use std::time::Duration;
+
+/// The word of a cell whose waiter sleeps, and that is neither settled nor left: SLEEPING alone.
+const ASLEEP: u32 = 1;
 
 type Seated<P> = (CellTable<P>, EndSeat<P>, EndSeat<P>);
 
@@ -123,6 +127,55 @@ impl<P: Drop> WaitEnd<P> {
         ensures step { GoesOn after_sleep (wait_view self.old) (wait_view self.new) }
         ensures answer { IsSome result ↔ FindsOutcome (wait_view self.old) (wait_view self.new) }
     {
+        self.register(Sleeper::Parker(sleeper))
+    }
+
+    /// The same, for a thread that then sleeps on the cell's own word, by `park` or `park_timeout`. It
+    /// needs no parker.
+    ///
+    /// It never waits. The end must not have left, slept or answered the outcome.
+    ///
+    /// ```
+    /// if wait.sleep_here().is_none() {
+    ///     wait.park(rt);
+    /// }
+    /// ```
+    pub fn sleep_here(&mut self) -> Option<P>
+        requires unspent { MaySleep (wait_view self.old) }
+        ensures step { GoesOn after_sleep (wait_view self.old) (wait_view self.new) }
+        ensures answer { IsSome result ↔ FindsOutcome (wait_view self.old) (wait_view self.new) }
+    {
+        self.register(Sleeper::Word)
+    }
+
+    /// Parks until the settle that comes after `sleep_here` wakes it. It may also return for no reason,
+    /// and returns at once where the cell is settled, or where the end didn't sleep.
+    ///
+    /// It is no step of the cell.
+    ///
+    /// ```
+    /// assert!(wait.sleep_here() == None);
+    /// wait.park(rt);
+    /// ```
+    pub fn park<R: Wait>(&self, rt: &R) {
+        self.signal.table.shared.park(rt, 0, ASLEEP);
+    }
+
+    /// The same, for no longer than the duration.
+    ///
+    /// ```
+    /// wait.park_timeout(rt, Duration::from_millis(1));
+    /// ```
+    pub fn park_timeout<R: Wait>(&self, rt: &R, duration: Duration) {
+        self.signal.table.shared.park_timeout(rt, 0, ASLEEP, duration);
+    }
+
+    /// Registers a sleeper of either kind.
+    fn register(&mut self, sleeper: Sleeper) -> Option<P>
+        requires unspent { MaySleep (wait_view self.old) }
+        ensures step { GoesOn after_sleep (wait_view self.old) (wait_view self.new) }
+        ensures answer { IsSome result ↔ FindsOutcome (wait_view self.old) (wait_view self.new) }
+    {
         pointer::put_sleeper(&self.signal.table.shared, &mut self.seat, sleeper);
         let found = self
             .signal
@@ -184,7 +237,7 @@ impl<P: Drop> SettleEnd<P> {
         ensures waker { kept_waker self.new ≡ None }
     {
         let (waking, back) = self.end(outcome);
-        waking.wake();
+        waking.wake(&self.signal.table.shared);
         back
     }
 

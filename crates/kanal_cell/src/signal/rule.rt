@@ -15,13 +15,22 @@ pub(crate) const ENDED: u64 = 2;
 /// The waiter has left.
 pub(crate) const LEFT: u64 = 4;
 
+/// By what the waiter's thread sleeps, and so how it is woken.
+#[derive(Drop)]
+pub enum Sleeper {
+    /// By a parker.
+    Parker(Unparker),
+    /// On the word of the cell, which takes no memory.
+    Word,
+}
+
 /// What a slot holds. Both slots of a cell have this one type, and the rule says which holds which.
 #[derive(Drop)]
 pub enum Held<P> {
     /// What the settler hands over.
     Outcome(P),
-    /// What wakes the waiter's thread.
-    Sleeper(Unparker),
+    /// How the waiter's thread is woken.
+    Sleeper(Sleeper),
 }
 
 /// The three bits of the word.

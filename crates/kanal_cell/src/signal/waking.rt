@@ -3,17 +3,17 @@
 //! It stands on `atomic_table`. A kept waker is taken out to be woken only after the settler has made
 //! its step, and what was taken out is let go by waking it and in no other way. No other module may
 //! look into that.
-ghost use Rattle.std.specs.Prelude.{◌≡◌, true, None, Some};
+ghost use Rattle.std.specs.Prelude.{◌≡◌, ◌<◌, true, None, Some};
 
-use super::rule::EndSeat;
-use crossbeam_utils::sync::Unparker;
+use super::rule::{EndSeat, Sleeper};
+use crate::pointer::Slots;
 use futures::task::Waker;
 
 /// Takes the kept waker out, to be woken with the sleeper. The settler of the seat has made its step.
 pub(super) fn take_out<P>(
     kept: &mut Option<Waker>,
     settler: &EndSeat<P>,
-    sleeper: Option<Unparker>,
+    sleeper: Option<Sleeper>,
 ) -> Waking
     requires stepped { settler.now.me.0.set.ended ≡ true }
     ensures waker { result.waker ≡ kept.old }
@@ -30,7 +30,7 @@ pub(super) fn take_out<P>(
 
 /// Whom a settle has to wake. Only `wake` lets it go.
 pub(crate) struct Waking {
-    pub(super) sleeper: Option<Unparker>,
+    pub(super) sleeper: Option<Sleeper>,
     pub(super) waker: Option<Waker>,
     is_woken: bool,
 }
@@ -50,15 +50,19 @@ impl Drop for Waking {
 }
 
 impl Waking {
-    /// Wakes the sleeper and the waker.
-    pub(super) fn wake(self) {
+    /// Wakes the sleeper and the waker, at the cell that was settled.
+    pub(super) fn wake<P>(self, cell: &Slots<P>)
+        requires word { 0 < cell.now.table_id.words }
+    {
         let Waking {
             sleeper,
             waker,
             is_woken: _,
         } = self;
-        if let Some(sleeper) = sleeper {
-            sleeper.unpark();
+        match sleeper {
+            Some(Sleeper::Parker(sleeper)) => sleeper.unpark(),
+            Some(Sleeper::Word) => cell.wake_one(0),
+            None => {},
         }
         if let Some(waker) = waker {
             waker.wake();

@@ -5,6 +5,7 @@ use kanal_cell::signal::CellStep::{IsLeft, Leave, Poll, Settle, Sleep};
 use kanal_cell::signal::{CellReply, CellStep, Owner, cell_run};
 use std::alloc::AllocGlobal;
 use std::process::Abort;
+use std::time::Duration;
 
 const QUIET: CellReply = Settled {
     woke: false,
@@ -106,6 +107,27 @@ fn a_settle_then_a_sleep(rt: HostRuntime) {
     let (mut wait, mut settle) = cell::<u64>(&rt);
     equal(&rt, settle.settle(5), None);
     equal(&rt, wait.sleep(unparker_of(&rt, &parker)), Some(5));
+    equal(&rt, wait.leave(), None);
+}
+
+#[test]
+fn a_sleep_on_the_word_then_a_settle(rt: HostRuntime) {
+    let (mut wait, mut settle) = cell::<u64>(&rt);
+    equal(&rt, wait.sleep_here(), None);
+    wait.park_timeout(&rt, Duration::from_millis(1));
+    equal(&rt, wait.poll(), None);
+    equal(&rt, settle.settle(5), None);
+    wait.park(&rt);
+    equal(&rt, wait.poll(), Some(5));
+    equal(&rt, wait.poll(), None);
+}
+
+#[test]
+fn a_settle_then_a_sleep_on_the_word(rt: HostRuntime) {
+    let (mut wait, mut settle) = cell::<u64>(&rt);
+    equal(&rt, settle.settle(5), None);
+    equal(&rt, wait.sleep_here(), Some(5));
+    wait.park(&rt);
     equal(&rt, wait.leave(), None);
 }
 

@@ -20,6 +20,7 @@ use std::sync::atomic::{AtomicU64, Ordering};
 use std::sync::{Arc, Mutex, Wait};
 use std::thread;
 use std::thread::{JoinHandle, Threads};
+use std::time::Duration;
 
 /// Settles, and sees the thread that waits go on.
 fn settle_and_see(entry: Entry, stage: &AtomicU64, waking: &Unparker) -> bool {
@@ -53,6 +54,62 @@ fn wake_the_parked<R: Threads + Wait + Abort + AllocGlobal>(rt: &R) {
 fn a_settle_wakes_the_parked_thread(rt: HostRuntime) {
     for _ in 0..200u32 {
         wake_the_parked(&rt);
+    }
+}
+
+/// How often the settling thread looks whether the one that it woke goes on.
+const TURNS: u32 = 100_000_000;
+
+/// Settles, and sees the thread that sleeps on the word go on.
+fn settle_the_sleeper(entry: Entry, stage: &AtomicU64) -> bool {
+    let Entry { mut end } = entry;
+    let back = end.settle(7);
+    drop(end);
+    for _ in 0..TURNS {
+        if stage.load(Ordering::SeqCst) == PASSED {
+            return back.is_none();
+        }
+        thread::yield_now();
+    }
+    false
+}
+
+/// How long a thread that nobody wakes sleeps before the test fails, in seconds.
+const LIMIT: u64 = 600;
+
+/// How often a thread parks, since it may be woken for no reason. Once the cell is settled a park returns
+/// at once.
+const PARKS_IN_A_ROW: u32 = 100;
+
+/// Parks on the word until the cell is settled.
+fn park_on_the_word<R: Wait>(rt: &R, wait: &WaitEnd<u64>) {
+    for _ in 0..PARKS_IN_A_ROW {
+        wait.park_timeout(rt, Duration::from_secs(LIMIT));
+    }
+}
+
+/// A settle in another thread wakes this one, should it sleep on the word before.
+fn wake_from_the_word<R: Threads + Wait + Abort + AllocGlobal>(rt: &R) {
+    let (mut wait, settle) = cell::<u64>(rt);
+    let entry = Entry { end: settle };
+    let stage = counter(rt);
+    let theirs = shared(rt, &stage);
+    let other = thread::spawn(rt, move || settle_the_sleeper(entry, &theirs));
+    let other = other.expect(rt, "a thread");
+    let mut got = wait.sleep_here();
+    if got.is_none() {
+        park_on_the_word(rt, &wait);
+        got = wait.poll();
+    }
+    stage.store(PASSED, Ordering::SeqCst);
+    equal(rt, got, Some(7));
+    holds(rt, other.join(rt));
+}
+
+#[test]
+fn a_settle_wakes_the_thread_that_sleeps_on_the_word(rt: HostRuntime) {
+    for _ in 0..200u32 {
+        wake_from_the_word(&rt);
     }
 }
 

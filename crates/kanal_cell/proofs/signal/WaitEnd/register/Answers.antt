@@ -2,7 +2,7 @@ use Rattle.std.proofs.Common.{rules}
 use Rattle.kanal_cell.specs.declared.signal.rule.Held.TheVariants.{Sleeper}
 use Rattle.kanal_cell.proofs.CellWord.{ended_of}
 use Rattle.kanal_cell.proofs.CellKeeps.{falls_asleep, took_outcome}
-use Rattle.kanal_cell.proofs.signal.WaitEnd.sleep.Goals as goal
+use Rattle.kanal_cell.proofs.signal.WaitEnd.register.Goals as goal
 
 pub fetch_or-found-requires : goal.fetch_or-found-requires
 fetch_or-found-requires g c = (search rules, search rules, falls_asleep _ _ _ (Sleeper c.args.sleeper) tt (search rules) (search rules) (search rules) (search rules) (search rules))

@@ -47,7 +47,7 @@ pub(crate) enum Begun<T, J: Naming> {
 /// What a wait needs: the blocked call's half, and the settler for the core.
 fn ends<T: Drop, J: Naming>(alloc: Global) -> Option<(Waiting<Delivered<T, J>>, Settler<T, J>)> {
     let (end, settling) = signal::new(alloc).ok()?;
-    Some((Waiting::new(alloc, end), Settler::new(settling)))
+    Some((Waiting::new(end), Settler::new(settling)))
 }
 
 impl<T: Drop, J: Naming> Channel<T, J> {

@@ -1,10 +1,9 @@
 //! A blocked call's wait: it looks for its outcome with pauses, and a few times with yields, and then
 //! sleeps until it is told or its deadline comes.
 //!
-//! Its name is kanal's, after the spinning that is its first part. Stands on the cell's waiting end,
-//! on parking and on clocks. Only blocked calls use it, those of a channel with one history too. What
-//! it sleeps with is made when it is about to sleep; where there is no memory for that it naps and looks
-//! again, so a wait that has begun is never refused.
+//! Its name is kanal's, after the spinning that is its first part. Stands on the cell's waiting end and
+//! on clocks. Only blocked calls use it, those of a channel with one history too. It sleeps on the word
+//! of its cell and asks for no memory, so a wait that has begun is never refused.
 ghost use Rattle.std.specs.Prelude.{◌≡◌};
 ghost use Rattle.kanal_cell.specs.CellRule.{MaySleep};
 ghost use Rattle.kanal_cell.specs.CellEnds.{wait_view};
@@ -15,14 +14,12 @@ mod policy;
 
 use crate::clock::Clock;
 use awake::{Asleep, Awake};
-use crossbeam_utils::sync::{Parker, Unparker};
 use kanal_cell::signal::WaitEnd;
 use policy::Looks;
 pub use policy::WaitPolicy;
-use std::alloc::Global;
 use std::sync::Wait;
+use std::time;
 use std::time::Duration;
-use std::{thread, time};
 
 /// How often a call looks at most before it sleeps.
 const LOOKS: u32 = 64;
@@ -30,13 +27,13 @@ const LOOKS: u32 = 64;
 /// How long a timed wait sleeps at most before it reads its clock again, in nanoseconds.
 const NAP: u64 = 1_000_000;
 
-/// Whether a blocked call has put its sleeper into the cell.
+/// Whether the cell knows that the blocked call sleeps.
 #[derive(Drop)]
 enum Watch<P> {
-    /// It has not.
+    /// It doesn't.
     Awake(Awake<P>),
-    /// It has, and this is what it sleeps with.
-    Asleep(Asleep<P>, Parker),
+    /// It does, or the outcome was there.
+    Asleep(Asleep<P>),
 }
 
 /// What looking at a cell came to.
@@ -50,39 +47,38 @@ enum Looked<P> {
     Early(Awake<P>),
 }
 
-/// A blocked call's half of its wait: the cell's waiting end, and what it asks for a sleeper's memory.
+/// A blocked call's half of its wait: the cell's waiting end.
 ///
 /// # Examples
 /// ```text
 /// let (end, settling) = signal::new(alloc)?;
-/// let waiting = Waiting::new(alloc, end);
+/// let waiting = Waiting::new(end);
 /// waiting.outcome(&rt, &policy)   answers  7   when another thread has made settling.settle(7)
 /// ```
 #[derive(Drop)]
 pub struct Waiting<P> {
     watch: Watch<P>,
-    alloc: Global,
 }
 
 impl<P: Drop> Waiting<P> {
-    /// The wait at an end that has neither slept nor had its outcome. It asks for no memory.
-    pub fn new(alloc: Global, end: WaitEnd<P>) -> Self
+    /// The wait at an end that has neither slept nor had its outcome.
+    pub fn new(end: WaitEnd<P>) -> Self
         requires fresh { MaySleep (wait_view end) }
         ensures end { waits_at result ≡ end }
     {
         let watch = Watch::Awake(Awake::new(end));
-        Waiting { watch, alloc }
+        Waiting { watch }
     }
 
     /// Waits for the outcome, and answers it.
     pub fn outcome<R: Wait>(self, rt: &R, policy: &WaitPolicy) -> P {
-        let Waiting { watch, alloc } = self;
+        let Waiting { watch } = self;
         match watch {
             Watch::Awake(awake) => match look(policy, awake) {
                 Ok(outcome) => outcome,
-                Err(awake) => sleep(rt, alloc, awake),
+                Err(awake) => sleep(rt, awake),
             },
-            Watch::Asleep(asleep, parker) => park(rt, &parker, asleep),
+            Watch::Asleep(asleep) => park(rt, asleep),
         }
     }
 
@@ -98,89 +94,49 @@ impl<P: Drop> Waiting<P> {
         clock: &C,
         deadline: u64,
     ) -> Result<P, Self> {
-        let Waiting { watch, alloc } = self;
+        let Waiting { watch } = self;
         let rest = match watch {
             Watch::Awake(awake) => match look_until(policy, awake, clock, deadline) {
                 Looked::Outcome(outcome) => return Ok(outcome),
-                Looked::Late(awake) => Err(Watch::Awake(awake)),
-                Looked::Early(awake) => sleep_until(rt, alloc, awake, clock, deadline),
+                Looked::Late(awake) => {
+                    let watch = Watch::Awake(awake);
+                    return Err(Waiting { watch });
+                },
+                Looked::Early(awake) => sleep_until(rt, awake, clock, deadline),
             },
-            Watch::Asleep(asleep, parker) => park_until(rt, parker, asleep, clock, deadline),
+            Watch::Asleep(asleep) => park_until(rt, asleep, clock, deadline),
         };
         match rest {
             Ok(outcome) => Ok(outcome),
-            Err(watch) => Err(Waiting { watch, alloc }),
+            Err(asleep) => {
+                let watch = Watch::Asleep(asleep);
+                Err(Waiting { watch })
+            },
         }
     }
 }
 
-/// What a call sleeps with, and what wakes it; `None` where there is no memory for them.
-fn sleeper(alloc: Global) -> Option<(Parker, Unparker)> {
-    let parker = Parker::new(alloc).ok()?;
-    let sleeper = parker.unparker().clone().ok()?;
-    Some((parker, sleeper))
-}
-
-/// The outcome, or the watch with the sleeper in the cell. Where there is no memory for a sleeper it
-/// looks once and stays awake.
-fn fall_asleep<P: Drop>(alloc: Global, awake: Awake<P>) -> Result<P, Watch<P>> {
-    match sleeper(alloc) {
-        Some((parker, sleeper)) => match awake.sleep(sleeper) {
-            Ok(outcome) => Ok(outcome),
-            Err(asleep) => Err(Watch::Asleep(asleep, parker)),
-        },
-        None => match awake.poll() {
-            Ok(outcome) => Ok(outcome),
-            Err(awake) => Err(Watch::Awake(awake)),
-        },
-    }
-}
-
-/// Naps for so many nanoseconds, with no memory, and nobody wakes it.
-fn nap<R: Wait>(rt: &R, nanoseconds: u64) {
-    thread::Parker::new().park_timeout(rt, Duration::from_nanos(nanoseconds));
-}
-
-/// Sleeps until the outcome is there, and naps while there is no memory for a sleeper.
+/// Sleeps until the outcome is there.
 #[cold]
-fn sleep<P: Drop, R: Wait>(rt: &R, alloc: Global, awake: Awake<P>) -> P {
-    let mut awake = awake;
-    for _ in rt.forever() {
-        match fall_asleep(alloc, awake) {
-            Ok(outcome) => return outcome,
-            Err(Watch::Asleep(asleep, parker)) => return park(rt, &parker, asleep),
-            Err(Watch::Awake(back)) => awake = back,
-        }
-        nap(rt, NAP);
+fn sleep<P: Drop, R: Wait>(rt: &R, awake: Awake<P>) -> P {
+    match awake.sleep() {
+        Ok(outcome) => outcome,
+        Err(asleep) => park(rt, asleep),
     }
-    unreachable!()
 }
 
-/// The same, while the clock is below the deadline, and looks once after that.
+/// The same, while the clock is below the deadline.
 #[cold]
 fn sleep_until<P: Drop, R: Wait + time::Clock, C: Clock>(
     rt: &R,
-    alloc: Global,
     awake: Awake<P>,
     clock: &C,
     deadline: u64,
-) -> Result<P, Watch<P>> {
-    let mut awake = awake;
-    for _ in rt.forever() {
-        let now = clock.now();
-        match fall_asleep(alloc, awake) {
-            Ok(outcome) => return Ok(outcome),
-            Err(Watch::Asleep(asleep, parker)) => {
-                return park_until(rt, parker, asleep, clock, deadline);
-            },
-            Err(Watch::Awake(back)) => awake = back,
-        }
-        if now >= deadline {
-            return Err(Watch::Awake(awake));
-        }
-        nap(rt, NAP.min(deadline - now));
+) -> Result<P, Asleep<P>> {
+    match awake.sleep() {
+        Ok(outcome) => Ok(outcome),
+        Err(asleep) => park_until(rt, asleep, clock, deadline),
     }
-    unreachable!()
 }
 
 /// Looks for the outcome, as the channel's policy says.
@@ -231,10 +187,10 @@ fn look_until<P: Drop, C: Clock>(
 }
 
 /// Sleeps until the outcome is there.
-fn park<P: Drop, R: Wait>(rt: &R, parker: &Parker, asleep: Asleep<P>) -> P {
+fn park<P: Drop, R: Wait>(rt: &R, asleep: Asleep<P>) -> P {
     let mut asleep = asleep;
     for _ in rt.forever() {
-        parker.park(rt);
+        asleep.park(rt);
         if let Some(outcome) = asleep.poll() {
             return outcome;
         }
@@ -246,11 +202,10 @@ fn park<P: Drop, R: Wait>(rt: &R, parker: &Parker, asleep: Asleep<P>) -> P {
 /// a millisecond of real time before it reads the clock again, and for no longer than is left.
 fn park_until<P: Drop, R: Wait + time::Clock, C: Clock>(
     rt: &R,
-    parker: Parker,
     asleep: Asleep<P>,
     clock: &C,
     deadline: u64,
-) -> Result<P, Watch<P>> {
+) -> Result<P, Asleep<P>> {
     let mut asleep = asleep;
     for _ in rt.forever() {
         let now = clock.now();
@@ -258,10 +213,10 @@ fn park_until<P: Drop, R: Wait + time::Clock, C: Clock>(
             return Ok(outcome);
         }
         if now >= deadline {
-            return Err(Watch::Asleep(asleep, parker));
+            return Err(asleep);
         }
         let left = deadline - now;
-        parker.park_timeout(rt, Duration::from_nanos(left.min(NAP)));
+        asleep.park_timeout(rt, Duration::from_nanos(left.min(NAP)));
     }
     unreachable!()
 }

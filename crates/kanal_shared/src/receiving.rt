@@ -132,7 +132,7 @@ impl<T: Drop> Shared<T> {
         match self.begin_recv(rt, locked) {
             Received::Got(message) => Ok(message),
             Received::Waits(_ticket, end) => {
-                answer_of(Waiting::new(self.alloc, end).outcome(rt, &self.policy))
+                answer_of(Waiting::new(end).outcome(rt, &self.policy))
             },
             Received::Refused(error) => Err(error),
         }

@@ -113,9 +113,7 @@ impl<T: Drop> Shared<T> {
     ) -> Result<(), SendError> {
         match self.begin_send(rt, locked, message) {
             Sent::Entered => Ok(()),
-            Sent::Waits(_ticket, end) => {
-                answer_of(Waiting::new(self.alloc, end).outcome(rt, &self.policy))
-            },
+            Sent::Waits(_ticket, end) => { answer_of(Waiting::new(end).outcome(rt, &self.policy)) },
             Sent::Refused(error, _message) => Err(error),
         }
     }

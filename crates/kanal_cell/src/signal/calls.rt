@@ -167,7 +167,10 @@ impl<P: Drop> WaitEnd<P> {
     /// wait.park_timeout(rt, Duration::from_millis(1));
     /// ```
     pub fn park_timeout<R: Wait>(&self, rt: &R, duration: Duration) {
-        self.signal.table.shared.park_timeout(rt, 0, ASLEEP, duration);
+        self.signal
+            .table
+            .shared
+            .park_timeout(rt, 0, ASLEEP, duration);
     }
 
     /// Registers a sleeper of either kind.

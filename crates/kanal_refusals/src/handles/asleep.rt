@@ -1,5 +1,5 @@
-//! Timed calls that are served while they sleep. Want of memory for what a call sleeps with is no
-//! refusal: the call naps and looks again, and is answered as with ample memory.
+//! Timed calls that are served while they sleep. All that they need is asked for before the wait, so they
+//! are answered as with ample memory from then on.
 use super::calls::channel;
 use crate::tally::{Tally, holds};
 use kanal::error::{ReceiveErrorTimeout, SendErrorTimeout};

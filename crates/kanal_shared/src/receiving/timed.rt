@@ -79,7 +79,7 @@ impl<T: Drop> Shared<T> {
         match self.begin_recv(rt, locked) {
             Received::Got(message) => Ok(message),
             Received::Waits(ticket, end) => {
-                let waiting = Waiting::new(self.alloc, end);
+                let waiting = Waiting::new(end);
                 let looked = waiting.outcome_until(rt, &self.policy, clock, deadline);
                 self.end_recv(rt, ticket, looked)
             },

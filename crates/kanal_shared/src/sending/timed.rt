@@ -93,7 +93,7 @@ impl<T: Drop> Shared<T> {
         match self.begin_send(rt, locked, message) {
             Sent::Entered => Ok(()),
             Sent::Waits(ticket, end) => {
-                let waiting = Waiting::new(self.alloc, end);
+                let waiting = Waiting::new(end);
                 let looked = waiting.outcome_until(rt, &self.policy, clock, deadline);
                 self.end_send(rt, ticket, looked)
             },

@@ -105,7 +105,7 @@ module _ {T : Type 0} where
       ⊎ IsSettled capacity old new event ended answer
       ⊎ (Lacks capacity old new event × (answer ≡ refused))
 
-  -- a call with a deadline, as one that may wait; or it waited and the pass took the wait back; or no moment is so late: it is in no history then, and the pass is as it was
+  -- a call with a deadline, as one that may wait; or it waited and the pass took the wait back; or its deadline is told to be out of range: it is in no history then, and the pass is as it was
   abbrev pub FinishesInTime : {R : Type 0} → Option ℕ → Known (Call T) → Known (Call T) → Event T → InTime T R → R → Type 0
   FinishesInTime capacity old new event answers answer =
       Finishes capacity old new event answers.by_reply answers.by_outcome answers.no_memory answer

@@ -184,8 +184,8 @@ impl<T: Drop, J: Naming> Channel<T, J> {
     /// # Errors
     /// As `recv`, and `Timeout` where it waited, the deadline came, and the wait was taken back: that is a
     /// second call of the pass; or where the deadline had passed and no message was there, whoever sends.
-    /// `DeadlineOutOfRange` where no moment is so late: the call is in no history then, and the pass is as
-    /// it was.
+    /// `DeadlineOutOfRange` where the deadline is past the largest moment: the call is in no history then,
+    /// and the pass is as it was.
     ///
     /// # Examples
     /// ```text

@@ -179,8 +179,8 @@ impl<T: Drop, J: Naming> Channel<T, J> {
     ///
     /// # Errors
     /// As `send`, and `Timeout` where it waited, the deadline came, and the wait was taken back: that is a
-    /// second call of the pass. `DeadlineOutOfRange` where no moment is so late: the call is in no history
-    /// then, and the pass is as it was. The message is dropped.
+    /// second call of the pass. `DeadlineOutOfRange` where the deadline is past the largest moment: the
+    /// call is in no history then, and the pass is as it was. The message is dropped.
     ///
     /// # Examples
     /// ```text

@@ -104,7 +104,7 @@ impl Clock for TestClock {
     }
 }
 
-/// The moment at which a wait of this duration ends; `None` where no moment is so late.
+/// The moment at which a wait of this duration ends; `None` where that is past the largest one.
 ///
 /// # Examples
 /// ```text

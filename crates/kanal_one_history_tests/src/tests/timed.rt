@@ -61,7 +61,7 @@ fn left<J: Naming, R: Wait + time::Clock + Abort>(
     );
 }
 
-/// No moment is so late: the channel isn't looked at.
+/// The deadline is past the largest moment: the channel isn't looked at.
 fn too_late<J: Naming, R: Wait + time::Clock + Abort>(
     rt: &R,
     channel: &Channel<u64, J>,

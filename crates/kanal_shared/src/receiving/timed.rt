@@ -29,7 +29,7 @@ impl<T: Drop> Shared<T> {
     ///
     /// # Errors
     /// As `recv_blocking`, and `Timeout` where the deadline came first, and `DeadlineOutOfRange` where
-    /// no moment is so late.
+    /// the deadline is past the largest moment.
     ///
     /// # Examples
     /// ```text

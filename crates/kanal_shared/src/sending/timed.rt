@@ -48,7 +48,7 @@ impl<T: Drop> Shared<T> {
     ///
     /// # Errors
     /// As `send_blocking`, and `Timeout` where the deadline came first, and `DeadlineOutOfRange` where
-    /// no moment is so late. The message comes back, but from a wait whose end kept it.
+    /// the deadline is past the largest moment. The message comes back, but from a wait whose end kept it.
     ///
     /// # Examples
     /// ```text

@@ -13,7 +13,8 @@ use std::sync::Wait;
 use std::time;
 use std::time::Duration;
 
-/// The two sends beside one that waits: until a deadline, and by a poll.
+/// The calls beside a send that waits: a send until a deadline, one by a poll, and a drain, which takes the
+/// message of the send that waits.
 pub fn sends<R: Wait + RandomSource + AllocGlobal + time::Clock>(
     rt: &R,
     alloc: Global,
@@ -26,7 +27,7 @@ pub fn sends<R: Wait + RandomSource + AllocGlobal + time::Clock>(
         send_begins(tally, &sender, &first, &mut waiting, 3)
             && late_send(rt, tally, &sender)
             && polled_send(rt, tally, &sender, &second)
-            && receiver.try_recv(rt) == Ok(Some(3))
+            && drain(rt, alloc, tally, &sender, &receiver)
             && first.poll(&mut waiting) == Poll::Ready(Ok(()))
             && receiver.try_recv(rt) == Ok(None),
     )
@@ -67,6 +68,28 @@ fn polled_send<R: Wait>(
         return is_as_it_was(rt, sender);
     }
     polled == Poll::Pending && is_as_it_was(rt, sender)
+}
+
+/// Whether a drain takes the message of the send that waits, if need be the second time.
+fn drain<R: Wait>(
+    rt: &R,
+    alloc: Global,
+    tally: &mut Tally,
+    sender: &AsyncSender<u64>,
+    receiver: &AsyncReceiver<u64>,
+) -> bool {
+    let mut messages = Vec::new(alloc);
+    let answer = match receiver.drain_into(rt, &mut messages) {
+        Err(ReceiveError::NoMemory) => {
+            tally.add();
+            if !messages.is_empty() || !is_as_it_was(rt, sender) {
+                return false;
+            }
+            receiver.drain_into(rt, &mut messages)
+        },
+        answer => answer,
+    };
+    answer == Ok(1) && messages.as_slice() == [3].as_slice()
 }
 
 /// The two receives beside one that waits: until a deadline, and by a poll.

@@ -5,9 +5,9 @@ use Rattle.std.proofs.lemmas.List.{take_all, take-take}
 use Rattle.std.proofs.Math.ListN.{length-take}
 use Rattle.std.proofs.Math.Seq.{take-append_seam, drop-append_seam}
 use Rattle.kanal_core.specs.Line.{Line, Entry, messages}
-use Rattle.kanal_journal.specs.declared.journal.event.Event.{Event}
-use Rattle.kanal_journal.specs.declared.journal.event.Reply.{Reply}
-use Rattle.kanal_journal.specs.declared.journal.event.Settlement.{Settlement}
+use Rattle.kanal_events.specs.declared.event.Event.{Event}
+use Rattle.kanal_events.specs.declared.event.Reply.{Reply}
+use Rattle.kanal_journal.specs.declared.journal.report.Settlement.{Settlement}
 use Rattle.kanal_journal.specs.Runs.{Account, Leads, opening, opening_line, numbered}
 use Rattle.kanal_journal.specs.Paired.{History, Demand, AtOnce, Later, Next, Paired, demands, receipts, receipts_from, rest, until, given}
 use Rattle.kanal_journal.proofs.Slots.{nexts}

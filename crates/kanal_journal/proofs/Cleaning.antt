@@ -4,10 +4,10 @@ use Rattle.std.proofs.lemmas.Bool.{cases_Bool, false≢true, eqb-true}
 use Rattle.kanal_core.specs.declared.internal.outcome.Outcome.TheVariants.{Given}
 use Rattle.kanal_core.specs.Line.{Entry, Line, bare, waiting, tickets, has, under, over, is_below, holds_ticket}
 use Rattle.kanal_core.specs.Moves.{seated, wait_send, wait_recv, without_entry, without_demand}
-use Rattle.kanal_journal.specs.declared.journal.event.Event.{Event}
-use Rattle.kanal_journal.specs.declared.journal.event.Event.TheVariants.{Withdraw}
-use Rattle.kanal_journal.specs.declared.journal.event.Reply.{Reply}
-use Rattle.kanal_journal.specs.declared.journal.event.Reply.TheVariants.{Withdrawn}
+use Rattle.kanal_events.specs.declared.event.Event.{Event}
+use Rattle.kanal_events.specs.declared.event.Event.TheVariants.{Withdraw}
+use Rattle.kanal_events.specs.declared.event.Reply.{Reply}
+use Rattle.kanal_events.specs.declared.event.Reply.TheVariants.{Withdrawn}
 use Rattle.kanal_journal.specs.Runs.{numbered}
 use Rattle.kanal_journal.specs.Paired.{asked, withdrawn, given}
 use Rattle.kanal_journal.proofs.Sends.{was_taken}

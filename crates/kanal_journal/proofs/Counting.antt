@@ -12,13 +12,13 @@ use Rattle.kanal_core.specs.declared.internal.outcome.Outcome.TheVariants.{Taken
 use Rattle.kanal_core.specs.Line.{Entry, Line, last_word, bare, waiting, tickets, has, under, over, messages, has_place, buffered, holds_ticket, found}
 use Rattle.kanal_core.specs.Moves.{last_count, serve, enter, leave, drain, seated, ended, ended_entry, end_all, close, cleared, wait_send, wait_recv, without_demand, add_sender, add_receiver, seal}
 use Rattle.kanal_journal.specs.declared.journal.handles.Handles.{Handles}
-use Rattle.kanal_journal.specs.declared.journal.event.Event.{Event}
-use Rattle.kanal_journal.specs.declared.journal.event.Event.TheVariants.{Send, TrySend, Recv, RecvLate, TryRecv, Drain, Withdraw, CloneTx, CloneRx, DropTx, DropRx, Seal, Close, Ask as Asks, Terminated}
-use Rattle.kanal_journal.specs.declared.journal.event.Refusal.{Refusal}
-use Rattle.kanal_journal.specs.declared.journal.event.Refusal.TheVariants.{Closed as ByClosed, ReceiveClosed as NoReceiver, Sealed as BySeal, SendClosed as NoSender, Timeout, NoMemory, TooMany, CloseError, NoHandle, NotWaiting}
-use Rattle.kanal_journal.specs.declared.journal.event.Reply.{Reply}
-use Rattle.kanal_journal.specs.declared.journal.event.Reply.TheVariants.{Sent, Waits, Yes, No, Got, Nothing, Drained, Withdrawn, Done, Cleared, Flag, Refused}
-use Rattle.kanal_journal.specs.Steps.{Told, only, moving, offer, take as take_told, take_front, nothing_there, wait, withdraw, seal_line, shut, take_line, cloned, answer, message_of, step, refused}
+use Rattle.kanal_events.specs.declared.event.Event.{Event}
+use Rattle.kanal_events.specs.declared.event.Event.TheVariants.{Send, TrySend, Recv, RecvLate, TryRecv, Drain, Withdraw, CloneTx, CloneRx, DropTx, DropRx, Seal, Close, Ask as Asks, Terminated}
+use Rattle.kanal_events.specs.declared.event.Refusal.{Refusal}
+use Rattle.kanal_events.specs.declared.event.Refusal.TheVariants.{Closed as ByClosed, ReceiveClosed as NoReceiver, Sealed as BySeal, SendClosed as NoSender, Timeout, NoMemory, TooMany, CloseError, NoHandle, NotWaiting}
+use Rattle.kanal_events.specs.declared.event.Reply.{Reply}
+use Rattle.kanal_events.specs.declared.event.Reply.TheVariants.{Sent, Waits, Yes, No, Got, Nothing, Drained, Withdrawn, Done, Cleared, Flag, Refused}
+use Rattle.kanal_events.specs.Steps.{Told, only, moving, offer, take as take_told, take_front, nothing_there, wait, withdraw, seal_line, shut, take_line, cloned, answer, message_of, step, refused}
 use Rattle.kanal_journal.specs.Runs.{Answers, has_handle}
 use Rattle.kanal_journal.specs.Paired.{withdrawn}
 use Rattle.kanal_journal.specs.Weights.{weigh}

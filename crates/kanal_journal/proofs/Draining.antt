@@ -3,10 +3,10 @@ use Rattle.std.proofs.Common.{◌≡◌, ℕ, zero, suc, List, [], ◌∷◌, �
 use Rattle.std.specs.List.{sum_by}
 use Rattle.std.proofs.Math.ListN.{length-map}
 use Rattle.kanal_core.specs.Line.{Entry, Line, bare, messages, tickets}
-use Rattle.kanal_journal.specs.declared.journal.event.Event.TheVariants.{Drain}
-use Rattle.kanal_journal.specs.declared.journal.event.Reply.{Reply}
-use Rattle.kanal_journal.specs.declared.journal.event.Reply.TheVariants.{Drained}
-use Rattle.kanal_journal.specs.declared.journal.event.Settlement.{Settlement}
+use Rattle.kanal_events.specs.declared.event.Event.TheVariants.{Drain}
+use Rattle.kanal_events.specs.declared.event.Reply.{Reply}
+use Rattle.kanal_events.specs.declared.event.Reply.TheVariants.{Drained}
+use Rattle.kanal_journal.specs.declared.journal.report.Settlement.{Settlement}
 use Rattle.kanal_journal.specs.Paired.{History, AtOnce, Next, cleared_by, demand_stays}
 use Rattle.kanal_journal.proofs.Sends.{longer, later, ticket_stays}
 use Rattle.kanal_journal.proofs.Slots.{resolve, nexts}

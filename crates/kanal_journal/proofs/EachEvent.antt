@@ -1,12 +1,12 @@
 -- Each event moves what the line moves.
 use Rattle.std.proofs.Common.{◌≡◌, ℕ, ◌+◌, true, false, not, eqb, ◌==◌, List, [], ◌∷◌, ◌++◌, length, map, filter, Option, None, refl, sym, ap, ◌∙◌, inl, inr, append-nil}
 use Rattle.std.proofs.lemmas.Bool.{cases_Bool, eq-eqb, eqb-true}
-use Rattle.kanal_journal.specs.declared.journal.event.Event.{Event}
-use Rattle.kanal_journal.specs.declared.journal.event.Event.TheVariants.{Send, Recv, Withdraw}
+use Rattle.kanal_events.specs.declared.event.Event.{Event}
+use Rattle.kanal_events.specs.declared.event.Event.TheVariants.{Send, Recv, Withdraw}
 use Rattle.kanal_core.specs.declared.internal.outcome.Outcome.TheVariants.{Given}
-use Rattle.kanal_journal.specs.declared.journal.event.Reply.{Reply}
-use Rattle.kanal_journal.specs.declared.journal.event.Reply.TheVariants.{Waits, Withdrawn}
-use Rattle.kanal_journal.specs.declared.journal.event.Settlement.{Settlement}
+use Rattle.kanal_events.specs.declared.event.Reply.{Reply}
+use Rattle.kanal_events.specs.declared.event.Reply.TheVariants.{Waits, Withdrawn}
+use Rattle.kanal_journal.specs.declared.journal.report.Settlement.{Settlement}
 use Rattle.kanal_core.specs.Line.{Entry, Line, bare, waiting, tickets, has, under, holds_ticket}
 use Rattle.kanal_core.specs.Moves.{seated, taken}
 use Rattle.kanal_journal.specs.Runs.{numbered}

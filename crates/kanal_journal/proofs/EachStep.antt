@@ -11,16 +11,16 @@ use Rattle.kanal_core.specs.Moves.{Moved, last_count, raised, enter, leave, drai
 use Rattle.kanal_core.proofs.Sided.{serve-nothing}
 use Rattle.kanal_core.proofs.Within.{under-nothing}
 use Rattle.kanal_journal.specs.declared.journal.handles.Handles.{Handles}
-use Rattle.kanal_journal.specs.declared.journal.event.Side.{Side}
-use Rattle.kanal_journal.specs.declared.journal.event.Ask.{Ask}
-use Rattle.kanal_journal.specs.declared.journal.event.Ask.TheVariants.{IsBounded, Len, IsEmpty, IsFull, Capacity, ReceiverCount, SenderCount, IsClosed, IsDisconnected}
-use Rattle.kanal_journal.specs.declared.journal.event.Event.{Event}
-use Rattle.kanal_journal.specs.declared.journal.event.Event.TheVariants.{Send, TrySend, Recv, RecvLate, TryRecv, Drain, Withdraw, CloneTx, CloneRx, DropTx, DropRx, Seal, Close, Ask as Asks, Terminated}
-use Rattle.kanal_journal.specs.declared.journal.event.Refusal.{Refusal}
-use Rattle.kanal_journal.specs.declared.journal.event.Refusal.TheVariants.{Closed as ByClosed, ReceiveClosed as NoReceiver, Sealed as BySeal, SendClosed as NoSender, Timeout, NoMemory, TooMany, CloseError, NoHandle, NotWaiting}
-use Rattle.kanal_journal.specs.declared.journal.event.Reply.{Reply}
-use Rattle.kanal_journal.specs.declared.journal.event.Reply.TheVariants.{Sent, Waits, Yes, No, Got, Nothing, Drained, Withdrawn, Done, Cleared, Flag, Refused}
-use Rattle.kanal_journal.specs.Steps.{Told, only, moving, take, take_front, nothing_there, wait, withdraw, take_line, cloned, answer, message_of, step, refused}
+use Rattle.kanal_events.specs.declared.event.Side.{Side}
+use Rattle.kanal_events.specs.declared.event.Ask.{Ask}
+use Rattle.kanal_events.specs.declared.event.Ask.TheVariants.{IsBounded, Len, IsEmpty, IsFull, Capacity, ReceiverCount, SenderCount, IsClosed, IsDisconnected}
+use Rattle.kanal_events.specs.declared.event.Event.{Event}
+use Rattle.kanal_events.specs.declared.event.Event.TheVariants.{Send, TrySend, Recv, RecvLate, TryRecv, Drain, Withdraw, CloneTx, CloneRx, DropTx, DropRx, Seal, Close, Ask as Asks, Terminated}
+use Rattle.kanal_events.specs.declared.event.Refusal.{Refusal}
+use Rattle.kanal_events.specs.declared.event.Refusal.TheVariants.{Closed as ByClosed, ReceiveClosed as NoReceiver, Sealed as BySeal, SendClosed as NoSender, Timeout, NoMemory, TooMany, CloseError, NoHandle, NotWaiting}
+use Rattle.kanal_events.specs.declared.event.Reply.{Reply}
+use Rattle.kanal_events.specs.declared.event.Reply.TheVariants.{Sent, Waits, Yes, No, Got, Nothing, Drained, Withdrawn, Done, Cleared, Flag, Refused}
+use Rattle.kanal_events.specs.Steps.{Told, only, moving, take, take_front, nothing_there, wait, withdraw, take_line, cloned, answer, message_of, step, refused}
 use Rattle.kanal_journal.specs.Runs.{numbered, has_handle, Answers}
 use Rattle.kanal_journal.specs.Paired.{History, AtOnce, sent, asked, withdrawn, cleared_by, is_gone, given}
 use Rattle.kanal_journal.proofs.Sends.{longer, was_taken}

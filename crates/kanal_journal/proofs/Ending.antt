@@ -13,11 +13,11 @@ use Rattle.kanal_core.specs.declared.internal.outcome.Outcome.{Outcome}
 use Rattle.kanal_core.specs.declared.internal.outcome.Outcome.TheVariants.{Ended}
 use Rattle.kanal_core.specs.Line.{Entry, Line, bare, tickets, has, under}
 use Rattle.kanal_core.specs.Moves.{ended, ended_entry, close, cleared}
-use Rattle.kanal_journal.specs.declared.journal.event.Event.{Event}
-use Rattle.kanal_journal.specs.declared.journal.event.Event.TheVariants.{Close}
-use Rattle.kanal_journal.specs.declared.journal.event.Reply.{Reply}
-use Rattle.kanal_journal.specs.declared.journal.event.Reply.TheVariants.{Cleared}
-use Rattle.kanal_journal.specs.declared.journal.event.Settlement.{Settlement}
+use Rattle.kanal_events.specs.declared.event.Event.{Event}
+use Rattle.kanal_events.specs.declared.event.Event.TheVariants.{Close}
+use Rattle.kanal_events.specs.declared.event.Reply.{Reply}
+use Rattle.kanal_events.specs.declared.event.Reply.TheVariants.{Cleared}
+use Rattle.kanal_journal.specs.declared.journal.report.Settlement.{Settlement}
 use Rattle.kanal_journal.specs.Runs.{numbered}
 use Rattle.kanal_journal.specs.Paired.{History, AtOnce, Later, sent, asked, withdrawn, cleared_by, without_last, given}
 use Rattle.kanal_journal.proofs.Sends.{goes, longer, entries, was_taken}

@@ -1,7 +1,7 @@
 -- What follows from a report that tells what the line does.
 use Rattle.std.proofs.Common.{◌≡◌, ℕ, List, [], Option, ap, ◌∙◌, arith}
-use Rattle.kanal_journal.specs.declared.journal.event.Event.{Event}
-use Rattle.kanal_journal.specs.declared.journal.event.Report.{Report}
+use Rattle.kanal_events.specs.declared.event.Event.{Event}
+use Rattle.kanal_journal.specs.declared.journal.report.Report.{Report}
 use Rattle.kanal_journal.specs.Runs.{Runs, account, opening}
 use Rattle.kanal_journal.specs.Paired.{Paired, rest, history, until}
 use Rattle.kanal_journal.specs.Weights.{weigh, event_weight, report_weight}

@@ -5,9 +5,9 @@ use Rattle.std.specs.Option.{is_some}
 use Rattle.std.proofs.lemmas.List.{take-map}
 use Rattle.std.proofs.Math.ListN.{length-map}
 use mathlib.Core.List.{map-append}
-use Rattle.kanal_journal.specs.declared.journal.event.Event.{Event}
-use Rattle.kanal_journal.specs.declared.journal.event.Reply.{Reply}
-use Rattle.kanal_journal.specs.declared.journal.event.Settlement.{Settlement}
+use Rattle.kanal_events.specs.declared.event.Event.{Event}
+use Rattle.kanal_events.specs.declared.event.Reply.{Reply}
+use Rattle.kanal_journal.specs.declared.journal.report.Settlement.{Settlement}
 use Rattle.kanal_core.specs.Line.{Entry, Line, bare, messages, tickets, has}
 use Rattle.kanal_journal.specs.Paired.{History, Demand, AtOnce, Later, Next, along, sent, is_gone, given, send_stays, demands, cleared_by, without_last, kept, receipts, ArePaired, Paired}
 use Rattle.std.proofs.lemmas.List.Sums.{sum_by-append}

@@ -5,8 +5,8 @@ use Rattle.std.proofs.Math.ListN.{length-take}
 use mathlib.Core.List.{map-append}
 use Rattle.kanal_core.specs.declared.internal.outcome.Outcome.{Outcome}
 use Rattle.kanal_core.specs.Line.{is_at, tickets, under, over, buffered}
-use Rattle.kanal_journal.specs.declared.journal.event.Event.{Event}
-use Rattle.kanal_journal.specs.declared.journal.event.Settlement.{Settlement}
+use Rattle.kanal_events.specs.declared.event.Event.{Event}
+use Rattle.kanal_journal.specs.declared.journal.report.Settlement.{Settlement}
 use Rattle.kanal_journal.specs.Runs.{Account, Leads, opening, numbered}
 use Rattle.kanal_journal.specs.Paired.{along, withdrawn, kept, demands}
 use Rattle.kanal_journal.specs.Weights.{weigh}

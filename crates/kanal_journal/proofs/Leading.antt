@@ -1,6 +1,6 @@
 -- A list of events goes on by one.
 use Rattle.std.proofs.Common.{List, [], ◌∷◌, ◌++◌, refl, subst}
-use Rattle.kanal_journal.specs.declared.journal.event.Event.{Event}
+use Rattle.kanal_events.specs.declared.event.Event.{Event}
 use Rattle.kanal_journal.specs.Runs.{Account, IsTold, Leads}
 
 pub Leads-last : {T : Type 0} (a b c : Account T) (events : List (Event T)) (event : Event T) → Leads a events b → IsTold b event c → Leads a (events ++ event ∷ []) c

@@ -1,21 +1,22 @@
 -- What a running channel holds and tells after a step was noted.
 use Rattle.std.proofs.Common.{◌≡◌, ℕ, ◌+◌, ◌≤◌, zero, suc, List, [], ◌∷◌, ◌++◌, length, map, take, Option, Some, None, refl, sym, ap, subst, inl, inr, ◌⊎◌, arith, length-append}
+use Rattle.std.proofs.lemmas.Bool.{cases_Bool}
 use Rattle.std.proofs.lemmas.List.{length-map}
 use Rattle.kanal_core.specs.declared.internal.outcome.Outcome.{Outcome}
 use Rattle.kanal_core.specs.Line.{Entry, Line, bare, tickets, under}
 use Rattle.kanal_core.specs.declared.internal.outcome.Ticket.{Ticket}
 use Rattle.kanal_core.specs.Channel.{Channel, line_of}
 use Rattle.kanal_journal.specs.declared.journal.handles.Handles.{Handles}
-use Rattle.kanal_journal.specs.declared.journal.event.Event.{Event}
-use Rattle.kanal_journal.specs.declared.journal.event.Event.TheVariants.{CloneTx, CloneRx, DropTx, DropRx}
-use Rattle.kanal_journal.specs.declared.journal.event.Reply.{Reply}
-use Rattle.kanal_journal.specs.declared.journal.event.Reply.TheVariants.{Done}
-use Rattle.kanal_journal.specs.declared.journal.event.Settlement.{Settlement}
-use Rattle.kanal_journal.specs.declared.journal.calls.Made.{Made}
+use Rattle.kanal_events.specs.declared.event.Event.{Event}
+use Rattle.kanal_events.specs.declared.event.Event.TheVariants.{CloneTx, CloneRx, DropTx, DropRx}
+use Rattle.kanal_events.specs.declared.event.Reply.{Reply}
+use Rattle.kanal_journal.specs.declared.journal.report.Settlement.{Settlement}
 use Rattle.kanal_journal.specs.declared.journal.running.Running.{Running}
 use Rattle.kanal_journal.specs.Runs.{Account, IsTold, added, numbered as with_number, handles_after, opening, opening_line}
 use Rattle.kanal_journal.specs.Given.{AreGiven, waiting_count}
-use Rattle.kanal_journal.specs.Made.{told_of, reply_of, settled_of, cleared_of, IsAnswered}
+use Rattle.kanal_events.specs.Steps.{is_done}
+use Rattle.kanal_events.specs.Made.{told_of, reply_of, settled_of, drained_of, cleared_of}
+use Rattle.kanal_journal.specs.Made.{Made, IsAnswered}
 use Rattle.kanal_journal.specs.Running.{IsNoted, IsOpened, IsWithinEvents, IsSame, account_of}
 use Rattle.kanal_journal.proofs.Counting.{told-counts, told-count}
 use Rattle.kanal_journal.proofs.Numbering.{numbered-more}
@@ -68,18 +69,18 @@ module _ {T : Type 0} where
 
   -- an event adds at most one live handle to a side
   pub few-more : (handles : Handles) (e : Event T) (r : Reply T) → ((handles_after handles e r).tx ≤ handles.tx + 1) × ((handles_after handles e r).rx ≤ handles.rx + 1)
-  few-more handles CloneTx Done = (omega arith, omega arith)
-  few-more handles CloneRx Done = (omega arith, omega arith)
-  few-more handles DropTx Done = (omega arith, omega arith)
-  few-more handles DropRx Done = (omega arith, omega arith)
+  few-more handles CloneTx r = elim (cases_Bool (is_done r)) [ inl e ↦ rw e (omega arith, omega arith) | inr e ↦ rw e (omega arith, omega arith) ]
+  few-more handles CloneRx r = elim (cases_Bool (is_done r)) [ inl e ↦ rw e (omega arith, omega arith) | inr e ↦ rw e (omega arith, omega arith) ]
+  few-more handles DropTx r = elim (cases_Bool (is_done r)) [ inl e ↦ rw e (omega arith, omega arith) | inr e ↦ rw e (omega arith, omega arith) ]
+  few-more handles DropRx r = elim (cases_Bool (is_done r)) [ inl e ↦ rw e (omega arith, omega arith) | inr e ↦ rw e (omega arith, omega arith) ]
   few-more handles e r = (omega arith, omega arith)
 
   -- what an answered event settles, drains and clears is within what waited and what the line held
   pub answered-counts : (handles : Handles) (old new : Line T) (e : Event T) (before after : List T) (made : Made T) → tickets (under old.capacity old.line) ≡ [] → IsAnswered handles old e new before after made
       → (length (settled_of made) + waiting_count new + old.next ≤ waiting_count old + new.next) × (length after + length new.line ≤ length before + length old.line + 1) × (length (cleared_of made) + length new.line ≤ length old.line + 1)
   answered-counts handles old new e before after made below is =
-      let k = told-counts (λ x. 1) old below handles e (told_of new is.messages made) is.told in
-      (told-count old below handles e (told_of new is.messages made) is.told, omega (arith, k.left, ap length is.drained, length-append before is.messages), omega (arith, k.left))
+      let k = told-counts (λ x. 1) old below handles e (told_of new made) is.told in
+      (told-count old below handles e (told_of new made) is.told, omega (arith, k.left, ap length is.drained, length-append before (drained_of made)), omega (arith, k.left))
 
   -- where the account is the same, no more is there
   pub within-same : (n : ℕ) (replies : List (Reply T)) (old new : Running T) → account_of replies new ≡ account_of replies old → AreGiven new.tickets.items new.core → IsWithinEvents n old → IsWithinEvents n new

@@ -5,13 +5,13 @@ use Rattle.kanal_core.specs.declared.internal.outcome.Reason.TheVariants.{SendCl
 use Rattle.kanal_core.specs.Line.{Entry, Line, last_word, messages, under, has}
 use Rattle.kanal_core.specs.Moves.{last_count, add_sender, add_receiver, end_all, drain, close, cleared, wait_send, wait_recv, without_demand, seal}
 use Rattle.kanal_journal.specs.declared.journal.handles.Handles.{Handles}
-use Rattle.kanal_journal.specs.declared.journal.event.Side.TheVariants.{Rx}
-use Rattle.kanal_journal.specs.declared.journal.event.Event.{Event}
-use Rattle.kanal_journal.specs.declared.journal.event.Event.TheVariants.{Send, TrySend, Recv, RecvLate, TryRecv, Drain, Withdraw, CloneTx, CloneRx, DropTx, DropRx, Seal, Close, Ask as Asks, Terminated}
-use Rattle.kanal_journal.specs.declared.journal.event.Refusal.TheVariants.{Closed as ByClosed, ReceiveClosed as NoReceiver, Sealed as BySeal, SendClosed as NoSender, TooMany, CloseError, NotWaiting, Timeout, NoMemory, NoHandle}
-use Rattle.kanal_journal.specs.declared.journal.event.Reply.{Reply}
-use Rattle.kanal_journal.specs.declared.journal.event.Reply.TheVariants.{Sent, Waits, Yes, No, Got, Nothing, Drained, Withdrawn, Done, Cleared, Number, Flag, Refused}
-use Rattle.kanal_journal.specs.Steps.{Told, IsWait, only, moving, offer, take as take_told, take_front, nothing_there, wait, withdraw, take_line, seal_line, shut, message_of, step, refused}
+use Rattle.kanal_events.specs.declared.event.Side.TheVariants.{Rx}
+use Rattle.kanal_events.specs.declared.event.Event.{Event}
+use Rattle.kanal_events.specs.declared.event.Event.TheVariants.{Send, TrySend, Recv, RecvLate, TryRecv, Drain, Withdraw, CloneTx, CloneRx, DropTx, DropRx, Seal, Close, Ask as Asks, Terminated}
+use Rattle.kanal_events.specs.declared.event.Refusal.TheVariants.{Closed as ByClosed, ReceiveClosed as NoReceiver, Sealed as BySeal, SendClosed as NoSender, TooMany, CloseError, NotWaiting, Timeout, NoMemory, NoHandle}
+use Rattle.kanal_events.specs.declared.event.Reply.{Reply}
+use Rattle.kanal_events.specs.declared.event.Reply.TheVariants.{Sent, Waits, Yes, No, Got, Nothing, Drained, Withdrawn, Done, Cleared, Number, Flag, Refused}
+use Rattle.kanal_events.specs.Steps.{Told, IsWait, only, moving, offer, take as take_told, take_front, nothing_there, wait, withdraw, take_line, seal_line, shut, message_of, step, refused}
 use Rattle.kanal_journal.specs.Runs.{Account, Answers, Leads, IsTold, opening, has_handle, has_side, handles_after}
 use Rattle.kanal_journal.specs.Laws.{is_receive, tells_end, tells_end_or_no_handle, AreOver, StaysOver}
 use Rattle.kanal_core.proofs.Within.{under-nothing}

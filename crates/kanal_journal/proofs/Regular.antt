@@ -5,17 +5,16 @@ use Rattle.kanal_core.specs.Line.{Entry, Line, last_word, bare, has, has_place, 
 use Rattle.kanal_core.specs.Moves.{Moved, last_count, serve, enter, leave, drain, end_all, close, cleared, wait_send, wait_recv, without_demand, without_entry, add_sender, add_receiver, seal}
 use Rattle.kanal_core.specs.declared.internal.outcome.Reason.TheVariants.{SendClosed as NoSendersLeft, ReceiveClosed as NoReceiversLeft}
 use Rattle.kanal_journal.specs.declared.journal.handles.Handles.{Handles}
-use Rattle.kanal_journal.specs.declared.journal.event.Side.{Side}
-use Rattle.kanal_journal.specs.declared.journal.event.Ask.{Ask}
-use Rattle.kanal_journal.specs.declared.journal.event.Ask.TheVariants.{IsBounded, Len, IsEmpty, IsFull, Capacity, ReceiverCount, SenderCount, IsClosed, IsDisconnected}
-use Rattle.kanal_journal.specs.declared.journal.event.Event.{Event}
-use Rattle.kanal_journal.specs.declared.journal.event.Event.TheVariants.{Send, TrySend, Recv, RecvLate, TryRecv, Drain, Withdraw, CloneTx, CloneRx, DropTx, DropRx, Seal, Close, Ask as Asks, Terminated}
-use Rattle.kanal_journal.specs.declared.journal.event.Refusal.TheVariants.{Closed as ByClosed, ReceiveClosed as NoReceiver, Sealed as BySeal, SendClosed as NoSender, Timeout, TooMany, CloseError, NoHandle, NotWaiting}
-use Rattle.kanal_journal.specs.declared.journal.event.Reply.{Reply}
-use Rattle.kanal_journal.specs.declared.journal.event.Reply.TheVariants.{Sent, Waits, Yes, No, Got, Nothing, Drained, Withdrawn, Done, Cleared, Flag, Refused}
-use Rattle.kanal_journal.specs.Steps.{Told, only, moving, offer, take as take_told, take_front, nothing_there, wait, withdraw, seal_line, shut, take_line, cloned, answer, message_of, step, refused}
+use Rattle.kanal_events.specs.declared.event.Side.{Side}
+use Rattle.kanal_events.specs.declared.event.Ask.{Ask}
+use Rattle.kanal_events.specs.declared.event.Ask.TheVariants.{IsBounded, Len, IsEmpty, IsFull, Capacity, ReceiverCount, SenderCount, IsClosed, IsDisconnected}
+use Rattle.kanal_events.specs.declared.event.Event.{Event}
+use Rattle.kanal_events.specs.declared.event.Event.TheVariants.{Send, TrySend, Recv, RecvLate, TryRecv, Drain, Withdraw, CloneTx, CloneRx, DropTx, DropRx, Seal, Close, Ask as Asks, Terminated}
+use Rattle.kanal_events.specs.declared.event.Refusal.TheVariants.{Closed as ByClosed, ReceiveClosed as NoReceiver, Sealed as BySeal, SendClosed as NoSender, Timeout, TooMany, CloseError, NoHandle, NotWaiting}
+use Rattle.kanal_events.specs.declared.event.Reply.{Reply}
+use Rattle.kanal_events.specs.declared.event.Reply.TheVariants.{Sent, Waits, Yes, No, Got, Nothing, Drained, Withdrawn, Done, Cleared, Flag, Refused}
+use Rattle.kanal_events.specs.Steps.{Told, only, moving, offer, take as take_told, take_front, nothing_there, wait, withdraw, seal_line, shut, take_line, cloned, answer, message_of, step, refused, is_no_memory}
 use Rattle.kanal_journal.specs.Runs.{made, has_handle}
-use Rattle.kanal_journal.specs.Replays.{is_no_memory}
 
 module _ {T : Type 0} where
   -- a step keeps the capacity, gives one ticket at most, and does not reply that there was no memory

@@ -6,17 +6,17 @@ use Rattle.std.specs.Global.{Vec}
 use Rattle.kanal_core.specs.Line.{messages}
 use Rattle.kanal_core.specs.Channel.{line_of}
 use Rattle.kanal_journal.specs.declared.journal.handles.Handles.{Handles}
-use Rattle.kanal_journal.specs.declared.journal.event.Event.{Event}
-use Rattle.kanal_journal.specs.declared.journal.event.Event.TheVariants.{CloneTx, CloneRx, DropTx, DropRx}
-use Rattle.kanal_journal.specs.declared.journal.event.Refusal.{Refusal}
-use Rattle.kanal_journal.specs.declared.journal.event.Refusal.TheVariants.{NoMemory}
-use Rattle.kanal_journal.specs.declared.journal.event.Reply.{Reply}
-use Rattle.kanal_journal.specs.declared.journal.event.Reply.TheVariants.{Refused}
+use Rattle.kanal_events.specs.declared.event.Event.{Event}
+use Rattle.kanal_events.specs.declared.event.Event.TheVariants.{CloneTx, CloneRx, DropTx, DropRx}
+use Rattle.kanal_events.specs.declared.event.Refusal.{Refusal}
+use Rattle.kanal_events.specs.declared.event.Refusal.TheVariants.{NoMemory}
+use Rattle.kanal_events.specs.declared.event.Reply.{Reply}
+use Rattle.kanal_events.specs.declared.event.Reply.TheVariants.{Refused}
 use Rattle.kanal_journal.specs.declared.journal.recorder.Entry.{Entry}
-use Rattle.kanal_journal.specs.Steps.{Told, message_of, refused}
+use Rattle.kanal_events.specs.Steps.{Told, message_of, refused, no_memory, is_no_memory}
 use Rattle.kanal_journal.specs.Runs.{Account, Leads, added, made, opening, handles_after}
 use Rattle.kanal_journal.specs.Paired.{Paired, until, rest}
-use Rattle.kanal_journal.specs.Replays.{Recording, Replays, Records, events_of, replies_of, next, played, history_of, no_memory, is_no_memory, longer}
+use Rattle.kanal_journal.specs.Replays.{Recording, Replays, Records, events_of, replies_of, next, played, history_of, longer}
 use Rattle.kanal_journal.specs.Running.{IsNoted, IsWithinEvents, IsSame, account_of}
 use Rattle.kanal_journal.specs.Recorders.{IsSound, journal_of, recording_of}
 use Rattle.kanal_journal.specs.declared.journal.recorder.Recorder.{Recorder}

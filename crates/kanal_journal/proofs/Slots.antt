@@ -4,9 +4,9 @@ use Rattle.std.specs.Option.{option_or}
 use Rattle.std.proofs.lemmas.Bool.{cases_Bool}
 use Rattle.std.proofs.lemmas.List.Elements.{filter-append}
 use mathlib.Core.List.{map-append}
-use Rattle.kanal_journal.specs.declared.journal.event.Event.{Event}
-use Rattle.kanal_journal.specs.declared.journal.event.Reply.{Reply}
-use Rattle.kanal_journal.specs.declared.journal.event.Settlement.{Settlement}
+use Rattle.kanal_events.specs.declared.event.Event.{Event}
+use Rattle.kanal_events.specs.declared.event.Reply.{Reply}
+use Rattle.kanal_journal.specs.declared.journal.report.Settlement.{Settlement}
 use Rattle.kanal_journal.specs.Paired.{History, Demand, AtOnce, Later, Next, along, sent, asked, is_gone, send_stays, demand_stays, demands, given, gift, receipts_from}
 use Rattle.kanal_journal.proofs.Sends.{along-last, longer, goes, gone-last, entries, entry_at, entries_old, was_taken, later, ticket_stays, fresh}
 

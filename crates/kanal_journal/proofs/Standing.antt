@@ -5,14 +5,14 @@ use Rattle.kanal_core.specs.declared.internal.outcome.Reason.TheVariants.{SendCl
 use Rattle.kanal_core.specs.Line.{Entry, Line, last_word, bare, messages, has, has_place, buffered, found}
 use Rattle.kanal_core.specs.Moves.{last_count, raised, serve, enter, drain, end_all, close, cleared, wait_send, wait_recv, without_demand, seal}
 use Rattle.kanal_journal.specs.declared.journal.handles.Handles.{Handles}
-use Rattle.kanal_journal.specs.declared.journal.event.Side.TheVariants.{Tx, Rx}
-use Rattle.kanal_journal.specs.declared.journal.event.Event.{Event}
-use Rattle.kanal_journal.specs.declared.journal.event.Event.TheVariants.{Send, TrySend, Recv, RecvLate, TryRecv, Drain, Withdraw, CloneTx, CloneRx, DropTx, DropRx, Seal, Close, Ask as Asks, Terminated}
-use Rattle.kanal_journal.specs.declared.journal.event.Refusal.{Refusal}
-use Rattle.kanal_journal.specs.declared.journal.event.Refusal.TheVariants.{Closed as ByClosed, ReceiveClosed as NoReceiver, Sealed as BySeal, SendClosed as NoSender, Timeout, NoMemory, TooMany, CloseError, NoHandle, NotWaiting}
-use Rattle.kanal_journal.specs.declared.journal.event.Reply.{Reply}
-use Rattle.kanal_journal.specs.declared.journal.event.Reply.TheVariants.{Sent, Waits, Yes, No, Nothing, Drained, Withdrawn, Done, Cleared, Flag, Refused}
-use Rattle.kanal_journal.specs.Steps.{Told, only, moving, offer, take as take_told, take_front, nothing_there, wait, withdraw, seal_line, shut, take_line, answer, message_of, step, refused}
+use Rattle.kanal_events.specs.declared.event.Side.TheVariants.{Tx, Rx}
+use Rattle.kanal_events.specs.declared.event.Event.{Event}
+use Rattle.kanal_events.specs.declared.event.Event.TheVariants.{Send, TrySend, Recv, RecvLate, TryRecv, Drain, Withdraw, CloneTx, CloneRx, DropTx, DropRx, Seal, Close, Ask as Asks, Terminated}
+use Rattle.kanal_events.specs.declared.event.Refusal.{Refusal}
+use Rattle.kanal_events.specs.declared.event.Refusal.TheVariants.{Closed as ByClosed, ReceiveClosed as NoReceiver, Sealed as BySeal, SendClosed as NoSender, Timeout, NoMemory, TooMany, CloseError, NoHandle, NotWaiting}
+use Rattle.kanal_events.specs.declared.event.Reply.{Reply}
+use Rattle.kanal_events.specs.declared.event.Reply.TheVariants.{Sent, Waits, Yes, No, Nothing, Drained, Withdrawn, Done, Cleared, Flag, Refused}
+use Rattle.kanal_events.specs.Steps.{Told, only, moving, offer, take as take_told, take_front, nothing_there, wait, withdraw, seal_line, shut, take_line, answer, message_of, step, refused}
 use Rattle.kanal_journal.specs.Runs.{Account, Answers, Leads, has_handle, has_side, handles_after}
 use Rattle.kanal_journal.proofs.Regular.{made-regular}
 

@@ -4,9 +4,9 @@ use Rattle.std.specs.List.{sum_by}
 use Rattle.std.specs.Option.{is_some, option_or}
 use Rattle.std.proofs.lemmas.Bool.{or_cases, false≢true}
 use Rattle.std.proofs.lemmas.List.Sums.{sum_by-append}
-use Rattle.kanal_journal.specs.declared.journal.event.Event.{Event}
-use Rattle.kanal_journal.specs.declared.journal.event.Reply.{Reply}
-use Rattle.kanal_journal.specs.declared.journal.event.Settlement.{Settlement}
+use Rattle.kanal_events.specs.declared.event.Event.{Event}
+use Rattle.kanal_events.specs.declared.event.Reply.{Reply}
+use Rattle.kanal_journal.specs.declared.journal.report.Settlement.{Settlement}
 use Rattle.kanal_core.specs.Line.{Line, has}
 use Rattle.kanal_journal.specs.Paired.{History, Demand, AtOnce, Later, Next, along, asked, is_gone, given, demands, cleared_by}
 use Rattle.kanal_journal.proofs.Sends.{along-last, was_taken, longer, goes, gone-last, taken-last}

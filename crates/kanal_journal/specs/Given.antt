@@ -1,10 +1,10 @@
 -- What is kept beside the core, the tickets that were given and the live handles, and how many wait.
-use Rattle.std.specs.Prelude.{◌≡◌, ℕ, ◌+◌, ◌<◌, List, [], ◌∷◌, length, slice_get, Some}
+use Rattle.std.specs.Prelude.{◌≡◌, ℕ, ◌+◌, ◌<◌, List, [], ◌∷◌, length}
 use Rattle.kanal_core.specs.declared.internal.outcome.Ticket.{Ticket}
-use Rattle.kanal_core.specs.declared.internal.outcome.Waiter.{Waiter}
 use Rattle.kanal_core.specs.Channel.{Channel}
 use Rattle.kanal_core.specs.Line.{Line, last_word, tickets}
 use Rattle.kanal_core.specs.Tickets.{number_of}
+use Rattle.kanal_events.specs.Given.{AreKept}
 use Rattle.kanal_journal.specs.declared.journal.handles.Handles.{Handles}
 
 -- the tickets are numbered from `first` on, and `next` is the number after the last
@@ -13,20 +13,10 @@ AreNumbered first [] next = first ≡ next
 AreNumbered first (t ∷ ts) next = (number_of t ≡ first) × AreNumbered (first + 1) ts next
 
 module _ {T W : Type 0} where
-  -- the ticket of each who waits stands at its number among the tickets that were given
-  abbrev pub AreKept : List Ticket → List (Waiter T W) → Type 0
-  AreKept given [] = Unit {0}
-  AreKept given (w ∷ ws) = (slice_get given (number_of w.ticket) ≡ Some w.ticket) × AreKept given ws
-
   -- these are all the tickets that a channel gave
   pub record AreGiven (given : List Ticket) (c : Channel T W) : Type 0 where
     pub numbered : AreNumbered 0 given c.next
     pub kept : AreKept given c.waiters
-
-  -- no ticket was given, and whoever waits waited before
-  pub record GivesNone (old new : Channel T W) : Type 0 where
-    pub next : new.next ≡ old.next
-    pub kept : (given : List Ticket) → AreKept given old.waiters → AreKept given new.waiters
 
 -- there can be one more live handle of each side
 abbrev pub AreFew : Handles → Type 0

@@ -2,15 +2,15 @@
 use Rattle.std.specs.Prelude.{◌≡◌, ◌≢◌, ◌⊎◌, ◌↔◌, ℕ, ◌+◌, ◌≤◌, ◌==◌, Bool, true, false, not, List, [], ◌∷◌, length, map, filter, Option, Some, None}
 use Rattle.std.specs.Option.{is_some}
 use Rattle.kanal_core.specs.Line.{Entry, Line, is_at, is_below, buffered, tickets, has_place}
-use Rattle.kanal_journal.specs.declared.journal.event.Event.{Event}
-use Rattle.kanal_journal.specs.declared.journal.event.Event.TheVariants.{TrySend, Recv, TryRecv, Close}
-use Rattle.kanal_journal.specs.declared.journal.event.Refusal.TheVariants.{Closed, SendClosed, NoHandle, NoMemory, CloseError}
-use Rattle.kanal_journal.specs.declared.journal.event.Reply.{Reply}
-use Rattle.kanal_journal.specs.declared.journal.event.Reply.TheVariants.{Yes, Refused}
-use Rattle.kanal_journal.specs.declared.journal.event.Settlement.{Settlement}
-use Rattle.kanal_journal.specs.declared.journal.event.Side.TheVariants.{Tx}
+use Rattle.kanal_events.specs.declared.event.Event.{Event}
+use Rattle.kanal_events.specs.declared.event.Event.TheVariants.{TrySend, Recv, TryRecv, Close}
+use Rattle.kanal_events.specs.declared.event.Refusal.TheVariants.{Closed, SendClosed, NoHandle, NoMemory, CloseError}
+use Rattle.kanal_events.specs.declared.event.Reply.{Reply}
+use Rattle.kanal_events.specs.declared.event.Reply.TheVariants.{Yes, Refused}
+use Rattle.kanal_journal.specs.declared.journal.report.Settlement.{Settlement}
+use Rattle.kanal_events.specs.declared.event.Side.TheVariants.{Tx}
 use Rattle.kanal_journal.specs.declared.journal.handles.Handles.{Handles}
-use Rattle.kanal_journal.specs.Steps.{Told}
+use Rattle.kanal_events.specs.Steps.{Told}
 use Rattle.kanal_journal.specs.Runs.{Account, Answers, Leads, opening, has_side}
 use Rattle.kanal_journal.specs.Paired.{History, history_from, along, withdrawn, kept, demands}
 

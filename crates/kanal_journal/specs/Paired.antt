@@ -4,12 +4,12 @@ use Rattle.std.specs.List.{list_any}
 use Rattle.std.specs.Option.{option_or}
 use Rattle.kanal_core.specs.declared.internal.outcome.Outcome.{Outcome}
 use Rattle.kanal_core.specs.declared.internal.outcome.Outcome.TheVariants.{Given, Ended}
-use Rattle.kanal_journal.specs.declared.journal.event.Event.{Event}
-use Rattle.kanal_journal.specs.declared.journal.event.Event.TheVariants.{Send, TrySend, Recv, RecvLate, TryRecv, Drain, Withdraw}
-use Rattle.kanal_journal.specs.declared.journal.event.Reply.{Reply}
-use Rattle.kanal_journal.specs.declared.journal.event.Reply.TheVariants.{Sent, Waits, Yes, Got, Drained, Withdrawn, Cleared}
-use Rattle.kanal_journal.specs.declared.journal.event.Settlement.{Settlement}
-use Rattle.kanal_journal.specs.declared.journal.event.Report.{Report}
+use Rattle.kanal_events.specs.declared.event.Event.{Event}
+use Rattle.kanal_events.specs.declared.event.Event.TheVariants.{Send, TrySend, Recv, RecvLate, TryRecv, Drain, Withdraw}
+use Rattle.kanal_events.specs.declared.event.Reply.{Reply}
+use Rattle.kanal_events.specs.declared.event.Reply.TheVariants.{Sent, Waits, Yes, Got, Drained, Withdrawn, Cleared}
+use Rattle.kanal_journal.specs.declared.journal.report.Settlement.{Settlement}
+use Rattle.kanal_journal.specs.declared.journal.report.Report.{Report}
 
 -- what f reads from each step, in order
 abbrev pub along : {E R X : Type 0} → (E → R → List X) → List E → List R → List X

@@ -1,13 +1,13 @@
 -- A journal of calls, and the account of the line that explains it.
 use Rattle.std.specs.Prelude.{◌≡◌, ℕ, ◌==◌, Bool, true, false, cond, List, [], ◌∷◌, ◌++◌, map, Option, Some, None, ◌⊎◌}
 use Rattle.kanal_core.specs.declared.internal.outcome.Outcome.{Outcome}
-use Rattle.kanal_journal.specs.declared.journal.event.Event.{Event}
-use Rattle.kanal_journal.specs.declared.journal.event.Settlement.{Settlement}
-use Rattle.kanal_journal.specs.declared.journal.event.Refusal.TheVariants.{NoMemory}
-use Rattle.kanal_journal.specs.declared.journal.event.Reply.{Reply}
-use Rattle.kanal_journal.specs.declared.journal.event.Reply.TheVariants.{Refused}
+use Rattle.kanal_events.specs.declared.event.Event.{Event}
+use Rattle.kanal_journal.specs.declared.journal.report.Settlement.{Settlement}
+use Rattle.kanal_events.specs.declared.event.Refusal.TheVariants.{NoMemory}
+use Rattle.kanal_events.specs.declared.event.Reply.{Reply}
+use Rattle.kanal_events.specs.declared.event.Reply.TheVariants.{Refused}
 use Rattle.kanal_journal.specs.declared.journal.recorder.Entry.{Entry}
-use Rattle.kanal_journal.specs.Steps.{message_of}
+use Rattle.kanal_events.specs.Steps.{no_memory}
 use Rattle.kanal_journal.specs.Runs.{Account, made, added, opening}
 use Rattle.kanal_journal.specs.Paired.{History, history_from}
 
@@ -52,15 +52,6 @@ module _ {T : Type 0} where
   abbrev pub outcome_of : ℕ → List (Settlement T) → Option (Outcome T)
   outcome_of t [] = None
   outcome_of t (s ∷ ss) = cond (s.ticket == t) (Some s.outcome) (outcome_of t ss)
-
-  -- the reply to an event that found no memory: its message comes back
-  abbrev pub no_memory : Event T → Reply T
-  no_memory event = Refused NoMemory (message_of event)
-
-  -- the reply says that there was no memory
-  abbrev pub is_no_memory : Reply T → Bool
-  is_no_memory (Refused NoMemory back) = true
-  is_no_memory reply = false
 
   -- the reply that the line gives to the event where this journal ends
   abbrev pub reply_at : Recording T → Event T → Reply T

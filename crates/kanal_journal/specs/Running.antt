@@ -1,10 +1,10 @@
 -- What the fields of a running channel tell, and what holds of them.
 use Rattle.std.specs.Prelude.{◌≡◌, ℕ, ◌+◌, ◌≤◌, List, [], ◌++◌, length, Option, vec_capacity}
 use Rattle.kanal_core.specs.Channel.{line_of, opening as opening_core}
-use Rattle.kanal_journal.specs.declared.journal.event.Event.{Event}
-use Rattle.kanal_journal.specs.declared.journal.event.Reply.{Reply}
+use Rattle.kanal_events.specs.declared.event.Event.{Event}
+use Rattle.kanal_events.specs.declared.event.Reply.{Reply}
 use Rattle.kanal_journal.specs.declared.journal.running.Running.{Running}
-use Rattle.kanal_journal.specs.Steps.{Told}
+use Rattle.kanal_events.specs.Steps.{Told}
 use Rattle.kanal_journal.specs.Runs.{Account, Answers, handles_after, numbered as with_number}
 use Rattle.kanal_journal.specs.Given.{AreGiven, waiting_count}
 

@@ -3,16 +3,15 @@ use Rattle.std.specs.Prelude.{◌≡◌, ℕ, ◌+◌, ◌-◌, ◌==◌, Bool, 
 use Rattle.kanal_core.specs.declared.internal.outcome.Outcome.{Outcome}
 use Rattle.kanal_core.specs.Line.{Line, messages}
 use Rattle.kanal_journal.specs.declared.journal.handles.Handles.{Handles}
-use Rattle.kanal_journal.specs.declared.journal.event.Side.{Side}
-use Rattle.kanal_journal.specs.declared.journal.event.Side.TheVariants.{Tx, Rx}
-use Rattle.kanal_journal.specs.declared.journal.event.Event.{Event}
-use Rattle.kanal_journal.specs.declared.journal.event.Event.TheVariants.{Send, TrySend, Withdraw, CloneTx, CloneRx, DropTx, DropRx, Seal, Close, Ask as Asks}
-use Rattle.kanal_journal.specs.declared.journal.event.Refusal.TheVariants.{NoMemory, NoHandle}
-use Rattle.kanal_journal.specs.declared.journal.event.Reply.{Reply}
-use Rattle.kanal_journal.specs.declared.journal.event.Reply.TheVariants.{Done}
-use Rattle.kanal_journal.specs.declared.journal.event.Settlement.{Settlement}
-use Rattle.kanal_journal.specs.declared.journal.event.Report.{Report}
-use Rattle.kanal_journal.specs.Steps.{Told, step, refused, MayRefuse}
+use Rattle.kanal_events.specs.declared.event.Side.{Side}
+use Rattle.kanal_events.specs.declared.event.Side.TheVariants.{Tx, Rx}
+use Rattle.kanal_events.specs.declared.event.Event.{Event}
+use Rattle.kanal_events.specs.declared.event.Event.TheVariants.{Send, TrySend, Withdraw, CloneTx, CloneRx, DropTx, DropRx, Seal, Close, Ask as Asks}
+use Rattle.kanal_events.specs.declared.event.Refusal.TheVariants.{NoMemory, NoHandle}
+use Rattle.kanal_events.specs.declared.event.Reply.{Reply}
+use Rattle.kanal_journal.specs.declared.journal.report.Settlement.{Settlement}
+use Rattle.kanal_journal.specs.declared.journal.report.Report.{Report}
+use Rattle.kanal_events.specs.Steps.{Told, step, refused, is_done, MayRefuse}
 
 -- the side has a live handle
 abbrev pub has_side : Handles → Side → Bool
@@ -45,12 +44,12 @@ module _ {T : Type 0} where
   has_handle handles (Asks side ask) = has_side handles side
   has_handle handles event = has_side handles Rx
 
-  -- the live handles after the event, given its reply: a clone and a drop change them
+  -- the live handles after the event, given its reply: a clone and a drop that were made change them
   abbrev pub handles_after : Handles → Event T → Reply T → Handles
-  handles_after handles CloneTx Done = record handles { tx = handles.tx + 1 }
-  handles_after handles CloneRx Done = record handles { rx = handles.rx + 1 }
-  handles_after handles DropTx Done = record handles { tx = handles.tx - 1 }
-  handles_after handles DropRx Done = record handles { rx = handles.rx - 1 }
+  handles_after handles CloneTx reply = cond (is_done reply) (record handles { tx = handles.tx + 1 }) handles
+  handles_after handles CloneRx reply = cond (is_done reply) (record handles { rx = handles.rx + 1 }) handles
+  handles_after handles DropTx reply = cond (is_done reply) (record handles { tx = handles.tx - 1 }) handles
+  handles_after handles DropRx reply = cond (is_done reply) (record handles { rx = handles.rx - 1 }) handles
   handles_after handles event reply = handles
 
   -- what the event tells, given the live handles

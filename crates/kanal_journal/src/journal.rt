@@ -20,16 +20,17 @@ use running::Running;
 use std::alloc::Global;
 
 mod calls;
-mod event;
 mod handles;
 mod notes;
 mod recorded_state;
 mod recorder;
+mod report;
 mod running;
 
-pub use event::{Ask, Event, Refusal, Reply, Report, Settlement, Side};
+pub use kanal_events::event::{Ask, Event, Refusal, Reply, Side};
 pub use recorded_state::RecordedState;
 pub use recorder::{Entry, Journal};
+pub use report::{Report, Settlement};
 
 /// Makes one event, and adds its reply.
 fn step<T: Drop>(running: &mut Running<T>, replies: &mut Vec<Reply<T>>, event: Event<T>)

@@ -1,7 +1,7 @@
 -- A legal history is paired.
 use Rattle.std.proofs.Common.{◌≡◌, ℕ, zero, suc, List, [], ◌∷◌, length, take, Option, sym, inl, subst}
 use Rattle.kanal_core.specs.Line.{Line}
-use Rattle.kanal_journal.specs.Steps.{step}
+use Rattle.kanal_events.specs.Steps.{step}
 use Rattle.kanal_journal.specs.Runs.{opening_line}
 use Rattle.kanal_journal.specs.Paired.{History, Paired}
 use Rattle.kanal_journal.proofs.Holding.{Holds, holds_paired}

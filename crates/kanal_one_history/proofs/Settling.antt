@@ -5,16 +5,16 @@ use mathlib.Core.List.{IsPrefix}
 use Rattle.kanal_board.specs.Views.{Known}
 use Rattle.kanal_board.proofs.Fronts.{prefix_trans}
 use Rattle.kanal_core.specs.declared.internal.outcome.Outcome.{Outcome}
-use Rattle.kanal_journal.specs.declared.journal.event.Event.{Event}
-use Rattle.kanal_journal.specs.declared.journal.event.Reply.{Reply}
-use Rattle.kanal_journal.specs.Replays.{is_no_memory, no_memory}
-use Rattle.kanal_journal.specs.Steps.{IsWait}
+use Rattle.kanal_events.specs.declared.event.Event.{Event}
+use Rattle.kanal_events.specs.declared.event.Reply.{Reply}
+use Rattle.kanal_events.specs.Steps.{is_no_memory, no_memory, IsWait}
 use Rattle.kanal_one_history.specs.declared.call.Call.{Call}
-use Rattle.kanal_one_history.specs.declared.steps.Made.{Made}
+use Rattle.kanal_events.specs.declared.made.Made.{Made}
 use Rattle.kanal_one_history.specs.Calls.{IsIn, HasSettled, HaveSettled}
 use Rattle.kanal_core.specs.Line.{Line}
-use Rattle.kanal_journal.specs.declared.journal.event.Event.TheVariants.{Send, TrySend, Recv, RecvLate, TryRecv, Drain, Withdraw, CloneTx, CloneRx, DropTx, DropRx, Seal, Close, Ask as Asks, Terminated}
-use Rattle.kanal_one_history.specs.Made.{MayLack, settled_of, reply_of}
+use Rattle.kanal_events.specs.declared.event.Event.TheVariants.{Send, TrySend, Recv, RecvLate, TryRecv, Drain, Withdraw, CloneTx, CloneRx, DropTx, DropRx, Seal, Close, Ask as Asks, Terminated}
+use Rattle.kanal_events.specs.Made.{settled_of, reply_of}
+use Rattle.kanal_one_history.specs.Made.{MayLack}
 use Rattle.kanal_one_history.specs.declared.blocking.Came.{Came}
 use Rattle.kanal_one_history.specs.declared.blocking.Came.TheVariants.{Replied, Settled, Lacking}
 use Rattle.kanal_one_history.specs.Makes.{Makes, Looks, Lacks, IsReplied, HasWaited, IsNoted, IsAnswered, HasReplied, HasCome, Finishes, Comes}

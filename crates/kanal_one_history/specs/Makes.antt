@@ -1,17 +1,16 @@
 -- What a call does to the pass that makes it.
-use Rattle.std.specs.Prelude.{◌≡◌, ℕ, ◌⊎◌, true, false, List, [], ◌∷◌, ◌++◌, length, Option, Some, None, Result, Err, IfOk}
+use Rattle.std.specs.Prelude.{◌≡◌, ℕ, ◌+◌, ◌<◌, ◌⊎◌, true, false, List, [], ◌∷◌, ◌++◌, length, Option, Some, None, Result, Err, IfOk}
 use mathlib.Core.List.{IsPrefix}
 use Rattle.kanal_board.specs.Views.{Known}
 use Rattle.kanal_core.specs.declared.internal.outcome.Outcome.{Outcome}
 use Rattle.kanal_core.specs.declared.error.ReceiveError.{ReceiveError}
 use Rattle.kanal_core.specs.declared.error.ReceiveError.TheVariants.{NoMemory}
 use Rattle.kanal_core.specs.Tickets.{number_of}
-use Rattle.kanal_journal.specs.declared.journal.event.Event.{Event}
-use Rattle.kanal_journal.specs.declared.journal.event.Event.TheVariants.{Withdraw, Drain}
-use Rattle.kanal_journal.specs.declared.journal.event.Reply.{Reply}
-use Rattle.kanal_journal.specs.declared.journal.event.Reply.TheVariants.{Waits, Withdrawn}
-use Rattle.kanal_journal.specs.Steps.{step, IsWait}
-use Rattle.kanal_journal.specs.Replays.{is_no_memory, no_memory}
+use Rattle.kanal_events.specs.declared.event.Event.{Event}
+use Rattle.kanal_events.specs.declared.event.Event.TheVariants.{Withdraw, Drain}
+use Rattle.kanal_events.specs.declared.event.Reply.{Reply}
+use Rattle.kanal_events.specs.declared.event.Reply.TheVariants.{Waits, Withdrawn}
+use Rattle.kanal_events.specs.Steps.{step, IsWait, is_no_memory, no_memory}
 use Rattle.kanal_one_history.specs.declared.call.Call.{Call}
 use Rattle.kanal_one_history.specs.declared.blocking.Came.{Came}
 use Rattle.kanal_one_history.specs.declared.blocking.Came.TheVariants.{Replied, Settled, Lacking}
@@ -19,12 +18,13 @@ use Rattle.kanal_one_history.specs.declared.blocking.Begun.{Begun}
 use Rattle.kanal_one_history.specs.declared.blocking.Begun.TheVariants.{Replied as BegunReplied, Waits as BegunWaits, Lacking as BegunLacking}
 use Rattle.kanal_one_history.specs.declared.timed.Timed.{Timed}
 use Rattle.kanal_one_history.specs.declared.timed.Timed.TheVariants.{Replied as TimedReplied, Settled as TimedSettled, Withdrawn as TimedWithdrawn, Lacking as TimedLacking}
-use Rattle.kanal_one_history.specs.declared.steps.Made.{Made}
-use Rattle.kanal_one_history.specs.declared.steps.Tried.{Tried}
-use Rattle.kanal_one_history.specs.declared.steps.Tried.TheVariants.{Told as WasTold, MustWait as HasToWait}
+use Rattle.kanal_events.specs.declared.made.Made.{Made}
+use Rattle.kanal_events.specs.declared.made.Tried.{Tried}
+use Rattle.kanal_events.specs.declared.made.Tried.TheVariants.{Told as WasTold, MustWait as HasToWait}
 use Rattle.kanal_one_history.specs.Calls.{call_of, line_after, HasSettled}
 use Rattle.kanal_one_history.specs.Results.{InTime, drained_by}
-use Rattle.kanal_one_history.specs.Made.{MayLack, MustWait, reply_of, settled_of, call_from, withdrawal}
+use Rattle.kanal_events.specs.Made.{MustWait, reply_of, settled_of}
+use Rattle.kanal_one_history.specs.Made.{MayLack, call_from, withdrawal}
 
 module _ {T : Type 0} where
   -- the pass made this call: it is the last of a history that goes on from what the pass had seen, its place is the pass's own, and one line of messages tells so after all the calls before it
@@ -78,6 +78,10 @@ module _ {T : Type 0} where
     pub replied : IsReplied capacity old new Drain drained_by answer
     pub moved : after ≡ before ++ replied.call.drained
     pub count : IfOk answer (λ n. n ≡ length replied.call.drained)
+
+  -- so much room, of which so much is taken, is too little for the whole line after these calls
+  abbrev pub HasTooLittleRoom : Option ℕ → List (Call T) → ℕ → ℕ → Type 0
+  HasTooLittleRoom capacity calls taken room = room < taken + length (line_after capacity calls).line
 
   -- a drain: it was made; or there was no memory for it, and the vector holds what it held
   abbrev pub Drains : Option ℕ → Known (Call T) → Known (Call T) → List T → List T → Result ℕ ReceiveError → Type 0

@@ -5,18 +5,18 @@
 //! waits it settled, and drops what it cleared. Nobody else takes the lock.
 ghost use Rattle.std.specs.Prelude.{◌≡◌, true};
 ghost use Rattle.kanal_one_history.specs.Calls.{HasSettled, HaveSettled, line_after};
-ghost use Rattle.kanal_one_history.specs.Made.{MustWait, is_plain, may_wait, reply_of, settled_of};
+ghost use Rattle.kanal_events.specs.Made.{MustWait, is_plain, may_wait, reply_of, settled_of};
 ghost use Rattle.kanal_one_history.specs.Makes.{HasBegun, HasCome, IsAnswered, Looks};
 
 use crate::channel::Channel;
 use crate::delivered::{Delivered, Settler, settle, settle_all};
 use crate::pass::Pass;
 use crate::state::State;
-use crate::steps::{Kept, Made, Tried};
 use kanal_board::Naming;
 use kanal_cell::signal;
 use kanal_core::internal::{Closing, Outcome, Ticket};
-use kanal_journal::journal::{Event, Reply};
+use kanal_events::event::{Event, Reply};
+use kanal_events::made::{Kept, Made, Tried};
 use kanal_shared::Waiting;
 use std::alloc::Global;
 use std::sync::{MutexGuard, Wait};

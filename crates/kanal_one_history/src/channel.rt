@@ -123,6 +123,7 @@ impl<T: Drop, J: Naming> Channel<T, J> {
     pub fn learn(&self, pass: &mut Pass<T, J>, other: Pass<T, J>)
         ensures this { IsPrefix pass.old.log pass.new.log }
         ensures that { IsPrefix other.log pass.new.log }
+        ensures one { OneBegins pass.old.log other.log }
         ensures own { pass.new.own ≡ other.own ++ pass.old.own }
     {
         pass.learn(&self.board, other);

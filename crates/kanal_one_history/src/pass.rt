@@ -75,6 +75,7 @@ impl<T, J: Naming> Pass<T, J> {
     pub(crate) fn learn(&mut self, board: &Board<Call<T>, J>, other: Self)
         ensures this { IsPrefix self.old.log self.new.log }
         ensures that { IsPrefix other.log self.new.log }
+        ensures one { OneBegins self.old.log other.log }
         ensures own { self.new.own ≡ other.own ++ self.old.own }
     {
         let Pass { front } = other;

@@ -1,9 +1,9 @@
 //! Receiving on a channel with one history.
 //!
 //! Stands on `blocking` and `timed`. Each call here is one event, and its answer is what the reply reads as.
-ghost use Rattle.std.specs.Prelude.{◌≡◌, ◌⊎◌, Err, IfErr, OnErr};
-ghost use Rattle.std.specs.Vec.{vec_capacity};
-ghost use Rattle.kanal_one_history.specs.Makes.{Drains, Finishes, FinishesInTime, IsReplied};
+ghost use Rattle.std.specs.Prelude.{◌≡◌, ◌⊎◌, Err, IfErr, IsErrOf, OnErr};
+ghost use Rattle.std.specs.Vec.{vec_capacity, vec_len};
+ghost use Rattle.kanal_one_history.specs.Makes.{Drains, Finishes, FinishesInTime, HasTooLittleRoom, IsReplied};
 ghost use Rattle.kanal_one_history.specs.Results.{answer_in_time, asked_by, drained_by, receive_error, receive_in_time, received_after, received_by, timed_receive_error, timed_received_after, timed_received_by};
 
 use crate::blocking::Came;
@@ -14,7 +14,7 @@ use crate::timed::Timed;
 use kanal_board::Naming;
 use kanal_core::error::{ReceiveError, ReceiveErrorTimeout};
 use kanal_core::internal::{Outcome, Reason};
-use kanal_journal::journal::{Event, Refusal, Reply};
+use kanal_events::event::{Event, Refusal, Reply};
 use kanal_shared::{Clock, deadline};
 use std::sync::{MutexGuard, Wait};
 use std::time;
@@ -232,6 +232,8 @@ impl<T: Drop, J: Naming> Channel<T, J> {
     ) -> Result<usize, ReceiveError>
         ensures drained { Drains J.capacity pass.old pass.new into.old.items into.new.items result }
         ensures refused { IfErr result (λ _. into.new.items ≡ into.old.items) }
+        ensures memory { IsErrOf result ReceiveError.NoMemory
+            → HasTooLittleRoom J.capacity pass.new.log (vec_len into.old) (vec_capacity into.old) }
         ensures no_growth { OnErr result (vec_capacity into.new ≡ vec_capacity into.old) }
     {
         let made = self.state.lock(rt).drain(&self.board, pass, into);

@@ -13,7 +13,7 @@ use crate::timed::Timed;
 use kanal_board::Naming;
 use kanal_core::error::{SendError, SendErrorTimeout};
 use kanal_core::internal::{Outcome, Reason};
-use kanal_journal::journal::{Event, Refusal, Reply};
+use kanal_events::event::{Event, Refusal, Reply};
 use kanal_shared::{Clock, deadline};
 use std::sync::{MutexGuard, Wait};
 use std::time;

@@ -10,7 +10,7 @@ use crate::channel::Channel;
 use crate::pass::Pass;
 use kanal_board::Naming;
 use kanal_core::error::{CloseError, TooMany};
-use kanal_journal::journal::{Ask, Event, Reply, Side};
+use kanal_events::event::{Ask, Event, Reply, Side};
 use std::sync::Wait;
 
 /// Whether a seal or a close was made.

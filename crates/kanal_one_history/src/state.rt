@@ -4,44 +4,48 @@
 //! that was made into the history, before the lock is given back; a call that is refused for memory is
 //! in no history. Nothing else writes the history.
 ghost use Rattle.std.specs.Prelude.{◌≡◌, ◌∷◌, ◌++◌, [], true, false, IfErr, IfNone, IfSome, OnOk};
-ghost use Rattle.std.specs.Vec.{vec_capacity};
+ghost use Rattle.std.specs.Vec.{vec_capacity, vec_len};
 ghost use Rattle.kanal_board.specs.Views.{known};
 ghost use Rattle.kanal_core.specs.Channel.{line_of};
 ghost use Rattle.kanal_core.specs.Line.{Line};
 ghost use Rattle.kanal_core.specs.Tickets.{number_of};
-ghost use Rattle.kanal_journal.specs.Replays.{is_no_memory};
+ghost use Rattle.kanal_events.specs.Steps.{is_no_memory, Tells};
 ghost use Rattle.kanal_journal.specs.Runs.{opening_line};
-ghost use Rattle.kanal_journal.specs.Steps.{Tells};
 ghost use Rattle.kanal_one_history.specs.Calls.{IsLegal, line_after};
-ghost use Rattle.kanal_one_history.specs.Made.{Keeps, call_from, drained_of, entry, is_drained, is_plain, may_wait, receipt, reply_of, told_of, withdrawal};
-ghost use Rattle.kanal_one_history.specs.Makes.{IsNoted, IsTried, Makes};
+ghost use Rattle.kanal_events.specs.Made.{Keeps, drained_of, is_drained, is_plain, may_wait, reply_of, told_of};
+ghost use Rattle.kanal_one_history.specs.Made.{call_from, entry, receipt, withdrawal};
+ghost use Rattle.kanal_one_history.specs.Makes.{HasTooLittleRoom, IsNoted, IsTried, Makes};
 
 use crate::call::Call;
 use crate::delivered::Settler;
 use crate::pass::Pass;
-use crate::steps;
-use crate::steps::{Kept, Made, Tried};
-use kanal_board::{Board, EntryOf, Keeper, Naming, Said};
+use kanal_board::{Board, EntryOf, Keeper, Naming};
 use kanal_core::internal::{ChannelInternal, Ticket, Waiter};
-use kanal_journal::journal::Event;
+use kanal_events::event::Event;
+use kanal_events::made::{Kept, Made, Tried};
+use kanal_events::steps;
 use std::marker::Model;
+use std::snapshot::Snapshot;
+
+/// An event, as it was before it was made.
+type Asked<T> = Snapshot<Event<T>>;
 
 /// The entry of a call: what was asked, and what the step told.
 struct OfCall;
 
-impl<T, W> EntryOf<Said<Event<T>>, Made<T, W>, Call<T>> for OfCall {
+impl<T, W> EntryOf<Asked<T>, Made<T, W>, Call<T>> for OfCall {
     ghost use Rattle.kanal_one_history.specs.Made.{call_from};
 
-    ghost entry = { λ event made. call_from event made };
+    ghost entry = { λ event made. call_from event.value made };
 }
 
 /// The entry of a send that entered and settled nobody, by its message.
 struct OfEntry;
 
-impl<T> EntryOf<Said<T>, (), Call<T>> for OfEntry {
+impl<T> EntryOf<Snapshot<T>, (), Call<T>> for OfEntry {
     ghost use Rattle.kanal_one_history.specs.Made.{entry};
 
-    ghost entry = { λ message _. entry message };
+    ghost entry = { λ message _. entry message.value };
 }
 
 /// The entry of a receive that got a message and settled nobody, by the message.
@@ -92,21 +96,22 @@ fn note<T: Drop, W: Drop, J: Naming>(
     keeper: &mut Keeper<Call<T>, J>,
     board: &Board<Call<T>, J>,
     pass: &mut Pass<T, J>,
-    asked: &Said<Event<T>>,
+    asked: &Asked<T>,
     made: &Made<T, W>,
 )
     requires legal { IsLegal J.capacity keeper.old }
-    requires told { (new : Line _) × Tells (line_after J.capacity keeper.old) asked.now
+    requires told { (new : Line _) × Tells (line_after J.capacity keeper.old) asked.now.value
         (told_of new made.now) }
     ensures added { is_no_memory (reply_of made.now) ≡ false
-        → keeper.new ≡ keeper.old ++ call_from asked.now made.now ∷ [] }
+        → keeper.new ≡ keeper.old ++ call_from asked.now.value made.now ∷ [] }
     ensures same { is_no_memory (reply_of made.now) ≡ true → keeper.new ≡ keeper.old }
-    ensures noted { IsNoted J.capacity pass.old pass.new asked.now made.now }
+    ensures shown { is_no_memory (reply_of made.now) ≡ true → pass.new.log ≡ keeper.old }
+    ensures noted { IsNoted J.capacity pass.old pass.new asked.now.value made.now }
 {
     if made.lacks_memory() {
         keeper.show(board, &mut pass.front);
     } else {
-        keeper.append_of::<Said<Event<T>>, Made<T, W>, OfCall>(board, &mut pass.front, asked, made);
+        keeper.append_of::<Asked<T>, Made<T, W>, OfCall>(board, &mut pass.front, asked, made);
     }
 }
 
@@ -143,7 +148,7 @@ impl<T: Drop, J: Naming> State<T, J> {
         requires plain { is_plain event ≡ true }
         ensures noted { IsNoted J.capacity pass.old pass.new event result }
     {
-        let asked = Said::of(&event);
+        let asked = Snapshot::of(&event);
         let made = steps::make(&mut self.core, event);
         note(&mut self.keeper, board, pass, &asked, &made);
         made
@@ -160,10 +165,10 @@ impl<T: Drop, J: Naming> State<T, J> {
         ensures made { OnOk result (Makes J.capacity pass.old pass.new (entry message)) }
         ensures refused { IfErr result (λ back. (back ≡ message) × (pass.new ≡ pass.old)) }
     {
-        let asked = Said::of(&message);
+        let asked = Snapshot::of(&message);
         steps::push(&mut self.core, message)?;
         let keeper = &mut self.keeper;
-        keeper.append_of::<Said<T>, (), OfEntry>(board, &mut pass.front, &asked, &());
+        keeper.append_of::<Snapshot<T>, (), OfEntry>(board, &mut pass.front, &asked, &());
         Ok(())
     }
 
@@ -189,7 +194,7 @@ impl<T: Drop, J: Naming> State<T, J> {
         requires waits { may_wait event ≡ true }
         ensures tried { IsTried J.capacity pass.old pass.new event result }
     {
-        let asked = Said::of(&event);
+        let asked = Snapshot::of(&event);
         let tried = steps::start(&mut self.core, event);
         match &tried {
             Tried::Told(made) => note(&mut self.keeper, board, pass, &asked, made),
@@ -210,7 +215,7 @@ impl<T: Drop, J: Naming> State<T, J> {
         ensures noted { IsNoted J.capacity pass.old pass.new event result.0 }
         ensures kept { Keeps (reply_of result.0) result.1 }
     {
-        let asked = Said::of(&event);
+        let asked = Snapshot::of(&event);
         let (made, kept) = steps::make_waiting(&mut self.core, event, settler);
         note(&mut self.keeper, board, pass, &asked, &made);
         (made, kept)
@@ -248,10 +253,12 @@ impl<T: Drop, J: Naming> State<T, J> {
     ) -> Made<T, Settler<T, J>>
         ensures noted { IsNoted J.capacity pass.old pass.new Event.Drain result }
         ensures moved { into.new.items ≡ into.old.items ++ drained_of result }
+        ensures memory { is_no_memory (reply_of result) ≡ true
+            → HasTooLittleRoom J.capacity pass.new.log (vec_len into.old) (vec_capacity into.old) }
         ensures no_growth { is_drained result ≡ false
             → vec_capacity into.new ≡ vec_capacity into.old }
     {
-        let asked = Said::of(&Event::Drain);
+        let asked = Snapshot::of(&Event::Drain);
         let made = steps::drain(&mut self.core, into);
         note(&mut self.keeper, board, pass, &asked, &made);
         made

@@ -6,17 +6,17 @@
 ghost use Rattle.std.specs.Prelude.{◌≡◌, true};
 ghost use Rattle.kanal_core.specs.Tickets.{number_of};
 ghost use Rattle.kanal_one_history.specs.Calls.{line_after};
-ghost use Rattle.kanal_one_history.specs.Made.{MustWait, may_wait};
+ghost use Rattle.kanal_events.specs.Made.{MustWait, may_wait};
 ghost use Rattle.kanal_one_history.specs.Makes.{HasEnded, HasPassed};
 
 use crate::blocking::Begun;
 use crate::channel::Channel;
 use crate::delivered::Delivered;
 use crate::pass::Pass;
-use crate::steps::Tried;
 use kanal_board::Naming;
 use kanal_core::internal::{Outcome, Ticket};
-use kanal_journal::journal::{Event, Reply};
+use kanal_events::event::{Event, Reply};
+use kanal_events::made::Tried;
 use kanal_shared::{Clock, Waiting};
 use std::sync::Wait;
 use std::time;

@@ -1,8 +1,8 @@
 -- One journal that is made of several parties' calls.
 use Rattle.std.specs.Prelude.{◌≡◌, ◌≢◌, ℕ, ◌+◌, ◌<◌, ◌≤◌, Bool, true, nat_eq, cond, List, [], ◌∷◌, length, map, Option, slice_index_or}
 use Rattle.std.specs.List.{All, AllPairs, Any}
-use Rattle.kanal_journal.specs.declared.journal.event.Event.{Event}
-use Rattle.kanal_journal.specs.declared.journal.event.Reply.{Reply}
+use Rattle.kanal_events.specs.declared.event.Event.{Event}
+use Rattle.kanal_events.specs.declared.event.Reply.{Reply}
 use Rattle.kanal_journal.specs.declared.journal.recorder.Entry.{Entry}
 use Rattle.kanal_recorded.specs.declared.pass.Note.{Note}
 use Rattle.kanal_journal.specs.declared.journal.recorder.Journal.{Journal}

@@ -1,10 +1,11 @@
 -- What a pass keeps of its calls.
 use Rattle.std.specs.Prelude.{◌≡◌, ◌⊎◌, ℕ, ◌+◌, false, List, [], ◌∷◌, ◌++◌, length, max}
-use Rattle.kanal_journal.specs.declared.journal.event.Event.{Event}
-use Rattle.kanal_journal.specs.declared.journal.event.Reply.{Reply}
+use Rattle.kanal_events.specs.declared.event.Event.{Event}
+use Rattle.kanal_events.specs.declared.event.Reply.{Reply}
 use Rattle.kanal_recorded.specs.declared.pass.Note.{Note}
 use Rattle.kanal_recorded.specs.declared.pass.Seen.{Seen}
-use Rattle.kanal_journal.specs.Replays.{Recording, no_memory, is_no_memory}
+use Rattle.kanal_journal.specs.Replays.{Recording}
+use Rattle.kanal_events.specs.Steps.{no_memory, is_no_memory}
 
 -- a party, its calls in order, and how much of the journal it has seen
 pub record Calls (T : Type 0) : Type 0 where

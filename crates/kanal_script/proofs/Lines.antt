@@ -1,6 +1,6 @@
 -- One line after another.
 use Rattle.std.proofs.Common.{◌≡◌, ℕ, ◌<◌, List, [], ◌∷◌, ◌++◌, length, ap, append_assoc, arith, inl, inr, sym, ◌∙◌, Option, refl, length-append, append-nil, subst, ◌+◌}
-use Rattle.kanal_journal.specs.declared.journal.event.Event.{Event}
+use Rattle.kanal_events.specs.declared.event.Event.{Event}
 use Rattle.std.proofs.lemmas.List.{append_cancel_right}
 use Rattle.kanal_script.specs.Faults.{IsReadBefore}
 use Rattle.kanal_script.specs.Words.{EndsLine, EndsWord}

@@ -5,12 +5,12 @@ use Rattle.kanal_core.specs.declared.internal.outcome.Reason.{Reason}
 use Rattle.kanal_core.specs.declared.internal.outcome.Reason.TheVariants.{Closed as ByClose, SendClosed as BySenders, ReceiveClosed as ByReceivers}
 use Rattle.kanal_core.specs.declared.internal.outcome.Outcome.{Outcome}
 use Rattle.kanal_core.specs.declared.internal.outcome.Outcome.TheVariants.{Taken, Given, Ended}
-use Rattle.kanal_journal.specs.declared.journal.event.Refusal.{Refusal}
-use Rattle.kanal_journal.specs.declared.journal.event.Refusal.TheVariants.{Closed, ReceiveClosed, Sealed, SendClosed, Timeout, NoMemory, TooMany, CloseError, NoHandle, NotWaiting}
-use Rattle.kanal_journal.specs.declared.journal.event.Reply.{Reply}
-use Rattle.kanal_journal.specs.declared.journal.event.Reply.TheVariants.{Sent, Waits, Yes, No, Got, Nothing, Drained, Withdrawn, Done, Cleared, Number, Flag, Refused}
-use Rattle.kanal_journal.specs.declared.journal.event.Settlement.{Settlement}
-use Rattle.kanal_journal.specs.declared.journal.event.Report.{Report}
+use Rattle.kanal_events.specs.declared.event.Refusal.{Refusal}
+use Rattle.kanal_events.specs.declared.event.Refusal.TheVariants.{Closed, ReceiveClosed, Sealed, SendClosed, Timeout, NoMemory, TooMany, CloseError, NoHandle, NotWaiting}
+use Rattle.kanal_events.specs.declared.event.Reply.{Reply}
+use Rattle.kanal_events.specs.declared.event.Reply.TheVariants.{Sent, Waits, Yes, No, Got, Nothing, Drained, Withdrawn, Done, Cleared, Number, Flag, Refused}
+use Rattle.kanal_journal.specs.declared.journal.report.Settlement.{Settlement}
+use Rattle.kanal_journal.specs.declared.journal.report.Report.{Report}
 use Rattle.kanal_script.specs.Script.{line}
 
 -- the name of a refusal

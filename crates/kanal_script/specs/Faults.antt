@@ -1,6 +1,6 @@
 -- Which line a fault is told of.
 use Rattle.std.specs.Prelude.{◌≡◌, ◌<◌, ℕ, ◌+◌, List, ◌++◌, length, Option, ⊤, ◌⊎◌}
-use Rattle.kanal_journal.specs.declared.journal.event.Event.{Event}
+use Rattle.kanal_events.specs.declared.event.Event.{Event}
 use Rattle.kanal_script.specs.declared.parser.ParseError.{ParseError}
 use Rattle.kanal_script.specs.declared.parser.ParseError.TheVariants.{Unreadable, NoMemory}
 use Rattle.kanal_script.specs.Script.{script_text, IsReadTo}

@@ -2,8 +2,8 @@
 use Rattle.std.specs.Prelude.{◌≡◌, ◌⊎◌, ℕ, List, ◌++◌, Option, Some, None, MatchOption, codes, decimal}
 use Rattle.std.specs.Io.KnownBytes.{Appends}
 use Rattle.kanal_core.specs.Line.{last_word}
-use Rattle.kanal_journal.specs.declared.journal.event.Event.{Event}
-use Rattle.kanal_journal.specs.declared.journal.event.Report.{Report}
+use Rattle.kanal_events.specs.declared.event.Event.{Event}
+use Rattle.kanal_journal.specs.declared.journal.report.Report.{Report}
 use Rattle.kanal_journal.specs.Runs.{Runs}
 use Rattle.kanal_script.specs.declared.parser.ParseError.{ParseError}
 use Rattle.kanal_script.specs.declared.parser.ParseError.TheVariants.{Unreadable as Unread, NoMemory as NoRoom}

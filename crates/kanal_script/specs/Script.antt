@@ -1,11 +1,11 @@
 -- How a script is written.
 use Rattle.std.specs.Prelude.{◌≡◌, ℕ, List, [], ◌∷◌, ◌++◌, Option, Some, None, codes, decimal, ◌⊎◌, ◌≢◌, slice_index, length}
-use Rattle.kanal_journal.specs.declared.journal.event.Side.{Side}
-use Rattle.kanal_journal.specs.declared.journal.event.Side.TheVariants.{Tx, Rx}
-use Rattle.kanal_journal.specs.declared.journal.event.Ask.{Ask}
-use Rattle.kanal_journal.specs.declared.journal.event.Ask.TheVariants.{IsBounded, Len, IsEmpty, IsFull, Capacity, ReceiverCount, SenderCount, IsClosed, IsDisconnected}
-use Rattle.kanal_journal.specs.declared.journal.event.Event.{Event}
-use Rattle.kanal_journal.specs.declared.journal.event.Event.TheVariants.{Send, TrySend, Recv, RecvLate, TryRecv, Drain, Withdraw, CloneTx, CloneRx, DropTx, DropRx, Seal, Close, Ask as Asks, Terminated}
+use Rattle.kanal_events.specs.declared.event.Side.{Side}
+use Rattle.kanal_events.specs.declared.event.Side.TheVariants.{Tx, Rx}
+use Rattle.kanal_events.specs.declared.event.Ask.{Ask}
+use Rattle.kanal_events.specs.declared.event.Ask.TheVariants.{IsBounded, Len, IsEmpty, IsFull, Capacity, ReceiverCount, SenderCount, IsClosed, IsDisconnected}
+use Rattle.kanal_events.specs.declared.event.Event.{Event}
+use Rattle.kanal_events.specs.declared.event.Event.TheVariants.{Send, TrySend, Recv, RecvLate, TryRecv, Drain, Withdraw, CloneTx, CloneRx, DropTx, DropRx, Seal, Close, Ask as Asks, Terminated}
 
 -- a line: its words, and a line feed
 abbrev pub line : List ℕ → List ℕ

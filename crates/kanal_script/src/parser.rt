@@ -6,9 +6,9 @@ ghost use Rattle.std.specs.Prelude.{◌≡◌, ◌↔◌, ℕ, ◌+◌, ◌<◌,
 ghost use Rattle.kanal_script.specs.declared.parser.ParseError.TheVariants.{NoMemory};
 ghost use Rattle.kanal_script.specs.Faults.{IsFirstFault};
 ghost use Rattle.kanal_script.specs.Words.{is_separator, word_of, after_word, IsWord, EndsWord, EndsLine, EventFits, FitsWord, limit_word};
-ghost use Rattle.kanal_journal.specs.declared.journal.event.Event.{Event};
-ghost use Rattle.kanal_journal.specs.declared.journal.event.Side.{Side};
-ghost use Rattle.kanal_journal.specs.declared.journal.event.Ask.{Ask};
+ghost use Rattle.kanal_events.specs.declared.event.Event.{Event};
+ghost use Rattle.kanal_events.specs.declared.event.Side.{Side};
+ghost use Rattle.kanal_events.specs.declared.event.Ask.{Ask};
 ghost use Rattle.kanal_script.specs.Script.{line, capacity_words, side_word, ask_word, event_words, script_text, IsReadTo, IsWritten, IsPlain};
 
 use crate::script::Script;

@@ -4,7 +4,7 @@
 ghost use Rattle.std.specs.Prelude.{◌≡◌};
 ghost use Rattle.kanal_journal.specs.Runs.{has_handle, has_side};
 
-use super::event::{Event, Side};
+use kanal_events::event::{Event, Side};
 
 /// How many live handles each side has.
 #[derive(Clone, Copy, Debug, PartialEq, Eq)]

@@ -5,11 +5,12 @@
 ghost use Rattle.std.specs.Prelude.{◌≡◌, ◌+◌, ◌<◌, ◌≤◌, [], ◌∷◌, ◌++◌, length, map, vec_len, vec_capacity};
 ghost use Rattle.kanal_core.specs.Channel.{settlement};
 ghost use Rattle.kanal_journal.specs.Runs.{numbered};
-ghost use Rattle.kanal_journal.specs.Made.{reply_of, settled_of, cleared_of};
+ghost use Rattle.kanal_events.specs.Made.{reply_of, settled_of, cleared_of};
 
 use super::calls::Made;
-use super::event::{Reply, Settlement};
+use super::report::Settlement;
 use kanal_core::internal::{Cleared, Closing, Ended, Left, Settled};
+use kanal_events::event::Reply;
 
 /// Moves the messages to the vector's end, where they have room.
 fn move_cleared<T: Drop>(messages: Cleared<T>, into: &mut Vec<T>)
@@ -96,6 +97,10 @@ pub(crate) fn note<T: Drop>(
             settle_all(step, ended, settlements);
             move_cleared(cleared, clearings);
             Reply::Cleared(count)
+        },
+        Made::Drained(count, ended, _moved) => {
+            settle_all(step, ended, settlements);
+            Reply::Drained(count)
         },
     }
 }

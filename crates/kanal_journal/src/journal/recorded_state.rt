@@ -9,10 +9,10 @@ ghost use Rattle.kanal_journal.specs.Replays.{Records, Replays, opened, outcome_
 ghost use Rattle.kanal_journal.specs.Runs.{Leads, opening};
 ghost use Rattle.kanal_journal.specs.Recorders.{IsSound};
 
-use super::event::{Event, Reply};
 use super::recorder::{Entry, Journal, Recorder};
 use kanal_core::error::NewError;
 use kanal_core::internal::Outcome;
+use kanal_events::event::{Event, Reply};
 use std::alloc::Global;
 use std::marker::Model;
 

@@ -5,14 +5,15 @@
 //! is given and gives back; `RecordedState` keeps it, and nothing else has a recorder.
 ghost use Rattle.std.specs.Prelude.{◌≡◌, ◌↔◌, ◌+◌, ◌<◌, [], ◌∷◌, ◌++◌, IfOk, IsErrOf, Some, vec_len, vec_capacity};
 ghost use Rattle.kanal_core.specs.Line.{last_word};
-ghost use Rattle.kanal_journal.specs.Replays.{Records, opened, outcome_of, is_no_memory as tells_no_memory};
+ghost use Rattle.kanal_journal.specs.Replays.{Records, opened, outcome_of};
 ghost use Rattle.kanal_journal.specs.Running.{IsSame, HasRoom};
 ghost use Rattle.kanal_journal.specs.Recorders.{IsSound, recording_of};
 
-use super::event::{Event, Refusal, Reply, Settlement};
+use super::report::Settlement;
 use super::running::{Running, make_room};
 use kanal_core::error::NewError;
 use kanal_core::internal::Outcome;
+use kanal_events::event::{Event, Refusal, Reply};
 use std::alloc::{AllocError, Global};
 
 /// One call of a journal: the party that made it, its event, and what it was replied.
@@ -39,20 +40,6 @@ pub struct Journal<T> {
     pub drained: Vec<T>,
     /// The messages that a close cleared, in order.
     pub cleared: Vec<T>,
-}
-
-impl<T: Copy> Reply<T> {
-    /// Whether the reply says that there was no memory.
-    ///
-    /// # Examples
-    /// ```text
-    /// Reply::Refused(Refusal::NoMemory, Some(7)).is_no_memory()   answers  true
-    /// ```
-    pub fn is_no_memory(self) -> bool
-        ensures { result ≡ tells_no_memory self }
-    {
-        matches!(self, Reply::Refused(Refusal::NoMemory, _))
-    }
 }
 
 /// Puts the call at the journal's end, which has room for it.

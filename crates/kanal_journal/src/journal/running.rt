@@ -9,11 +9,12 @@ ghost use Rattle.kanal_core.specs.Line.{last_word};
 ghost use Rattle.kanal_journal.specs.Running.{IsNoted, IsOpened, IsWithinEvents, HasRoom, HasSameRoom, IsSame};
 
 use super::calls::Core;
-use super::event::{Event, Reply, Settlement};
 use super::handles::Handles;
+use super::report::Settlement;
 use super::{calls, notes};
 use kanal_core::error::NewError;
 use kanal_core::internal::{ChannelInternal, Ticket};
+use kanal_events::event::{Event, Reply};
 use std::alloc::{AllocError, Global};
 
 /// A core with the tickets that it gave and the live handles, and what it settled, drained and

@@ -1,0 +1,23 @@
+-- A drain of the core, as the event that it is.
+use Rattle.std.proofs.Common.{◌≡◌, ℕ, ◌==◌, List, [], ◌++◌, length, drop, sym, ap, inl, inr}
+use Rattle.std.proofs.lemmas.Bool.{cases_Bool, eqb-true}
+use Rattle.std.proofs.Math.Seq.{drop-append_seam}
+use Rattle.kanal_core.specs.declared.internal.outcome.Outcome.{Outcome}
+use Rattle.kanal_core.specs.Line.{Line, messages}
+use Rattle.kanal_core.specs.Moves.{Moved, drain}
+use Rattle.kanal_core.specs.Calls.{MovesTo}
+use Rattle.kanal_events.specs.declared.event.Reply.TheVariants.{Drained}
+use Rattle.kanal_events.specs.Steps.{Told, take_line}
+
+module _ {T : Type 0} where
+  abbrev told : Line T → ℕ → List (ℕ × Outcome T) → List T → Told T
+  told line count settled drained = record { line = line; reply = Drained count; settled = settled; drained = drained; cleared = [] }
+
+  -- what a vector gained by a drain are the messages of the line
+  pub drain_told : (old new : Line T) (settled : List (ℕ × Outcome T)) (count : ℕ) (before after : List T) → (old.receivers ≡ 0 → ⊥) → MovesTo (drain old) settled new → count ≡ length old.line → after ≡ before ++ messages old.line
+      → told new count settled (drop (length before) after) ≡ take_line old
+  drain_told old new settled count before after there_is moves counted moved =
+      elim (cases_Bool (old.receivers == 0)) [
+        | inl gone ↦ absurd (there_is (eqb-true old.receivers 0 gone))
+        | inr there ↦ rw (there, counted, moved, drop-append_seam before (messages old.line)) (ap (λ (m : Moved T). told m.line (length old.line) m.settled (messages old.line)) (sym moves))
+      ]

@@ -1,0 +1,3 @@
+pub mod Steps
+pub mod Given
+pub mod Made

@@ -1,0 +1,412 @@
+//! The steps of a channel, each a function that is lent the core.
+//!
+//! Stands on the core's contracts. A step makes one call on the core (a send or a receive that waits:
+//! two), says in the line's terms what that told, and which ticket it gave, and hands out all that left
+//! the core. Nothing is settled, noted or dropped here, since whoever shares a core has its lock. `W` is
+//! what a waiter brings: the steps don't look into it.
+ghost use Rattle.std.specs.Prelude.{◌≡◌, ◌==◌, ◌+◌, ◌<◌, ◌≤◌, ◌&&◌, ◌++◌, length, true, false, Some, None, IfErr, IfNone, IfSome, OnOk};
+ghost use Rattle.std.specs.Vec.{vec_capacity, vec_len};
+ghost use Rattle.kanal_core.specs.Channel.{line_of};
+ghost use Rattle.kanal_core.specs.Tickets.{number_of};
+ghost use Rattle.kanal_core.specs.Waiters.{IsPlaced};
+ghost use Rattle.kanal_core.specs.Calls.{IsFull, IsEmpty};
+ghost use Rattle.kanal_events.specs.Steps.{Tells, answer as answer_of, is_no_memory};
+ghost use Rattle.kanal_events.specs.Given.{Gives, GivesNone};
+ghost use Rattle.kanal_events.specs.Made.{Keeps, MustWait, Tries, drained_of, entered, got, is_drained, is_plain, may_wait, not_waiting, reply_of, told_of, withdrawn};
+
+use crate::event::{Ask, Event, Refusal, Reply, Side};
+use crate::made::{Kept, Made, Moved, Tried};
+use kanal_core::error::{DrainError, WaitError};
+use kanal_core::internal::{ChannelInternal, Offer, Steps, Take, Ticket, Waiter};
+use std::marker::Brand;
+use std::snapshot::Snapshot;
+
+/// Puts a send's message into the buffer, where nobody waits and there is a place; it comes back, and
+/// nothing changes, otherwise.
+///
+/// # Examples
+/// ```text
+/// push(&mut core, 7)   answers  Ok(())    in a new core for one message
+/// push(&mut core, 8)   answers  Err(8)    after that
+/// ```
+#[inline(always)]
+pub fn push<T: Drop, W: Drop>(core: &mut ChannelInternal<T, W>, message: T) -> Result<(), T>
+    ensures told { OnOk result (Tells (line_of core.old) (Event.Send message)
+        (entered (line_of core.new))) }
+    ensures refused { IfErr result (λ back. (back ≡ message) × (core.new ≡ core.old)) }
+{
+    core.push(message)
+}
+
+/// Takes a receive's message out of the buffer, where nobody waits and there is one; nothing changes
+/// otherwise.
+///
+/// # Examples
+/// ```text
+/// pop(&mut core)   answers  Some(7)   after 7 entered
+/// pop(&mut core)   answers  None      after that
+/// ```
+#[inline(always)]
+pub fn pop<T: Drop, W: Drop>(core: &mut ChannelInternal<T, W>) -> Option<T>
+    ensures told { IfSome result (λ m. Tells (line_of core.old) Event.Recv
+        (got m (line_of core.new))) }
+    ensures refused { IfNone result (core.new ≡ core.old) }
+{
+    core.pop()
+}
+
+/// A reply that settles no wait.
+fn only<T: Drop, W: Drop>(reply: Reply<T>) -> Made<T, W>
+    ensures { result ≡ Made.One reply None }
+{
+    Made::One(reply, None)
+}
+
+/// Offers the message of a call that doesn't wait.
+fn try_send<T: Drop, W: Drop>(core: &mut ChannelInternal<T, W>, message: T) -> Made<T, W>
+    ensures told { Tells (line_of core.old) (Event.TrySend message)
+        (told_of (line_of core.new) result) }
+    ensures tickets { GivesNone core.old core.new }
+{
+    match core.offer(message) {
+        Offer::Entered => only(Reply::Yes),
+        Offer::Handed(settled) => Made::One(Reply::Yes, Some(settled)),
+        Offer::Full(back) => only(Reply::No(back)),
+        Offer::Closed(back) => only(Reply::Refused(Refusal::Closed, Some(back))),
+        Offer::ReceiveClosed(back) => only(Reply::Refused(Refusal::ReceiveClosed, Some(back))),
+        Offer::Sealed(back) => only(Reply::Refused(Refusal::Sealed, Some(back))),
+        Offer::NoMemory(back) => only(Reply::Refused(Refusal::NoMemory, Some(back))),
+    }
+}
+
+/// Asks for a message, for a call that doesn't wait.
+fn try_recv<T: Drop, W: Drop>(core: &mut ChannelInternal<T, W>) -> Made<T, W>
+    ensures told { Tells (line_of core.old) Event.TryRecv (told_of (line_of core.new) result) }
+    ensures tickets { GivesNone core.old core.new }
+{
+    match core.take() {
+        Take::Got(message, settled) => Made::One(Reply::Got(message), settled),
+        Take::Closed => only(Reply::Refused(Refusal::Closed, None)),
+        Take::SendClosed => only(Reply::Refused(Refusal::SendClosed, None)),
+        Take::Empty => only(Reply::Nothing),
+    }
+}
+
+/// Asks for a message, for a call whose deadline has passed.
+fn recv_late<T: Drop, W: Drop>(core: &mut ChannelInternal<T, W>) -> Made<T, W>
+    ensures told { Tells (line_of core.old) Event.RecvLate (told_of (line_of core.new) result) }
+    ensures tickets { GivesNone core.old core.new }
+{
+    match core.take() {
+        Take::Got(message, settled) => Made::One(Reply::Got(message), settled),
+        Take::Closed => only(Reply::Refused(Refusal::Closed, None)),
+        Take::SendClosed => only(Reply::Refused(Refusal::Timeout, None)),
+        Take::Empty => only(Reply::Refused(Refusal::Timeout, None)),
+    }
+}
+
+/// Offers the message of a call that waits where there is no place for it.
+fn offer<T: Drop, W: Drop>(core: &mut ChannelInternal<T, W>, message: T) -> Tried<T, W>
+    ensures step { Tries (line_of core.old) (Event.Send message) result (line_of core.new) }
+    ensures tickets { GivesNone core.old core.new }
+{
+    let made = match core.offer(message) {
+        Offer::Entered => only(Reply::Sent),
+        Offer::Handed(settled) => Made::One(Reply::Sent, Some(settled)),
+        Offer::Full(back) => return Tried::MustWait(Event::Send(back)),
+        Offer::Closed(back) => only(Reply::Refused(Refusal::Closed, Some(back))),
+        Offer::ReceiveClosed(back) => only(Reply::Refused(Refusal::ReceiveClosed, Some(back))),
+        Offer::Sealed(back) => only(Reply::Refused(Refusal::Sealed, Some(back))),
+        Offer::NoMemory(back) => only(Reply::Refused(Refusal::NoMemory, Some(back))),
+    };
+    Tried::Told(made)
+}
+
+/// Asks for a message, for a call that waits where there is none.
+fn take<T: Drop, W: Drop>(core: &mut ChannelInternal<T, W>) -> Tried<T, W>
+    ensures step { Tries (line_of core.old) Event.Recv result (line_of core.new) }
+    ensures tickets { GivesNone core.old core.new }
+{
+    let made = match core.take() {
+        Take::Got(message, settled) => Made::One(Reply::Got(message), settled),
+        Take::Closed => only(Reply::Refused(Refusal::Closed, None)),
+        Take::SendClosed => only(Reply::Refused(Refusal::SendClosed, None)),
+        Take::Empty => return Tried::MustWait(Event::Recv),
+    };
+    Tried::Told(made)
+}
+
+/// Makes a send or a receive, unless it must wait.
+///
+/// # Examples
+/// ```text
+/// start(&mut core, Event::Send(7))   answers  Told(..), with the reply Sent   in a new core for one message
+/// start(&mut core, Event::Send(8))   answers  MustWait(Event::Send(8))        after that
+/// ```
+pub fn start<T: Drop, W: Drop>(core: &mut ChannelInternal<T, W>, event: Event<T>) -> Tried<T, W>
+    requires waits { may_wait event ≡ true }
+    ensures step { Tries (line_of core.old) event result (line_of core.new) }
+    ensures tickets { GivesNone core.old core.new }
+{
+    match event {
+        Event::Send(message) => offer(core, message),
+        Event::Recv => take(core),
+        _ => unreachable!(),
+    }
+}
+
+/// Starts the wait of a send that found no place.
+fn wait_send<T: Drop, W: Drop>(
+    core: &mut ChannelInternal<T, W>,
+    message: T,
+    w: W,
+) -> (Made<T, W>, Kept<W>)
+    requires full { IsFull (line_of core.old) }
+    ensures told { Tells (line_of core.old) (Event.Send message)
+        (told_of (line_of core.new) result.0) }
+    ensures kept { Keeps (reply_of result.0) result.1 }
+    ensures tickets { Gives result.1 core.old core.new }
+{
+    match core.wait_send(message, w) {
+        Ok(ticket) => (only(Reply::Waits(ticket.number())), Kept::Ticket(ticket)),
+        Err((WaitError::TooMany, back, w)) => {
+            (
+                only(Reply::Refused(Refusal::TooMany, Some(back))),
+                Kept::Back(w),
+            )
+        },
+        Err((WaitError::NoMemory, back, w)) => {
+            (
+                only(Reply::Refused(Refusal::NoMemory, Some(back))),
+                Kept::Back(w),
+            )
+        },
+    }
+}
+
+/// Starts the wait of a receive that found no message.
+fn wait_recv<T: Drop, W: Drop>(core: &mut ChannelInternal<T, W>, w: W) -> (Made<T, W>, Kept<W>)
+    requires empty { IsEmpty (line_of core.old) }
+    ensures told { Tells (line_of core.old) Event.Recv (told_of (line_of core.new) result.0) }
+    ensures kept { Keeps (reply_of result.0) result.1 }
+    ensures tickets { Gives result.1 core.old core.new }
+{
+    match core.wait_recv(w) {
+        Ok(ticket) => (only(Reply::Waits(ticket.number())), Kept::Ticket(ticket)),
+        Err((WaitError::TooMany, w)) => {
+            (only(Reply::Refused(Refusal::TooMany, None)), Kept::Back(w))
+        },
+        Err((WaitError::NoMemory, w)) => {
+            (only(Reply::Refused(Refusal::NoMemory, None)), Kept::Back(w))
+        },
+    }
+}
+
+/// Starts the wait of a call that must.
+fn wait<T: Drop, W: Drop>(
+    core: &mut ChannelInternal<T, W>,
+    event: Event<T>,
+    w: W,
+) -> (Made<T, W>, Kept<W>)
+    requires waits { may_wait event ≡ true }
+    requires must { MustWait (line_of core.old) event }
+    ensures told { Tells (line_of core.old) event (told_of (line_of core.new) result.0) }
+    ensures kept { Keeps (reply_of result.0) result.1 }
+    ensures tickets { Gives result.1 core.old core.new }
+{
+    match event {
+        Event::Send(message) => wait_send(core, message, w),
+        Event::Recv => wait_recv(core, w),
+        _ => unreachable!(),
+    }
+}
+
+/// Makes a send or a receive, and starts its wait with `w` where it must; `w` comes back otherwise.
+///
+/// # Examples
+/// ```text
+/// make_waiting(&mut core, Event::Recv, w)   replies  Waits(0), with the ticket of that number   in a new core
+/// ```
+pub fn make_waiting<T: Drop, W: Drop>(
+    core: &mut ChannelInternal<T, W>,
+    event: Event<T>,
+    w: W,
+) -> (Made<T, W>, Kept<W>)
+    requires waits { may_wait event ≡ true }
+    ensures told { Tells (line_of core.old) event (told_of (line_of core.new) result.0) }
+    ensures kept { Keeps (reply_of result.0) result.1 }
+    ensures tickets { Gives result.1 core.old core.new }
+{
+    match start(core, event) {
+        Tried::Told(made) => (made, Kept::Back(w)),
+        Tried::MustWait(event) => wait(core, event, w),
+    }
+}
+
+/// Takes the wait with this ticket back, if it waits.
+///
+/// # Examples
+/// ```text
+/// withdraw(&mut core, ticket)   answers  Some(waiter)   with a sender's message
+/// withdraw(&mut core, ticket)   answers  None           after that
+/// ```
+pub fn withdraw<T: Drop, W: Drop>(
+    core: &mut ChannelInternal<T, W>,
+    ticket: Ticket,
+) -> Option<Waiter<T, W>>
+    ensures told { IfSome result (λ w. Tells (line_of core.old) (Event.Withdraw (number_of ticket))
+        (withdrawn (line_of core.new) w.message)) }
+    ensures missing { IfNone result (core.new ≡ core.old) }
+    ensures nobody { IfNone result (IsPlaced ticket core.old.waiters
+        → Tells (line_of core.old) (Event.Withdraw (number_of ticket))
+        (not_waiting (line_of core.new))) }
+    ensures tickets { GivesNone core.old core.new }
+{
+    let mut steps = Steps::<Brand>::idle();
+    core.withdraw(ticket, &mut steps)
+}
+
+/// Moves the whole line to the vector's end. It is refused for memory only where the vector has too
+/// little room and can't grow.
+///
+/// # Examples
+/// ```text
+/// drain(&mut core, &mut messages)   replies  Drained(2)   after two messages entered
+/// ```
+pub fn drain<T: Drop, W: Drop>(core: &mut ChannelInternal<T, W>, into: &mut Vec<T>) -> Made<T, W>
+    ensures told { Tells (line_of core.old) Event.Drain (told_of (line_of core.new) result) }
+    ensures moved { into.new.items ≡ into.old.items ++ drained_of result }
+    ensures memory { is_no_memory (reply_of result) ≡ true
+        → vec_capacity into.old < vec_len into.old + length (line_of core.old).line }
+    ensures room { vec_len into.old + length (line_of core.old).line ≤ vec_capacity into.old
+        → vec_capacity into.new ≡ vec_capacity into.old }
+    ensures no_growth { is_drained result ≡ false → vec_capacity into.new ≡ vec_capacity into.old }
+    ensures tickets { GivesNone core.old core.new }
+{
+    let before = Snapshot::of(&*into);
+    match core.drain_into(into) {
+        Ok((count, ended)) => {
+            let after = Snapshot::of(&*into);
+            Made::Drained(count, ended, Moved { before, after })
+        },
+        Err(DrainError::Closed) => only(Reply::Refused(Refusal::Closed, None)),
+        Err(DrainError::NoMemory) => only(Reply::Refused(Refusal::NoMemory, None)),
+    }
+}
+
+/// Seals the channel.
+fn seal<T: Drop, W: Drop>(core: &mut ChannelInternal<T, W>) -> Made<T, W>
+    ensures told { Tells (line_of core.old) Event.Seal (told_of (line_of core.new) result) }
+    ensures tickets { GivesNone core.old core.new }
+{
+    match core.seal() {
+        Ok(ended) => Made::All(Reply::Done, ended),
+        Err(_) => only(Reply::Refused(Refusal::CloseError, None)),
+    }
+}
+
+/// Closes the channel.
+fn close<T: Drop, W: Drop>(core: &mut ChannelInternal<T, W>) -> Made<T, W>
+    ensures told { Tells (line_of core.old) Event.Close (told_of (line_of core.new) result) }
+    ensures tickets { GivesNone core.old core.new }
+{
+    match core.close() {
+        Ok(closing) => Made::Shut(closing),
+        Err(_) => only(Reply::Refused(Refusal::CloseError, None)),
+    }
+}
+
+/// Counts one more sender.
+fn add_sender<T: Drop, W: Drop>(core: &mut ChannelInternal<T, W>) -> Made<T, W>
+    ensures told { Tells (line_of core.old) Event.CloneTx (told_of (line_of core.new) result) }
+    ensures tickets { GivesNone core.old core.new }
+{
+    match core.add_sender() {
+        Ok(()) => only(Reply::Done),
+        Err(_) => only(Reply::Refused(Refusal::TooMany, None)),
+    }
+}
+
+/// Counts one more receiver.
+fn add_receiver<T: Drop, W: Drop>(core: &mut ChannelInternal<T, W>) -> Made<T, W>
+    ensures told { Tells (line_of core.old) Event.CloneRx (told_of (line_of core.new) result) }
+    ensures tickets { GivesNone core.old core.new }
+{
+    match core.add_receiver() {
+        Ok(()) => only(Reply::Done),
+        Err(_) => only(Reply::Refused(Refusal::TooMany, None)),
+    }
+}
+
+/// Counts one sender less.
+fn drop_sender<T: Drop, W: Drop>(core: &mut ChannelInternal<T, W>) -> Made<T, W>
+    ensures told { Tells (line_of core.old) Event.DropTx (told_of (line_of core.new) result) }
+    ensures tickets { GivesNone core.old core.new }
+{
+    Made::All(Reply::Done, core.drop_sender())
+}
+
+/// Counts one receiver less.
+fn drop_receiver<T: Drop, W: Drop>(core: &mut ChannelInternal<T, W>) -> Made<T, W>
+    ensures told { Tells (line_of core.old) Event.DropRx (told_of (line_of core.new) result) }
+    ensures tickets { GivesNone core.old core.new }
+{
+    Made::All(Reply::Done, core.drop_receiver())
+}
+
+/// Asks a question through a side.
+fn ask<T: Drop, W: Drop>(core: &ChannelInternal<T, W>, side: Side, question: Ask) -> Reply<T>
+    ensures { result ≡ answer_of (line_of core.now) side question }
+{
+    match question {
+        Ask::IsBounded => Reply::Flag(core.is_bounded()),
+        Ask::Len => Reply::Number(core.len() as u64),
+        Ask::IsEmpty => Reply::Flag(core.is_empty()),
+        Ask::IsFull => Reply::Flag(core.is_full()),
+        Ask::Capacity => Reply::Number(core.capacity() as u64),
+        Ask::ReceiverCount => Reply::Number(core.receiver_count() as u64),
+        Ask::SenderCount => Reply::Number(core.sender_count() as u64),
+        Ask::IsClosed => Reply::Flag(core.is_closed()),
+        Ask::IsDisconnected => match side {
+            Side::Tx => Reply::Flag(core.receive_side_gone()),
+            Side::Rx => Reply::Flag(core.send_side_gone()),
+        },
+    }
+}
+
+/// Asks whether no sender is left and no message is there.
+fn terminated<T: Drop, W: Drop>(core: &ChannelInternal<T, W>) -> Reply<T>
+    ensures { result ≡ Reply.Flag
+        (((line_of core.now).senders == 0) && (length (line_of core.now).line == 0)) }
+{
+    Reply::Flag(core.is_terminated())
+}
+
+/// Makes a call that never waits, and needs nothing but the core.
+///
+/// # Examples
+/// ```text
+/// make(&mut core, Event::TryRecv)   replies  Nothing      in a new core
+/// make(&mut core, Event::Close)     replies  Cleared(0)   after that
+/// ```
+pub fn make<T: Drop, W: Drop>(core: &mut ChannelInternal<T, W>, event: Event<T>) -> Made<T, W>
+    requires plain { is_plain event ≡ true }
+    ensures told { Tells (line_of core.old) event (told_of (line_of core.new) result) }
+    ensures tickets { GivesNone core.old core.new }
+{
+    match event {
+        Event::TrySend(message) => try_send(core, message),
+        Event::TryRecv => try_recv(core),
+        Event::RecvLate => recv_late(core),
+        Event::CloneTx => add_sender(core),
+        Event::CloneRx => add_receiver(core),
+        Event::DropTx => drop_sender(core),
+        Event::DropRx => drop_receiver(core),
+        Event::Seal => seal(core),
+        Event::Close => close(core),
+        Event::Ask(side, question) => only(ask(core, side, question)),
+        Event::Terminated => only(terminated(core)),
+        Event::Send(_message) => unreachable!(),
+        Event::Recv | Event::Drain | Event::Withdraw(_) => unreachable!(),
+    }
+}

@@ -13,6 +13,7 @@ use Rattle.kanal_events.specs.declared.event.Reply.TheVariants.{Cleared, Drained
 use Rattle.kanal_events.specs.Steps.{Told, Tells, IsWait, only}
 use Rattle.kanal_events.specs.declared.made.Made.{Made}
 use Rattle.kanal_events.specs.declared.made.Made.TheVariants.{One, All, Shut, Drained}
+use Rattle.kanal_events.specs.declared.made.Owed.{Owed}
 use Rattle.kanal_events.specs.declared.made.Kept.{Kept}
 use Rattle.kanal_events.specs.declared.made.Kept.TheVariants.{Ticket as Waiting, Back}
 use Rattle.kanal_events.specs.declared.made.Tried.{Tried}
@@ -69,6 +70,10 @@ module _ {T W : Type 0} where
   settled_of (All reply ended) = map settlement ended
   settled_of (Shut closing) = map settlement closing.ended
   settled_of (Drained count ended moved) = map settlement ended
+
+  -- the ticket of a wait that is owed, and what became of it
+  abbrev pub owed_of : Owed T W → ℕ × Outcome T
+  owed_of owed = settlement owed.settled
 
   -- the messages that it drained: those behind what the vector had held
   abbrev pub drained_of : Made T W → List T

@@ -1,13 +1,16 @@
-//! What a step told, as it leaves the core.
+//! What a step told, as it leaves the core, and what it owes to those whose waits it settled.
 //!
 //! Stands on what the core hands out. A value here holds all that left the core at one step: nothing of it
-//! is settled, noted or dropped while the lock is held. Only `steps` makes one.
-ghost use Rattle.std.specs.Prelude.{◌≡◌};
+//! is settled, noted or dropped while the lock is held. Only `steps` makes one. A wait that a step settled
+//! is owed to who waits: it leaves a `Made` by `next` alone, and the prover refuses to let go a `Made` that
+//! may still have one, or an `Owed` that nobody was told of.
+ghost use Rattle.std.specs.Prelude.{◌≡◌, ℕ, [], ◌∷◌, true, MatchOption};
+ghost use Rattle.kanal_core.specs.declared.internal.outcome.Outcome.{Outcome};
 ghost use Rattle.kanal_events.specs.Steps.{is_done, is_no_memory};
-ghost use Rattle.kanal_events.specs.Made.{reply_of};
+ghost use Rattle.kanal_events.specs.Made.{cleared_of, owed_of, reply_of, settled_of};
 
 use crate::event::{Event, Reply};
-use kanal_core::internal::{Closing, Ended, Settled, Ticket};
+use kanal_core::internal::{Cleared, Closing, Ended, Outcome, Settled, Ticket};
 use std::snapshot::Snapshot;
 
 /// What a vector held before a drain and after it, for proofs alone. It has no bytes.
@@ -19,8 +22,83 @@ pub struct Moved<T> {
     pub after: Snapshot<Vec<T>>,
 }
 
+/// Who waits, as the core has it: it can be told what became of its wait.
+pub trait Waits<T>: Drop {
+    /// What it is told beside that: what a pass has seen of a history.
+    type Seen: Drop;
+
+    /// What was seen has it that a call settled the ticket so.
+    ghost shows: { Self.Seen → ℕ × Outcome T → Type 0 };
+
+    /// Tells who waits, under the ticket of this number, what became of the wait.
+    fn tell(self, ticket: u64, outcome: Outcome<T>, seen: Self::Seen)
+        requires seen { shows seen (ticket, outcome) };
+}
+
+/// A wait that was settled, and is owed to who waits.
+pub struct Owed<T, W> {
+    settled: Settled<T, W>,
+    is_told: bool,
+}
+
+impl<T: Drop, W: Drop> Drop for Owed<T, W> {
+    fn drop(self)
+        requires told { self.is_told ≡ true }
+    {
+        let Owed {
+            settled,
+            is_told: _,
+        } = self;
+        drop(settled);
+    }
+}
+
+impl<T: Drop, W: Waits<T>> Owed<T, W> {
+    /// Tells who waits what became of the wait, with what was seen of it. The lock is released.
+    ///
+    /// # Examples
+    /// ```text
+    /// while let Some(owed) = made.next() {
+    ///     owed.tell(pass.again(&board));
+    /// }
+    /// ```
+    #[cold]
+    pub fn tell(self, seen: W::Seen)
+        requires seen { W.shows seen (owed_of self) }
+    {
+        let Owed {
+            settled,
+            is_told: _,
+        } = self;
+        let Settled { ticket, w, outcome } = settled;
+        w.tell(ticket.number(), outcome, seen);
+    }
+}
+
+impl<T: Drop> Owed<T, ()> {
+    /// The ticket's number, and what became of its wait, where nobody is there to be told.
+    ///
+    /// # Examples
+    /// ```text
+    /// made.next()?.into_settlement()   answers  (0, Outcome::Taken)
+    /// ```
+    pub fn into_settlement(self) -> (u64, Outcome<T>)
+        ensures { result ≡ owed_of self }
+    {
+        let Owed {
+            settled,
+            is_told: _,
+        } = self;
+        let Settled {
+            ticket,
+            w: (),
+            outcome,
+        } = settled;
+        (ticket.number(), outcome)
+    }
+}
+
 /// What a step of the core told.
-#[derive(Drop)]
 pub enum Made<T, W> {
     /// A reply, and at most one wait that was settled.
     One(Reply<T>, Option<Settled<T, W>>),
@@ -32,7 +110,91 @@ pub enum Made<T, W> {
     Drained(usize, Ended<T, W>, Moved<T>),
 }
 
+impl<T: Drop, W: Drop> Drop for Made<T, W> {
+    fn drop(self)
+        requires nobody { settled_of self ≡ [] }
+    {
+        match self {
+            Made::One(reply, settled) => {
+                drop(reply);
+                drop(settled);
+            },
+            Made::All(reply, ended) => {
+                drop(reply);
+                drop(ended);
+            },
+            Made::Shut(closing) => drop(closing),
+            Made::Drained(_count, ended, moved) => {
+                drop(ended);
+                drop(moved);
+            },
+        }
+    }
+}
+
 impl<T: Drop, W: Drop> Made<T, W> {
+    /// Hands out the next wait that it settled, the oldest first.
+    ///
+    /// # Examples
+    /// ```text
+    /// made.next()   answers  Some(owed)   where a receiver waited for what was sent
+    /// made.next()   answers  None         after that
+    /// ```
+    pub fn next(&mut self) -> Option<Owed<T, W>>
+        ensures next { MatchOption result ((settled_of self.old ≡ []) × (settled_of self.new ≡ []))
+            (λ o. settled_of self.old ≡ owed_of o ∷ settled_of self.new) }
+        ensures reply { reply_of self.new ≡ reply_of self.old }
+        ensures cleared { cleared_of self.new ≡ cleared_of self.old }
+    {
+        let settled = match self {
+            Made::One(_reply, settled) => settled.take(),
+            Made::All(_reply, ended) => ended.next(),
+            Made::Shut(closing) => closing.ended.next(),
+            Made::Drained(_count, ended, _moved) => ended.next(),
+        };
+        match settled {
+            Some(settled) => Some(Owed {
+                settled,
+                is_told: false,
+            }),
+            None => None,
+        }
+    }
+
+    /// The reply, and the messages that a close cleared, once no wait is in it.
+    ///
+    /// # Examples
+    /// ```text
+    /// made.into_parts()   answers  (Reply::Sent, None)
+    /// ```
+    pub fn into_parts(self) -> (Reply<T>, Option<Cleared<T>>)
+        requires nobody { settled_of self ≡ [] }
+        ensures reply { result.0 ≡ reply_of self }
+        ensures cleared { MatchOption result.1 (cleared_of self ≡ []) (λ c. cleared_of self ≡ c) }
+    {
+        match self {
+            Made::One(reply, settled) => {
+                drop(settled);
+                (reply, None)
+            },
+            Made::All(reply, ended) => {
+                drop(ended);
+                (reply, None)
+            },
+            Made::Shut(closing) => {
+                let Closing { cleared, ended } = closing;
+                let count = cleared.len();
+                drop(ended);
+                (Reply::Cleared(count), Some(cleared))
+            },
+            Made::Drained(count, ended, moved) => {
+                drop(ended);
+                drop(moved);
+                (Reply::Drained(count), None)
+            },
+        }
+    }
+
     /// Whether the reply says that there was no memory.
     ///
     /// # Examples
@@ -69,7 +231,6 @@ impl<T: Drop, W: Drop> Made<T, W> {
 }
 
 /// What a call came to that waits where it must, and has not brought what it needs for that.
-#[derive(Drop)]
 pub enum Tried<T, W> {
     /// It was made.
     Told(Made<T, W>),

@@ -9,7 +9,7 @@ use Rattle.kanal_core.specs.declared.internal.outcome.Reason.{Reason}
 use Rattle.kanal_core.specs.declared.internal.outcome.Reason.TheVariants.{Closed as ByClose, SendClosed as NoSendersLeft, ReceiveClosed as NoReceiversLeft}
 use Rattle.kanal_core.specs.declared.internal.outcome.Outcome.{Outcome}
 use Rattle.kanal_core.specs.declared.internal.outcome.Outcome.TheVariants.{Taken, Ended}
-use Rattle.kanal_core.specs.Line.{Entry, Line, last_word, bare, waiting, tickets, has, under, over, messages, has_place, buffered, holds_ticket, found}
+use Rattle.kanal_core.specs.Line.{Entry, Line, last_word, bare, waiting, tickets, has, under, over, messages, has_place, holds_ticket, found}
 use Rattle.kanal_core.specs.Moves.{last_count, serve, enter, leave, drain, seated, ended, ended_entry, end_all, close, cleared, wait_send, wait_recv, without_demand, add_sender, add_receiver, seal}
 use Rattle.kanal_journal.specs.declared.journal.handles.Handles.{Handles}
 use Rattle.kanal_events.specs.declared.event.Event.{Event}

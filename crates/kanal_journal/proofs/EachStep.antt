@@ -6,7 +6,7 @@ use Rattle.std.proofs.lemmas.Bool.{cases_Bool, false≢true, eqb-false, eqb-true
 use Rattle.std.proofs.lemmas.Bool.Decides.{nat_tests}
 use Rattle.kanal_core.specs.declared.internal.outcome.Reason.TheVariants.{SendClosed as NoSendersLeft, ReceiveClosed as NoReceiversLeft}
 use Rattle.kanal_core.specs.declared.internal.outcome.Outcome.TheVariants.{Given}
-use Rattle.kanal_core.specs.Line.{Entry, Line, last_word, bare, messages, tickets, has, is_below, has_place, buffered, found}
+use Rattle.kanal_core.specs.Line.{Entry, Line, last_word, bare, messages, tickets, has, is_below, has_place, found}
 use Rattle.kanal_core.specs.Moves.{Moved, last_count, raised, enter, leave, drain, end_all, close, cleared, wait_send, wait_recv, without_entry, without_demand}
 use Rattle.kanal_core.proofs.Sided.{serve-nothing}
 use Rattle.kanal_core.proofs.Within.{under-nothing}

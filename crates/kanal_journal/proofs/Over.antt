@@ -1,5 +1,5 @@
 -- Once a receive was told that nothing will come, each later one is told so.
-use Rattle.std.proofs.Common.{◌≡◌, ℕ, ◌⊎◌, ◌-◌, ◌==◌, zero, suc, Bool, true, false, cond, eqb, ◌&&◌, List, [], ◌∷◌, ◌++◌, Option, Some, None, refl, sym, ap, ◌∙◌, subst, inl, inr, append_assoc, append-nil, length}
+use Rattle.std.proofs.Common.{◌≡◌, ℕ, ◌⊎◌, ◌-◌, ◌==◌, true, false, cond, eqb, ◌&&◌, List, [], ◌∷◌, ◌++◌, Option, Some, None, refl, sym, ap, ◌∙◌, subst, inl, inr, append_assoc, append-nil, length}
 use Rattle.std.proofs.lemmas.Bool.{cases_Bool, false≢true, eqb-true, eqb-false}
 use Rattle.kanal_core.specs.declared.internal.outcome.Reason.TheVariants.{SendClosed as NoSendersLeft, ReceiveClosed as NoReceiversLeft}
 use Rattle.kanal_core.specs.Line.{Entry, Line, last_word, messages, under, has}
@@ -8,11 +8,11 @@ use Rattle.kanal_journal.specs.declared.journal.handles.Handles.{Handles}
 use Rattle.kanal_events.specs.declared.event.Side.TheVariants.{Rx}
 use Rattle.kanal_events.specs.declared.event.Event.{Event}
 use Rattle.kanal_events.specs.declared.event.Event.TheVariants.{Send, TrySend, Recv, RecvLate, TryRecv, Drain, Withdraw, CloneTx, CloneRx, DropTx, DropRx, Seal, Close, Ask as Asks, Terminated}
-use Rattle.kanal_events.specs.declared.event.Refusal.TheVariants.{Closed as ByClosed, ReceiveClosed as NoReceiver, Sealed as BySeal, SendClosed as NoSender, TooMany, CloseError, NotWaiting, Timeout, NoMemory, NoHandle}
+use Rattle.kanal_events.specs.declared.event.Refusal.TheVariants.{Closed as ByClosed, ReceiveClosed as NoReceiver, Sealed as BySeal, SendClosed as NoSender, TooMany, CloseError, NotWaiting, Timeout, NoHandle}
 use Rattle.kanal_events.specs.declared.event.Reply.{Reply}
 use Rattle.kanal_events.specs.declared.event.Reply.TheVariants.{Sent, Waits, Yes, No, Got, Nothing, Drained, Withdrawn, Done, Cleared, Number, Flag, Refused}
-use Rattle.kanal_events.specs.Steps.{Told, IsWait, only, moving, offer, take as take_told, take_front, nothing_there, wait, withdraw, take_line, seal_line, shut, message_of, step, refused}
-use Rattle.kanal_journal.specs.Runs.{Account, Answers, Leads, IsTold, opening, has_handle, has_side, handles_after}
+use Rattle.kanal_events.specs.Steps.{Told, IsWait, only, moving, offer, take as take_told, take_front, nothing_there, wait, withdraw, take_line, seal_line, shut, step, refused}
+use Rattle.kanal_journal.specs.Runs.{Account, Answers, Leads, IsTold, opening, has_handle, has_side}
 use Rattle.kanal_journal.specs.Laws.{is_receive, tells_end, tells_end_or_no_handle, AreOver, StaysOver}
 use Rattle.kanal_core.proofs.Within.{under-nothing}
 use Rattle.kanal_journal.proofs.Standing.{told-zero}

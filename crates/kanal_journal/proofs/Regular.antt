@@ -1,7 +1,7 @@
 -- What every step of the line has in common.
 use Rattle.std.proofs.Common.{◌≡◌, ℕ, ◌+◌, ◌-◌, ◌≤◌, length, false, cond, eqb, ◌==◌, ◌&&◌, List, [], ◌∷◌, ◌++◌, Option, Some, None, refl, sym, ◌∙◌, subst, inl, inr, arith}
 use Rattle.std.proofs.lemmas.Bool.{cases_Bool}
-use Rattle.kanal_core.specs.Line.{Entry, Line, last_word, bare, has, has_place, buffered, found, messages}
+use Rattle.kanal_core.specs.Line.{Entry, Line, last_word, bare, has, has_place, found, messages}
 use Rattle.kanal_core.specs.Moves.{Moved, last_count, serve, enter, leave, drain, end_all, close, cleared, wait_send, wait_recv, without_demand, without_entry, add_sender, add_receiver, seal}
 use Rattle.kanal_core.specs.declared.internal.outcome.Reason.TheVariants.{SendClosed as NoSendersLeft, ReceiveClosed as NoReceiversLeft}
 use Rattle.kanal_journal.specs.declared.journal.handles.Handles.{Handles}

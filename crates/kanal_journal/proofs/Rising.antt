@@ -6,7 +6,7 @@ use mathlib.Core.List.{map-append}
 use Rattle.kanal_core.specs.declared.internal.outcome.Outcome.{Outcome}
 use Rattle.kanal_core.specs.declared.internal.outcome.Reason.{Reason}
 use Rattle.kanal_core.specs.declared.internal.outcome.Reason.TheVariants.{Closed as ByClose, SendClosed as NoSendersLeft, ReceiveClosed as NoReceiversLeft}
-use Rattle.kanal_core.specs.Line.{Entry, Line, IsWithin, last_word, bare, waiting, tickets, has, under, over, messages, has_place, is_below, is_empty, buffered, found}
+use Rattle.kanal_core.specs.Line.{Entry, Line, IsWithin, last_word, bare, waiting, tickets, has, under, over, messages, has_place, is_below, is_empty, found}
 use Rattle.kanal_core.specs.Moves.{last_count, serve, enter, leave, drain, end_all, close, cleared, wait_send, wait_recv, without_demand, add_sender, add_receiver, seal}
 use Rattle.kanal_journal.specs.declared.journal.handles.Handles.{Handles}
 use Rattle.kanal_events.specs.declared.event.Event.{Event}

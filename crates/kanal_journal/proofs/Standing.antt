@@ -1,11 +1,10 @@
 -- The counts of both sides along a list of events.
-use Rattle.std.proofs.Common.{◌≡◌, ℕ, ◌+◌, ◌-◌, ◌⊎◌, Bool, true, false, not, cond, eqb, ◌==◌, ◌&&◌, List, [], ◌∷◌, ◌++◌, length, Option, Some, None, refl, sym, ap, ◌∙◌, subst, inl, inr}
-use Rattle.std.proofs.lemmas.Bool.{cases_Bool, false≢true, eqb-true}
+use Rattle.std.proofs.Common.{◌≡◌, ℕ, ◌-◌, Bool, true, false, cond, eqb, ◌==◌, ◌&&◌, List, [], ◌∷◌, ◌++◌, length, Option, Some, None, refl, sym, ap, ◌∙◌, subst, inl, inr}
+use Rattle.std.proofs.lemmas.Bool.{cases_Bool, false≢true}
 use Rattle.kanal_core.specs.declared.internal.outcome.Reason.TheVariants.{SendClosed as NoSendersLeft, ReceiveClosed as NoReceiversLeft}
-use Rattle.kanal_core.specs.Line.{Entry, Line, last_word, bare, messages, has, has_place, buffered, found}
+use Rattle.kanal_core.specs.Line.{Entry, Line, last_word, bare, messages, has, has_place, found}
 use Rattle.kanal_core.specs.Moves.{last_count, raised, serve, enter, drain, end_all, close, cleared, wait_send, wait_recv, without_demand, seal}
 use Rattle.kanal_journal.specs.declared.journal.handles.Handles.{Handles}
-use Rattle.kanal_events.specs.declared.event.Side.TheVariants.{Tx, Rx}
 use Rattle.kanal_events.specs.declared.event.Event.{Event}
 use Rattle.kanal_events.specs.declared.event.Event.TheVariants.{Send, TrySend, Recv, RecvLate, TryRecv, Drain, Withdraw, CloneTx, CloneRx, DropTx, DropRx, Seal, Close, Ask as Asks, Terminated}
 use Rattle.kanal_events.specs.declared.event.Refusal.{Refusal}
@@ -13,7 +12,7 @@ use Rattle.kanal_events.specs.declared.event.Refusal.TheVariants.{Closed as ByCl
 use Rattle.kanal_events.specs.declared.event.Reply.{Reply}
 use Rattle.kanal_events.specs.declared.event.Reply.TheVariants.{Sent, Waits, Yes, No, Nothing, Drained, Withdrawn, Done, Cleared, Flag, Refused}
 use Rattle.kanal_events.specs.Steps.{Told, only, moving, offer, take as take_told, take_front, nothing_there, wait, withdraw, seal_line, shut, take_line, answer, message_of, step, refused}
-use Rattle.kanal_journal.specs.Runs.{Account, Answers, Leads, has_handle, has_side, handles_after}
+use Rattle.kanal_journal.specs.Runs.{Account, Answers, Leads, has_handle}
 use Rattle.kanal_journal.proofs.Regular.{made-regular}
 
 pub raised-zero : (k : ℕ) → k ≡ 0 → raised k ≡ 0

@@ -1,11 +1,9 @@
 -- A journal of calls, and the account of the line that explains it.
-use Rattle.std.specs.Prelude.{◌≡◌, ℕ, ◌==◌, Bool, true, false, cond, List, [], ◌∷◌, ◌++◌, map, Option, Some, None, ◌⊎◌}
+use Rattle.std.specs.Prelude.{◌≡◌, ℕ, ◌==◌, cond, List, [], ◌∷◌, ◌++◌, map, Option, Some, None, ◌⊎◌}
 use Rattle.kanal_core.specs.declared.internal.outcome.Outcome.{Outcome}
 use Rattle.kanal_events.specs.declared.event.Event.{Event}
 use Rattle.kanal_journal.specs.declared.journal.report.Settlement.{Settlement}
-use Rattle.kanal_events.specs.declared.event.Refusal.TheVariants.{NoMemory}
 use Rattle.kanal_events.specs.declared.event.Reply.{Reply}
-use Rattle.kanal_events.specs.declared.event.Reply.TheVariants.{Refused}
 use Rattle.kanal_journal.specs.declared.journal.recorder.Entry.{Entry}
 use Rattle.kanal_events.specs.Steps.{no_memory}
 use Rattle.kanal_journal.specs.Runs.{Account, made, added, opening}

@@ -9,12 +9,12 @@ ghost use Rattle.kanal_events.specs.Made.{MustWait, is_plain, may_wait, reply_of
 ghost use Rattle.kanal_one_history.specs.Makes.{HasBegun, HasCome, IsAnswered, Looks};
 
 use crate::channel::Channel;
-use crate::delivered::{Delivered, Settler, settle, settle_all};
+use crate::delivered::{Delivered, Settler};
 use crate::pass::Pass;
 use crate::state::State;
 use kanal_board::Naming;
 use kanal_cell::signal;
-use kanal_core::internal::{Closing, Outcome, Ticket};
+use kanal_core::internal::{Outcome, Ticket};
 use kanal_events::event::{Event, Reply};
 use kanal_events::made::{Kept, Made, Tried};
 use kanal_shared::Waiting;
@@ -57,29 +57,13 @@ impl<T: Drop, J: Naming> Channel<T, J> {
         ensures reply { result ≡ reply_of made }
         ensures same { pass.new ≡ pass.old }
     {
-        match made {
-            Made::One(reply, settled) => {
-                if let Some(settled) = settled {
-                    settle(&self.board, pass, settled);
-                }
-                reply
-            },
-            Made::All(reply, ended) => {
-                settle_all(&self.board, pass, ended);
-                reply
-            },
-            Made::Shut(closing) => {
-                let Closing { cleared, ended } = closing;
-                let count = cleared.len();
-                settle_all(&self.board, pass, ended);
-                drop(cleared);
-                Reply::Cleared(count)
-            },
-            Made::Drained(count, ended, _moved) => {
-                settle_all(&self.board, pass, ended);
-                Reply::Drained(count)
-            },
+        let mut made = made;
+        while let Some(owed) = made.next() {
+            owed.tell(pass.again(&self.board));
         }
+        let (reply, cleared) = made.into_parts();
+        drop(cleared);
+        reply
     }
 
     /// Makes a call that never waits for the other side.

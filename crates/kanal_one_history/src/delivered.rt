@@ -2,17 +2,16 @@
 //!
 //! Stands on the cell and on passes. What comes through a cell is known by its type alone: so the type
 //! keeps that the history which comes along has settled this ticket so.
-ghost use Rattle.std.specs.Prelude.{◌≡◌, [], map};
-ghost use Rattle.kanal_core.specs.Channel.{settlement};
+ghost use Rattle.std.specs.Prelude.{◌≡◌, []};
 ghost use Rattle.kanal_cell.specs.CellRule.{HasNotSettled};
 ghost use Rattle.kanal_cell.specs.CellEnds.{settle_view};
-ghost use Rattle.kanal_one_history.specs.Calls.{HasSettled, HaveSettled};
+ghost use Rattle.kanal_one_history.specs.Calls.{HasSettled};
 
-use crate::call::Call;
 use crate::pass::Pass;
-use kanal_board::{Board, Naming};
+use kanal_board::Naming;
 use kanal_cell::signal::SettleEnd;
-use kanal_core::internal::{Ended, Outcome, Settled};
+use kanal_core::internal::Outcome;
+use kanal_events::made::Waits;
 use std::marker::Model;
 
 /// What became of a wait, with what the pass had seen that settled it. Contracts see the ticket's number
@@ -73,46 +72,27 @@ impl<T: Drop, J: Naming> Settler<T, J> {
     {
         Settler { end }
     }
+}
 
-    /// Hands over what became of the wait; what comes back, since the waiter has left, is let go.
-    fn settle(self, delivered: Delivered<T, J>) {
+impl<T: Drop, J: Naming> Waits<T> for Settler<T, J> {
+    ghost use Rattle.std.specs.Prelude.{◌≡◌, []};
+    ghost use Rattle.kanal_one_history.specs.Calls.{HasSettled};
+
+    type Seen = Pass<T, J>;
+
+    ghost shows = { λ pass pair. HasSettled pass.log pair × (pass.own ≡ []) };
+
+    /// Hands over what became of the wait, with the pass that has seen it; what comes back, since the waiter
+    /// has left, is let go.
+    fn tell(self, ticket: u64, outcome: Outcome<T>, seen: Pass<T, J>)
+        requires seen { HasSettled seen.log (ticket, outcome) × (seen.own ≡ []) }
+    {
         let Settler { mut end } = self;
-        let back = end.settle(delivered);
+        let back = end.settle(Delivered {
+            ticket,
+            outcome,
+            pass: seen,
+        });
         drop(back);
-    }
-}
-
-/// Tells a waiter what became of its wait, which this pass has seen. The lock is released.
-#[cold]
-pub(crate) fn settle<T: Drop, J: Naming>(
-    board: &Board<Call<T>, J>,
-    pass: &mut Pass<T, J>,
-    settled: Settled<T, Settler<T, J>>,
-)
-    requires seen { HasSettled pass.old.log (settlement settled) }
-    ensures same { pass.new ≡ pass.old }
-{
-    let Settled { ticket, w, outcome } = settled;
-    let delivered = Delivered {
-        ticket: ticket.number(),
-        outcome,
-        pass: pass.again(board),
-    };
-    w.settle(delivered);
-}
-
-/// Tells all waiters of a step, oldest first. The lock is released.
-#[cold]
-pub(crate) fn settle_all<T: Drop, J: Naming>(
-    board: &Board<Call<T>, J>,
-    pass: &mut Pass<T, J>,
-    ended: Ended<T, Settler<T, J>>,
-)
-    requires seen { HaveSettled pass.old.log (map settlement ended) }
-    ensures same { pass.new ≡ pass.old }
-{
-    let mut ended = ended;
-    while let Some(settled) = ended.next() {
-        settle(board, pass, settled);
     }
 }

@@ -2,15 +2,15 @@
 //!
 //! Stands on what the core handed out. Every list has its room before, so that nothing is refused
 //! here.
-ghost use Rattle.std.specs.Prelude.{◌≡◌, ◌+◌, ◌<◌, ◌≤◌, [], ◌∷◌, ◌++◌, length, map, vec_len, vec_capacity};
-ghost use Rattle.kanal_core.specs.Channel.{settlement};
+ghost use Rattle.std.specs.Prelude.{◌≡◌, ◌+◌, ◌<◌, ◌≤◌, [], ◌∷◌, ◌++◌, length, vec_len, vec_capacity};
+ghost use Rattle.kanal_events.specs.Made.{reply_of, settled_of, cleared_of, owed_of};
 ghost use Rattle.kanal_journal.specs.Runs.{numbered};
-ghost use Rattle.kanal_events.specs.Made.{reply_of, settled_of, cleared_of};
 
 use super::calls::Made;
 use super::report::Settlement;
-use kanal_core::internal::{Cleared, Closing, Ended, Left, Settled};
+use kanal_core::internal::{Cleared, Left};
 use kanal_events::event::Reply;
+use kanal_events::made::Owed;
 
 /// Moves the messages to the vector's end, where they have room.
 fn move_cleared<T: Drop>(messages: Cleared<T>, into: &mut Vec<T>)
@@ -37,27 +37,30 @@ pub(crate) fn move_left<T: Drop>(messages: Left<T, ()>, into: &mut Vec<T>)
 }
 
 /// Puts a settled wait at the vector's end, where it has room, with the step's number.
-fn settle<T: Drop>(step: usize, settled: Settled<T, ()>, into: &mut Vec<Settlement<T>>)
+fn settle<T: Drop>(step: usize, owed: Owed<T, ()>, into: &mut Vec<Settlement<T>>)
     requires { vec_len into.old < vec_capacity into.old }
-    ensures items { into.new.items ≡ into.old.items ++ numbered step (settlement settled ∷ []) }
+    ensures items { into.new.items ≡ into.old.items ++ numbered step (owed_of owed ∷ []) }
     ensures room { vec_capacity into.new ≡ vec_capacity into.old }
 {
+    let (ticket, outcome) = owed.into_settlement();
     into.push_reserved(Settlement {
         step,
-        ticket: settled.ticket.number(),
-        outcome: settled.outcome,
+        ticket,
+        outcome,
     });
 }
 
-/// Puts the waits that a step ended at the vector's end, where they have room.
-fn settle_all<T: Drop>(step: usize, ended: Ended<T, ()>, into: &mut Vec<Settlement<T>>)
-    requires { vec_len into.old + length ended ≤ vec_capacity into.old }
-    ensures items { into.new.items ≡ into.old.items ++ numbered step (map settlement ended) }
+/// Puts the waits that a step settled at the vector's end, where they have room.
+fn settle_all<T: Drop>(step: usize, made: &mut Made<T>, into: &mut Vec<Settlement<T>>)
+    requires { vec_len into.old + length (settled_of made.old) ≤ vec_capacity into.old }
+    ensures items { into.new.items ≡ into.old.items ++ numbered step (settled_of made.old) }
     ensures room { vec_capacity into.new ≡ vec_capacity into.old }
+    ensures none { settled_of made.new ≡ [] }
+    ensures reply { reply_of made.new ≡ reply_of made.old }
+    ensures cleared { cleared_of made.new ≡ cleared_of made.old }
 {
-    let mut ended = ended;
-    while let Some(settled) = ended.next() {
-        settle(step, settled, into);
+    while let Some(owed) = made.next() {
+        settle(step, owed, into);
     }
 }
 
@@ -80,27 +83,11 @@ pub(crate) fn note<T: Drop>(
     ensures room { (vec_capacity settlements.new ≡ vec_capacity settlements.old)
         × (vec_capacity clearings.new ≡ vec_capacity clearings.old) }
 {
-    match made {
-        Made::One(reply, settled) => {
-            if let Some(settled) = settled {
-                settle(step, settled, settlements);
-            }
-            reply
-        },
-        Made::All(reply, ended) => {
-            settle_all(step, ended, settlements);
-            reply
-        },
-        Made::Shut(closing) => {
-            let Closing { cleared, ended } = closing;
-            let count = cleared.len();
-            settle_all(step, ended, settlements);
-            move_cleared(cleared, clearings);
-            Reply::Cleared(count)
-        },
-        Made::Drained(count, ended, _moved) => {
-            settle_all(step, ended, settlements);
-            Reply::Drained(count)
-        },
+    let mut made = made;
+    settle_all(step, &mut made, settlements);
+    let (reply, cleared) = made.into_parts();
+    if let Some(cleared) = cleared {
+        move_cleared(cleared, clearings);
     }
+    reply
 }

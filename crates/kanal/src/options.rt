@@ -34,7 +34,9 @@ pub(crate) fn answer_of<T: Drop>(offered: Offered<T>) -> Result<bool, SendError>
 /// What a timed send answers; a message that comes back is dropped.
 pub(crate) fn timed_answer_of<T: Drop>(
     answer: Result<(), (SendErrorTimeout, Option<T>)>,
-) -> Result<(), SendErrorTimeout> {
+) -> Result<(), SendErrorTimeout>
+    ensures refusal { result ≡ refusal_of answer }
+{
     match answer {
         Ok(()) => Ok(()),
         Err((error, _message)) => Err(error),

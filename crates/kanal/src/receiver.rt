@@ -2,7 +2,9 @@
 //!
 //! Stands on the receiver for tasks; nothing is done here but handing on.
 ghost use Rattle.std.specs.Prelude.{◌≡◌, Some, IfOk, IfErr, IsErrOf, OnErr, codes};
+ghost use Rattle.std.specs.Duration.{as_nanos};
 ghost use Rattle.std.specs.Vec.{vec_capacity};
+ghost use Rattle.kanal_shared.specs.Deadlines.{ReceivesInTime};
 ghost use Rattle.kanal_shared.specs.Drains.{GoesOnBy};
 
 use crate::async_receiver::AsyncReceiver;
@@ -64,7 +66,9 @@ impl<T: Drop> Receiver<T> {
         rt: &R,
         duration: Duration,
         clock: &C,
-    ) -> Result<T, ReceiveErrorTimeout> {
+    ) -> Result<T, ReceiveErrorTimeout>
+        ensures time { ReceivesInTime (C.answers clock.now) (as_nanos duration) result }
+    {
         self.inner.shared().recv_before(rt, duration, clock)
     }
 

@@ -3,7 +3,9 @@
 //! Stands on the receiver for tasks; nothing is done here but handing on. A view is not counted: it
 //! has no clone, no conversion and no drop of its own.
 ghost use Rattle.std.specs.Prelude.{◌≡◌, IfOk, IfErr, IsErrOf, OnErr};
+ghost use Rattle.std.specs.Duration.{as_nanos};
 ghost use Rattle.std.specs.Vec.{vec_capacity};
+ghost use Rattle.kanal_shared.specs.Deadlines.{ReceivesInTime};
 ghost use Rattle.kanal_shared.specs.Drains.{GoesOnBy};
 
 use crate::async_receiver::AsyncReceiver;
@@ -64,7 +66,9 @@ impl<T: Drop> ReceiverView<'_, T> {
         rt: &R,
         duration: Duration,
         clock: &C,
-    ) -> Result<T, ReceiveErrorTimeout> {
+    ) -> Result<T, ReceiveErrorTimeout>
+        ensures time { ReceivesInTime (C.answers clock.now) (as_nanos duration) result }
+    {
         self.receiver.shared().recv_before(rt, duration, clock)
     }
 

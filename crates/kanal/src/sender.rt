@@ -3,6 +3,8 @@
 //! Stands on the sender for tasks; nothing is done here but handing on. Where a call is refused its
 //! message is dropped, but for the calls that are lent an option.
 ghost use Rattle.std.specs.Prelude.{◌≡◌, ◌≢◌, IsSome, Some, None, Ok, true, codes, IfErr};
+ghost use Rattle.std.specs.Duration.{as_nanos};
+ghost use Rattle.kanal_shared.specs.Deadlines.{SendsInTime};
 ghost use Rattle.kanal_shared.specs.Timed.{StartedNoWait};
 
 use crate::async_sender::AsyncSender;
@@ -64,7 +66,9 @@ impl<T: Drop> Sender<T> {
         message: T,
         duration: Duration,
         clock: &C,
-    ) -> Result<(), SendErrorTimeout> {
+    ) -> Result<(), SendErrorTimeout>
+        ensures time { SendsInTime (C.answers clock.now) (as_nanos duration) result }
+    {
         let shared = self.inner.shared();
         timed_answer_of(shared.send_before(rt, message, duration, clock))
     }
@@ -93,6 +97,7 @@ impl<T: Drop> Sender<T> {
         requires { IsSome option.old }
         ensures sent { result ≡ Ok tt → option.new ≡ None }
         ensures kept { IfErr result (λ e. StartedNoWait e → option.new ≡ option.old) }
+        ensures time { SendsInTime (C.answers clock.now) (as_nanos duration) result }
     {
         let shared = self.inner.shared();
         let message = taken(option);

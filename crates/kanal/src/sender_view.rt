@@ -3,6 +3,8 @@
 //! Stands on the sender for tasks; nothing is done here but handing on. A view is not counted: it has
 //! no clone, no conversion and no drop of its own.
 ghost use Rattle.std.specs.Prelude.{◌≡◌, ◌≢◌, IsSome, None, Ok, true, IfErr};
+ghost use Rattle.std.specs.Duration.{as_nanos};
+ghost use Rattle.kanal_shared.specs.Deadlines.{SendsInTime};
 ghost use Rattle.kanal_shared.specs.Timed.{StartedNoWait};
 
 use crate::async_sender::AsyncSender;
@@ -63,7 +65,9 @@ impl<T: Drop> SenderView<'_, T> {
         message: T,
         duration: Duration,
         clock: &C,
-    ) -> Result<(), SendErrorTimeout> {
+    ) -> Result<(), SendErrorTimeout>
+        ensures time { SendsInTime (C.answers clock.now) (as_nanos duration) result }
+    {
         let shared = self.sender.shared();
         timed_answer_of(shared.send_before(rt, message, duration, clock))
     }
@@ -92,6 +96,7 @@ impl<T: Drop> SenderView<'_, T> {
         requires { IsSome option.old }
         ensures sent { result ≡ Ok tt → option.new ≡ None }
         ensures kept { IfErr result (λ e. StartedNoWait e → option.new ≡ option.old) }
+        ensures time { SendsInTime (C.answers clock.now) (as_nanos duration) result }
     {
         let shared = self.sender.shared();
         let message = taken(option);

@@ -1,13 +1,17 @@
 -- What a call does to the pass that makes it.
-use Rattle.std.specs.Prelude.{◌≡◌, ℕ, ◌+◌, ◌<◌, ◌⊎◌, true, false, List, [], ◌∷◌, ◌++◌, length, Option, Some, None, Result, Err, IfOk}
+use Rattle.std.specs.Prelude.{◌≡◌, ℕ, ◌+◌, ◌^◌, ◌<◌, ◌≤◌, ◌⊎◌, true, false, List, [], ◌∷◌, ◌++◌, length, Option, Some, None, Result, Err, IfOk}
 use mathlib.Core.List.{IsPrefix}
 use Rattle.kanal_board.specs.Views.{Known}
 use Rattle.kanal_core.specs.declared.internal.outcome.Outcome.{Outcome}
 use Rattle.kanal_core.specs.declared.error.ReceiveError.{ReceiveError}
+use Rattle.kanal_core.specs.declared.error.SendErrorTimeout.{SendErrorTimeout}
+use Rattle.kanal_core.specs.declared.error.SendErrorTimeout.TheVariants.{DeadlineOutOfRange as SendOutOfRange}
+use Rattle.kanal_core.specs.declared.error.ReceiveErrorTimeout.{ReceiveErrorTimeout}
+use Rattle.kanal_core.specs.declared.error.ReceiveErrorTimeout.TheVariants.{DeadlineOutOfRange as ReceiveOutOfRange}
 use Rattle.kanal_core.specs.declared.error.ReceiveError.TheVariants.{NoMemory}
 use Rattle.kanal_core.specs.Tickets.{number_of}
 use Rattle.kanal_events.specs.declared.event.Event.{Event}
-use Rattle.kanal_events.specs.declared.event.Event.TheVariants.{Withdraw, Drain}
+use Rattle.kanal_events.specs.declared.event.Event.TheVariants.{Send, Recv, RecvLate, Withdraw, Drain}
 use Rattle.kanal_events.specs.declared.event.Reply.{Reply}
 use Rattle.kanal_events.specs.declared.event.Reply.TheVariants.{Waits, Withdrawn}
 use Rattle.kanal_events.specs.Steps.{step, IsWait, is_no_memory, no_memory}
@@ -22,7 +26,8 @@ use Rattle.kanal_events.specs.declared.made.Made.{Made}
 use Rattle.kanal_events.specs.declared.made.Tried.{Tried}
 use Rattle.kanal_events.specs.declared.made.Tried.TheVariants.{Told as WasTold, MustWait as HasToWait}
 use Rattle.kanal_one_history.specs.Calls.{call_of, line_after, HasSettled}
-use Rattle.kanal_one_history.specs.Results.{InTime, drained_by}
+use Rattle.kanal_shared.specs.Deadlines.{HasCome as DeadlineHasCome}
+use Rattle.kanal_one_history.specs.Results.{InTime, drained_by, receive_in_time, send_in_time, timed_received_by}
 use Rattle.kanal_events.specs.Made.{MustWait, reply_of, settled_of}
 use Rattle.kanal_one_history.specs.Made.{MayLack, call_from, withdrawal}
 
@@ -109,12 +114,40 @@ module _ {T : Type 0} where
       ⊎ IsSettled capacity old new event ended answer
       ⊎ (Lacks capacity old new event × (answer ≡ refused))
 
-  -- a call with a deadline, as one that may wait; or it waited and the pass took the wait back; or its deadline is told to be out of range: it is in no history then, and the pass is as it was
-  abbrev pub FinishesInTime : {R : Type 0} → Option ℕ → Known (Call T) → Known (Call T) → Event T → InTime T R → R → Type 0
-  FinishesInTime capacity old new event answers answer =
+  -- the clock answered a moment that is not before the deadline, and the pass took back the wait of its call
+  pub record IsTooLate (capacity : Option ℕ) (answered : ℕ → Type 0) (deadline : ℕ) (old new : Known (Call T)) (event : Event T) : Type 0 where
+    pub come : DeadlineHasCome answered deadline
+    pub withdrawn : HasWithdrawn capacity old new event
+
+  -- a call with this deadline: as one that may wait; or it waited, the deadline came, and the pass took the wait back
+  abbrev pub FinishesBy : {R : Type 0} → Option ℕ → (ℕ → Type 0) → ℕ → Known (Call T) → Known (Call T) → Event T → InTime T R → R → Type 0
+  FinishesBy capacity answered deadline old new event answers answer =
       Finishes capacity old new event answers.by_reply answers.by_outcome answers.no_memory answer
-      ⊎ (HasWithdrawn capacity old new event × (answer ≡ answers.late))
-      ⊎ ((new ≡ old) × (answer ≡ answers.no_moment))
+      ⊎ (IsTooLate capacity answered deadline old new event × (answer ≡ answers.late))
+
+  -- the clock answered a moment that is past the deadline, and the pass made a receive that looks and doesn't wait
+  pub record ReceivesLate (capacity : Option ℕ) (answered : ℕ → Type 0) (deadline : ℕ) (old new : Known (Call T)) (answer : Result T ReceiveErrorTimeout) : Type 0 where
+    pub moment : ℕ
+    pub is_answer : answered moment
+    pub is_past : deadline < moment
+    pub replied : IsReplied capacity old new RecvLate timed_received_by answer
+
+  -- the clock answered a moment: so long after it is the deadline, by which the call was made; or no moment is so late, and it made no call
+  abbrev pub MeasuresFrom : {R : Type 0} → (ℕ → Type 0) → ℕ → (ℕ → Type 0) → Known (Call T) → Known (Call T) → R → R → Type 0
+  MeasuresFrom answered duration MadeBy old new out_of_range answer =
+      (moment : ℕ) × answered moment
+      × (((moment + duration < 2 ^ 64) × MadeBy (moment + duration))
+      ⊎ ((2 ^ 64 ≤ moment + duration) × (new ≡ old) × (answer ≡ out_of_range)))
+
+  -- a send for this duration, by a clock that answered such moments
+  abbrev pub SendsInTime : Option ℕ → (ℕ → Type 0) → ℕ → Known (Call T) → Known (Call T) → T → Result (Unit {0}) SendErrorTimeout → Type 0
+  SendsInTime capacity answered duration old new message answer =
+      MeasuresFrom answered duration (λ deadline. FinishesBy capacity answered deadline old new (Send message) send_in_time answer) old new (Err SendOutOfRange) answer
+
+  -- a receive for this duration, by a clock that answered such moments
+  abbrev pub ReceivesInTime : Option ℕ → (ℕ → Type 0) → ℕ → Known (Call T) → Known (Call T) → Result T ReceiveErrorTimeout → Type 0
+  ReceivesInTime capacity answered duration old new answer =
+      MeasuresFrom answered duration (λ deadline. FinishesBy capacity answered deadline old new Recv receive_in_time answer ⊎ ReceivesLate capacity answered deadline old new answer) old new (Err ReceiveOutOfRange) answer
 
   -- what a call came to that was answered at once
   abbrev pub HasReplied : Option ℕ → Known (Call T) → Known (Call T) → Event T → Reply T → Type 0
@@ -126,12 +159,12 @@ module _ {T : Type 0} where
   HasCome capacity old new event (Settled outcome) = HasWaited capacity old new event outcome
   HasCome capacity old new event Lacking = Lacks capacity old new event
 
-  -- what a call with a deadline came to
-  abbrev pub HasPassed : Option ℕ → Known (Call T) → Known (Call T) → Event T → Timed T → Type 0
-  HasPassed capacity old new event (TimedReplied reply) = HasReplied capacity old new event reply
-  HasPassed capacity old new event (TimedSettled outcome) = HasWaited capacity old new event outcome
-  HasPassed capacity old new event TimedWithdrawn = HasWithdrawn capacity old new event
-  HasPassed capacity old new event TimedLacking = Lacks capacity old new event
+  -- what a call with this deadline came to
+  abbrev pub HasPassed : Option ℕ → (ℕ → Type 0) → ℕ → Known (Call T) → Known (Call T) → Event T → Timed T → Type 0
+  HasPassed capacity answered deadline old new event (TimedReplied reply) = HasReplied capacity old new event reply
+  HasPassed capacity answered deadline old new event (TimedSettled outcome) = HasWaited capacity old new event outcome
+  HasPassed capacity answered deadline old new event TimedWithdrawn = IsTooLate capacity answered deadline old new event
+  HasPassed capacity answered deadline old new event TimedLacking = Lacks capacity old new event
 
   -- how a wait with a deadline ended: it was settled and the pass has learnt of that, or the pass took it back
   abbrev pub HasEnded : Option ℕ → Known (Call T) → Known (Call T) → ℕ → Option (Outcome T) → Type 0

@@ -1,9 +1,10 @@
 //! Receiving on a channel with one history.
 //!
 //! Stands on `blocking` and `timed`. Each call here is one event, and its answer is what the reply reads as.
-ghost use Rattle.std.specs.Prelude.{◌≡◌, ◌⊎◌, Err, IfErr, IsErrOf, OnErr};
+ghost use Rattle.std.specs.Prelude.{◌≡◌, Err, IfErr, IsErrOf, OnErr};
+ghost use Rattle.std.specs.Duration.{as_nanos};
 ghost use Rattle.std.specs.Vec.{vec_capacity, vec_len};
-ghost use Rattle.kanal_one_history.specs.Makes.{Drains, Finishes, FinishesInTime, HasTooLittleRoom, IsReplied};
+ghost use Rattle.kanal_one_history.specs.Makes.{Drains, Finishes, HasTooLittleRoom, IsReplied, ReceivesInTime};
 ghost use Rattle.kanal_one_history.specs.Results.{answer_in_time, asked_by, drained_by, receive_error, receive_in_time, received_after, received_by, timed_receive_error, timed_received_after, timed_received_by};
 
 use crate::blocking::Came;
@@ -15,7 +16,7 @@ use kanal_board::Naming;
 use kanal_core::error::{ReceiveError, ReceiveErrorTimeout};
 use kanal_core::internal::{Outcome, Reason};
 use kanal_events::event::{Event, Refusal, Reply};
-use kanal_shared::{Clock, deadline};
+use kanal_shared::{Clock, later};
 use std::sync::{MutexGuard, Wait};
 use std::time;
 use std::time::Duration;
@@ -200,13 +201,15 @@ impl<T: Drop, J: Naming> Channel<T, J> {
         duration: Duration,
         clock: &C,
     ) -> Result<T, ReceiveErrorTimeout>
-        ensures received { FinishesInTime J.capacity pass.old pass.new Event.Recv receive_in_time result
-            ⊎ IsReplied J.capacity pass.old pass.new Event.RecvLate timed_received_by result }
+        ensures received { ReceivesInTime J.capacity (C.answers clock.now) (as_nanos duration) pass.old
+            pass.new result }
     {
-        let Some(deadline) = deadline(clock, duration) else {
+        let moment = clock.now();
+        let Some(deadline) = later(moment, duration) else {
             return Err(ReceiveErrorTimeout::DeadlineOutOfRange);
         };
-        if clock.now() > deadline {
+        let now = clock.now();
+        if now > deadline {
             return timed_received_by(self.call(rt, pass, Event::RecvLate));
         }
         received_in_time(self.timed(rt, pass, Event::Recv, clock, deadline))

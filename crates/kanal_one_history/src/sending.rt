@@ -2,7 +2,8 @@
 //!
 //! Stands on `blocking` and `timed`. Each call here is one event, and its answer is what the reply reads as.
 ghost use Rattle.std.specs.Prelude.{◌≡◌, ◌≢◌, IfSome, IsSome, None, Ok, Err, true};
-ghost use Rattle.kanal_one_history.specs.Makes.{Comes, Finishes, FinishesInTime};
+ghost use Rattle.std.specs.Duration.{as_nanos};
+ghost use Rattle.kanal_one_history.specs.Makes.{Comes, Finishes, SendsInTime};
 ghost use Rattle.kanal_one_history.specs.Results.{answer_in_time, back_by, entered_by, send_error, send_in_time, sent_after, sent_by, timed_send_error, timed_sent_after, timed_sent_by};
 
 use crate::blocking::Came;
@@ -14,7 +15,7 @@ use kanal_board::Naming;
 use kanal_core::error::{SendError, SendErrorTimeout};
 use kanal_core::internal::{Outcome, Reason};
 use kanal_events::event::{Event, Refusal, Reply};
-use kanal_shared::{Clock, deadline};
+use kanal_shared::{Clock, later};
 use std::sync::{MutexGuard, Wait};
 use std::time;
 use std::time::Duration;
@@ -195,10 +196,11 @@ impl<T: Drop, J: Naming> Channel<T, J> {
         duration: Duration,
         clock: &C,
     ) -> Result<(), SendErrorTimeout>
-        ensures sent { FinishesInTime J.capacity pass.old pass.new (Event.Send message)
-            send_in_time result }
+        ensures sent { SendsInTime J.capacity (C.answers clock.now) (as_nanos duration) pass.old
+            pass.new message result }
     {
-        let Some(deadline) = deadline(clock, duration) else {
+        let moment = clock.now();
+        let Some(deadline) = later(moment, duration) else {
             return Err(SendErrorTimeout::DeadlineOutOfRange);
         };
         sent_in_time(self.timed(rt, pass, Event::Send(message), clock, deadline))

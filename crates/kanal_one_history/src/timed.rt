@@ -36,7 +36,7 @@ pub(crate) enum Timed<T> {
 
 impl<T: Drop, J: Naming> Channel<T, J> {
     /// Makes a call that waits where it must, until the deadline.
-    #[tactic(auto, using(crate::proofs::Settling::noted_settled, crate::proofs::Ending::passed_from))]
+    #[tactic(auto, using(crate::proofs::Settling::noted_settled))]
     pub(crate) fn timed<R: Wait + time::Clock, C: Clock>(
         &self,
         rt: &R,
@@ -46,7 +46,8 @@ impl<T: Drop, J: Naming> Channel<T, J> {
         deadline: u64,
     ) -> Timed<T>
         requires waits { may_wait event ≡ true }
-        ensures passed { HasPassed J.capacity pass.old pass.new event result }
+        ensures passed { HasPassed J.capacity (C.answers clock.now) deadline pass.old pass.new
+            event result }
     {
         let tried = self.state.lock(rt).start(&self.board, pass, event);
         match tried {
@@ -57,7 +58,7 @@ impl<T: Drop, J: Naming> Channel<T, J> {
 
     /// Makes a call that the pass has seen must wait, and waits until the deadline.
     #[cold]
-    #[tactic(auto, using(crate::proofs::Ending::has_ended))]
+    #[tactic(auto, using(crate::proofs::Ending::has_ended, crate::proofs::Ending::has_waited))]
     fn wait_until<R: Wait + time::Clock, C: Clock>(
         &self,
         rt: &R,
@@ -68,13 +69,20 @@ impl<T: Drop, J: Naming> Channel<T, J> {
     ) -> Timed<T>
         requires waits { may_wait event ≡ true }
         requires must { MustWait (line_after J.capacity pass.old.log) event }
-        ensures passed { HasPassed J.capacity pass.old pass.new event result }
+        ensures passed { HasPassed J.capacity (C.answers clock.now) deadline pass.old pass.new
+            event result }
     {
         match self.begin(rt, pass, event) {
             Begun::Replied(reply) => Timed::Replied(reply),
             Begun::Waits(ticket, waiting) => {
-                let looked = waiting.outcome_until(rt, &self.policy, clock, deadline);
-                match self.end(rt, pass, ticket, looked) {
+                let waiting = match waiting.outcome_until(rt, &self.policy, clock, deadline) {
+                    Ok(delivered) => {
+                        let outcome = self.learn_of(rt, pass, delivered, ticket.number());
+                        return Timed::Settled(outcome);
+                    },
+                    Err((waiting, _late)) => waiting,
+                };
+                match self.end(rt, pass, ticket, waiting) {
                     Some(outcome) => Timed::Settled(outcome),
                     None => Timed::Withdrawn,
                 }
@@ -83,21 +91,17 @@ impl<T: Drop, J: Naming> Channel<T, J> {
         }
     }
 
-    /// Ends a wait until a deadline: by its outcome, or by taking it back where the deadline passed.
-    /// Where nobody waits under the ticket any more, the outcome is on its way, and is waited for.
+    /// Ends a wait whose deadline has come: by taking it back, or, where nobody waits under the ticket any
+    /// more, by its outcome, which is on its way and is waited for.
     fn end<R: Wait>(
         &self,
         rt: &R,
         pass: &mut Pass<T, J>,
         ticket: Ticket,
-        looked: Result<Delivered<T, J>, Waiting<Delivered<T, J>>>,
+        waiting: Waiting<Delivered<T, J>>,
     ) -> Option<Outcome<T>>
         ensures ended { HasEnded J.capacity pass.old pass.new (number_of ticket) result }
     {
-        let waiting = match looked {
-            Ok(delivered) => return Some(self.learn_of(rt, pass, delivered, ticket.number())),
-            Err(waiting) => waiting,
-        };
         let left = self.state.lock(rt).withdraw(&self.board, pass, ticket);
         match left {
             Some(waiter) => {

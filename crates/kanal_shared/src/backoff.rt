@@ -4,9 +4,10 @@
 //! Its name is kanal's, after the spinning that is its first part. Stands on the cell's waiting end and
 //! on clocks. Only blocked calls use it, those of a channel with one history too. It sleeps on the word
 //! of its cell and asks for no memory, so a wait that has begun is never refused.
-ghost use Rattle.std.specs.Prelude.{◌≡◌};
+ghost use Rattle.std.specs.Prelude.{◌≡◌, ◌≤◌, IfErr};
 ghost use Rattle.kanal_cell.specs.CellRule.{MaySleep};
 ghost use Rattle.kanal_cell.specs.CellEnds.{wait_view};
+ghost use Rattle.kanal_shared.specs.Deadlines.{LooksBy};
 ghost use Rattle.kanal_shared.specs.Waits.{waits_at};
 
 mod awake;
@@ -41,8 +42,8 @@ enum Watch<P> {
 enum Looked<P> {
     /// The outcome.
     Outcome(P),
-    /// The deadline passed.
-    Late(Awake<P>),
+    /// The clock answered this moment, which is not before the deadline.
+    Late(Awake<P>, u64),
     /// Neither yet.
     Early(Awake<P>),
 }
@@ -85,22 +86,25 @@ impl<P: Drop> Waiting<P> {
     /// Waits for the outcome until the clock's moment is the deadline, in nanoseconds, and answers it.
     ///
     /// # Errors
-    /// The rest of the wait, where the deadline passed without the outcome: whoever has it takes the wait
-    /// out of the core, or waits on.
+    /// The rest of the wait, with a moment that the clock answered, where that is not before the deadline and
+    /// there was no outcome: whoever has it takes the wait out of the core, or waits on.
     pub fn outcome_until<R: Wait + time::Clock, C: Clock>(
         self,
         rt: &R,
         policy: &WaitPolicy,
         clock: &C,
         deadline: u64,
-    ) -> Result<P, Self> {
+    ) -> Result<P, (Self, u64)>
+        ensures answered { IfErr result (λ late. C.answers clock.now late.1) }
+        ensures late { IfErr result (λ late. deadline ≤ late.1) }
+    {
         let Waiting { watch } = self;
         let rest = match watch {
             Watch::Awake(awake) => match look_until(policy, awake, clock, deadline) {
                 Looked::Outcome(outcome) => return Ok(outcome),
-                Looked::Late(awake) => {
+                Looked::Late(awake, moment) => {
                     let watch = Watch::Awake(awake);
-                    return Err(Waiting { watch });
+                    return Err((Waiting { watch }, moment));
                 },
                 Looked::Early(awake) => sleep_until(rt, awake, clock, deadline),
             },
@@ -108,9 +112,9 @@ impl<P: Drop> Waiting<P> {
         };
         match rest {
             Ok(outcome) => Ok(outcome),
-            Err(asleep) => {
+            Err((asleep, moment)) => {
                 let watch = Watch::Asleep(asleep);
-                Err(Waiting { watch })
+                Err((Waiting { watch }, moment))
             },
         }
     }
@@ -132,7 +136,10 @@ fn sleep_until<P: Drop, R: Wait + time::Clock, C: Clock>(
     awake: Awake<P>,
     clock: &C,
     deadline: u64,
-) -> Result<P, Asleep<P>> {
+) -> Result<P, (Asleep<P>, u64)>
+    ensures answered { IfErr result (λ late. C.answers clock.now late.1) }
+    ensures late { IfErr result (λ late. deadline ≤ late.1) }
+{
     match awake.sleep() {
         Ok(outcome) => Ok(outcome),
         Err(asleep) => park_until(rt, asleep, clock, deadline),
@@ -164,11 +171,13 @@ fn look_until<P: Drop, C: Clock>(
     awake: Awake<P>,
     clock: &C,
     deadline: u64,
-) -> Looked<P> {
+) -> Looked<P>
+    ensures late { LooksBy (C.answers clock.now) deadline result }
+{
     let mut looks = Looks::new(policy);
     let mut awake = awake;
     for _ in 0..LOOKS {
-        let is_late = clock.now() >= deadline;
+        let moment = clock.now();
         match awake.poll() {
             Ok(outcome) => {
                 looks.end();
@@ -176,8 +185,8 @@ fn look_until<P: Drop, C: Clock>(
             },
             Err(back) => awake = back,
         }
-        if is_late {
-            return Looked::Late(awake);
+        if moment >= deadline {
+            return Looked::Late(awake, moment);
         }
         if !looks.go_on() {
             return Looked::Early(awake);
@@ -205,7 +214,10 @@ fn park_until<P: Drop, R: Wait + time::Clock, C: Clock>(
     asleep: Asleep<P>,
     clock: &C,
     deadline: u64,
-) -> Result<P, Asleep<P>> {
+) -> Result<P, (Asleep<P>, u64)>
+    ensures answered { IfErr result (λ late. C.answers clock.now late.1) }
+    ensures late { IfErr result (λ late. deadline ≤ late.1) }
+{
     let mut asleep = asleep;
     for _ in rt.forever() {
         let now = clock.now();
@@ -213,7 +225,7 @@ fn park_until<P: Drop, R: Wait + time::Clock, C: Clock>(
             return Ok(outcome);
         }
         if now >= deadline {
-            return Err(asleep);
+            return Err((asleep, now));
         }
         let left = deadline - now;
         asleep.park_timeout(rt, Duration::from_nanos(left.min(NAP)));

@@ -1,6 +1,11 @@
 //! Clocks for timed calls: the trait by which one is handed in, the system's, and one for tests.
 //!
-//! Stands on nothing of the channel. A timed call reads its clock with the lock released.
+//! Stands on nothing of the channel. A timed call reads its clock with the lock released. Of a clock's word
+//! `answers` a timed call knows one thing, that it holds of what `now` answered: so a clause that says it of
+//! a moment can be met by such a moment alone.
+ghost use Rattle.std.specs.Prelude.{◌≡◌, ◌≤◌, ◌<◌, ◌+◌, ◌^◌, MatchOption, ℕ};
+ghost use Rattle.std.specs.Duration.{as_nanos};
+
 use std::cell::Cell;
 use std::time;
 use std::time::{Duration, Instant};
@@ -16,8 +21,12 @@ use std::time::{Duration, Instant};
 /// sender.send_timeout(&rt, 7, Duration::from_nanos(1), &Still)
 /// ```
 pub trait Clock {
+    /// The clock has answered this moment. It is a word for contracts, which an impl can leave out.
+    ghost answers: { Self → ℕ → Type 0 } = { λ _ _. Unit {0} };
+
     /// The moment now, in nanoseconds from a start of the clock's own choice.
-    fn now(&self) -> u64;
+    fn now(&self) -> u64
+        ensures answered { answers self.now result };
 }
 
 /// The system's monotonic clock. Its moments are the nanoseconds since it was made.
@@ -104,13 +113,17 @@ impl Clock for TestClock {
     }
 }
 
-/// The moment at which a wait of this duration ends; `None` where that is past the largest one.
+/// The moment so long after this one; `None` where that is past the largest one.
 ///
 /// # Examples
 /// ```text
-/// deadline(&clock, Duration::from_nanos(5))   answers  Some(12)   where clock.now() answers 7
+/// later(7, Duration::from_nanos(5))          answers  Some(12)
+/// later(u64::MAX, Duration::from_nanos(1))   answers  None
 /// ```
-pub fn deadline<C: Clock>(clock: &C, duration: Duration) -> Option<u64> {
+pub fn later(moment: u64, duration: Duration) -> Option<u64>
+    ensures sum { MatchOption result (2 ^ 64 ≤ moment + as_nanos duration)
+        (λ late. (late ≡ moment + as_nanos duration) × (late < 2 ^ 64)) }
+{
     let nanos = u64::try_from(duration.as_nanos()).ok()?;
-    clock.now().checked_add(nanos)
+    moment.checked_add(nanos)
 }

@@ -16,6 +16,6 @@ mod sending;
 mod shared;
 
 pub use backoff::{WaitPolicy, Waiting};
-pub use clock::{Clock, SystemClock, TestClock, deadline};
+pub use clock::{Clock, SystemClock, TestClock, later};
 pub use future::{ReceiveFuture, ReceiveStream, SendFuture};
 pub use shared::{Locked, Shared};

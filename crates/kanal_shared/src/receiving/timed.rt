@@ -1,9 +1,13 @@
 //! The receive until a deadline.
 //!
 //! Stands on the steps, on how a blocked call waits, and on the clock that the caller hands in.
+ghost use Rattle.std.specs.Prelude.{◌≡◌, ◌⊎◌, IfErr};
+ghost use Rattle.std.specs.Duration.{as_nanos};
+ghost use Rattle.kanal_shared.specs.Deadlines.{IsUntimedReceive, ReceiveTells, ReceivesInTime};
+
 use super::answer_of;
 use crate::backoff::Waiting;
-use crate::clock::{Clock, deadline};
+use crate::clock::{Clock, later};
 use crate::shared::{Locked, Shared};
 use kanal_core::error::{ReceiveError, ReceiveErrorTimeout};
 use kanal_core::internal::{Outcome, Ticket};
@@ -14,12 +18,24 @@ use std::time;
 use std::time::Duration;
 
 /// The refusal of a timed receive, for that of one without a deadline.
-fn timed(error: ReceiveError) -> ReceiveErrorTimeout {
+fn timed(error: ReceiveError) -> ReceiveErrorTimeout
+    ensures untimed { IsUntimedReceive result }
+{
     match error {
         ReceiveError::Closed | ReceiveError::Finished => ReceiveErrorTimeout::Closed,
         ReceiveError::SendClosed => ReceiveErrorTimeout::SendClosed,
         ReceiveError::NoMemory => ReceiveErrorTimeout::NoMemory,
         ReceiveError::TooMany => ReceiveErrorTimeout::TooMany,
+    }
+}
+
+/// What the end of a timed receiver's wait answers.
+fn timed_answer_of<T: Drop>(outcome: Outcome<T>) -> Result<T, ReceiveErrorTimeout>
+    ensures untimed { IfErr result IsUntimedReceive }
+{
+    match answer_of(outcome) {
+        Ok(message) => Ok(message),
+        Err(error) => Err(timed(error)),
     }
 }
 
@@ -41,11 +57,15 @@ impl<T: Drop> Shared<T> {
         rt: &R,
         duration: Duration,
         clock: &C,
-    ) -> Result<T, ReceiveErrorTimeout> {
-        let Some(deadline) = deadline(clock, duration) else {
+    ) -> Result<T, ReceiveErrorTimeout>
+        ensures time { ReceivesInTime (C.answers clock.now) (as_nanos duration) result }
+    {
+        let moment = clock.now();
+        let Some(deadline) = later(moment, duration) else {
             return Err(ReceiveErrorTimeout::DeadlineOutOfRange);
         };
-        if clock.now() > deadline {
+        let now = clock.now();
+        if now > deadline {
             return self.recv_late(rt);
         }
         let mut locked = self.hold(rt);
@@ -59,7 +79,10 @@ impl<T: Drop> Shared<T> {
     }
 
     /// Takes the front message after the deadline.
-    fn recv_late<R: Wait>(&self, rt: &R) -> Result<T, ReceiveErrorTimeout> {
+    fn recv_late<R: Wait>(&self, rt: &R) -> Result<T, ReceiveErrorTimeout>
+        ensures range { IfErr result (λ e. IsUntimedReceive e
+            ⊎ (e ≡ ReceiveErrorTimeout.Timeout)) }
+    {
         let mut locked = self.hold(rt);
         let (answer, owed) = steps::recv_late(&mut locked.core);
         locked.give_back(owed);
@@ -75,33 +98,36 @@ impl<T: Drop> Shared<T> {
         locked: Locked<'_, T>,
         deadline: u64,
         clock: &C,
-    ) -> Result<T, ReceiveErrorTimeout> {
+    ) -> Result<T, ReceiveErrorTimeout>
+        ensures time { IfErr result (ReceiveTells (C.answers clock.now) deadline) }
+    {
         match self.begin_recv(rt, locked) {
             Received::Got(message) => Ok(message),
             Received::Waits(ticket, end) => {
                 let waiting = Waiting::new(end);
-                let looked = waiting.outcome_until(rt, &self.policy, clock, deadline);
-                self.end_recv(rt, ticket, looked)
+                match waiting.outcome_until(rt, &self.policy, clock, deadline) {
+                    Ok(outcome) => timed_answer_of(outcome),
+                    Err((waiting, _late)) => self.end_recv(rt, ticket, waiting),
+                }
             },
             Received::Refused(error) => Err(timed(error)),
         }
     }
 
-    /// Ends a timed wait: by its outcome, or by a withdrawal where the deadline passed. Where the
-    /// withdrawal finds nothing the outcome is on its way, and is waited for.
+    /// Ends a wait whose deadline has come: by a withdrawal, or, where that finds nothing, by the outcome,
+    /// which is on its way and is waited for.
     fn end_recv<R: Wait>(
         &self,
         rt: &R,
         ticket: Ticket,
-        looked: Result<Outcome<T>, Waiting<Outcome<T>>>,
-    ) -> Result<T, ReceiveErrorTimeout> {
-        let waiting = match looked {
-            Ok(outcome) => return answer_of(outcome).map_err(timed),
-            Err(waiting) => waiting,
-        };
+        waiting: Waiting<Outcome<T>>,
+    ) -> Result<T, ReceiveErrorTimeout>
+        ensures range { IfErr result (λ e. IsUntimedReceive e
+            ⊎ (e ≡ ReceiveErrorTimeout.Timeout)) }
+    {
         match self.withdraw(rt, ticket) {
             Some(_message) => Err(ReceiveErrorTimeout::Timeout),
-            None => answer_of(waiting.outcome(rt, &self.policy)).map_err(timed),
+            None => timed_answer_of(waiting.outcome(rt, &self.policy)),
         }
     }
 }

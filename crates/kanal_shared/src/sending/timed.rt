@@ -1,11 +1,13 @@
 //! The send until a deadline.
 //!
 //! Stands on the steps, on how a blocked call waits, and on the clock that the caller hands in.
-ghost use Rattle.std.specs.Prelude.{◌≡◌, Some, IfErr};
-ghost use Rattle.kanal_shared.specs.Timed.{StartedNoWait};
+ghost use Rattle.std.specs.Prelude.{◌≡◌, ◌⊎◌, Some, IfErr};
+ghost use Rattle.std.specs.Duration.{as_nanos};
+ghost use Rattle.kanal_shared.specs.Deadlines.{IsUntimedSend, SendTells, SendsInTime};
+ghost use Rattle.kanal_shared.specs.Timed.{StartedNoWait, refusal_of};
 
 use crate::backoff::Waiting;
-use crate::clock::{Clock, deadline};
+use crate::clock::{Clock, later};
 use crate::shared::{Locked, Shared};
 use kanal_core::error::{SendError, SendErrorTimeout};
 use kanal_core::internal::{Outcome, Reason, Ticket};
@@ -15,7 +17,9 @@ use std::time;
 use std::time::Duration;
 
 /// The refusal of a timed send, for that of one without a deadline.
-fn timed(error: SendError) -> SendErrorTimeout {
+fn timed(error: SendError) -> SendErrorTimeout
+    ensures untimed { IsUntimedSend result }
+{
     match error {
         SendError::Closed | SendError::Finished => SendErrorTimeout::Closed,
         SendError::ReceiveClosed => SendErrorTimeout::ReceiveClosed,
@@ -31,6 +35,7 @@ type Kept<T> = (SendErrorTimeout, Option<T>);
 /// What the end of a timed sender's wait answers, with the message if that comes back.
 fn timed_answer_of<T: Drop>(outcome: Outcome<T>) -> Result<(), Kept<T>>
     ensures ended { IfErr result (λ e. StartedNoWait e.0 → ⊥) }
+    ensures untimed { IfErr result (λ e. IsUntimedSend e.0) }
 {
     match outcome {
         Outcome::Taken => Ok(()),
@@ -63,8 +68,10 @@ impl<T: Drop> Shared<T> {
         clock: &C,
     ) -> Result<(), Kept<T>>
         ensures kept { IfErr result (λ e. StartedNoWait e.0 → e.1 ≡ Some message) }
+        ensures time { SendsInTime (C.answers clock.now) (as_nanos duration) (refusal_of result) }
     {
-        let Some(deadline) = deadline(clock, duration) else {
+        let moment = clock.now();
+        let Some(deadline) = later(moment, duration) else {
             return Err((SendErrorTimeout::DeadlineOutOfRange, Some(message)));
         };
         let mut locked = self.hold(rt);
@@ -89,32 +96,33 @@ impl<T: Drop> Shared<T> {
         clock: &C,
     ) -> Result<(), Kept<T>>
         ensures kept { IfErr result (λ e. StartedNoWait e.0 → e.1 ≡ Some message) }
+        ensures time { IfErr result (λ e. SendTells (C.answers clock.now) deadline e.0) }
     {
         match self.begin_send(rt, locked, message) {
             Sent::Entered => Ok(()),
             Sent::Waits(ticket, end) => {
                 let waiting = Waiting::new(end);
-                let looked = waiting.outcome_until(rt, &self.policy, clock, deadline);
-                self.end_send(rt, ticket, looked)
+                match waiting.outcome_until(rt, &self.policy, clock, deadline) {
+                    Ok(outcome) => timed_answer_of(outcome),
+                    Err((waiting, _late)) => self.end_send(rt, ticket, waiting),
+                }
             },
             Sent::Refused(error, back) => Err((timed(error), Some(back))),
         }
     }
 
-    /// Ends a timed wait: by its outcome, or by a withdrawal where the deadline passed. Where the
-    /// withdrawal finds nothing the outcome is on its way, and is waited for.
+    /// Ends a wait whose deadline has come: by a withdrawal, or, where that finds nothing, by the outcome,
+    /// which is on its way and is waited for.
     fn end_send<R: Wait>(
         &self,
         rt: &R,
         ticket: Ticket,
-        looked: Result<Outcome<T>, Waiting<Outcome<T>>>,
+        waiting: Waiting<Outcome<T>>,
     ) -> Result<(), Kept<T>>
         ensures ended { IfErr result (λ e. StartedNoWait e.0 → ⊥) }
+        ensures range { IfErr result (λ e. IsUntimedSend e.0
+            ⊎ (e.0 ≡ SendErrorTimeout.Timeout)) }
     {
-        let waiting = match looked {
-            Ok(outcome) => return timed_answer_of(outcome),
-            Err(waiting) => waiting,
-        };
         match self.withdraw(rt, ticket) {
             Some(message) => Err((SendErrorTimeout::Timeout, message)),
             None => timed_answer_of(waiting.outcome(rt, &self.policy)),

@@ -60,6 +60,7 @@ fn main(rt: HostRuntime) -> Result<()> {
     many::one_of_several(rt)?;
     polls::before_the_message_and_after_it(&rt)?;
     polls::two_channels_in_one_task(&rt)?;
+    polls::many_channels_in_one_task(&rt)?;
     println!(rt; "{}", faults::each_by_a_question_mark(&rt)?)?;
     faults::a_sealed_one(&rt)?;
     facts::through_a_channel(&rt)?;

@@ -42,3 +42,23 @@ where
     println!(rt; "{}", block_on(rt, sum)?)?;
     Ok(())
 }
+
+/// As many channels in one task as there are, each of which brings one number.
+pub fn many_channels_in_one_task<R>(rt: &R) -> Result<()>
+where
+    R: Wait + RandomSource + AllocGlobal + Print,
+{
+    let (to_a, a) = kanal::bounded_async::<u64>(rt.alloc(), 1)?;
+    let (to_b, b) = kanal::bounded_async::<u64>(rt.alloc(), 1)?;
+    block_on(rt, to_a.send(4))??;
+    block_on(rt, to_b.send(50))??;
+    drop(to_a);
+    drop(to_b);
+    let mut streams = Vec::new(rt.alloc());
+    streams.push(a.stream())?;
+    streams.push(b.stream())?;
+    let all = stream::select_all(rt.alloc(), streams)?;
+    let sum = all.fold(0, |sum: u64, n| ready(sum.wrapping_add(n)));
+    println!(rt; "{}", block_on(rt, sum)?)?;
+    Ok(())
+}

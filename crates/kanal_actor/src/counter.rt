@@ -1,6 +1,6 @@
 //! The counter: its requests, the loop that answers them, and the handle that its callers have.
 use anyhow::Result;
-use kanal::error::{CloseError, SendError};
+use kanal::error::{CloseError, ReceiveError, SendError};
 use kanal::{Receiver, Sender};
 use std::alloc::AllocGlobal;
 use std::sync::Wait;
@@ -15,25 +15,34 @@ pub enum Request {
     Value(Sender<u64>),
 }
 
+/// What the counter answers at its end: its last value, or why it got no more requests.
+type Last = std::result::Result<u64, ReceiveError>;
+
 /// Starts a counter at 0, which ends with its requests and answers the last value then.
 pub fn start<R: Threads + Wait + Copy + Send + 'static>(
     rt: R,
     requests: Receiver<Request>,
-) -> Result<JoinHandle<u64>> {
-    let thread = thread::spawn(&rt, move || count(&rt, &requests))?;
+) -> Result<JoinHandle<Last>> {
+    let thread = thread::spawn(&rt, move || {
+        let last = count(&rt, &requests);
+        // A request that nobody will answer goes, and with it the sender for its answer.
+        let _closed = requests.close(&rt);
+        last
+    })?;
     Ok(thread)
 }
 
 /// Answers each request, until no more come.
-fn count<R: Wait>(rt: &R, requests: &Receiver<Request>) -> u64 {
+fn count<R: Wait>(rt: &R, requests: &Receiver<Request>) -> Last {
     let mut value = 0;
     for _ in rt.forever() {
-        let Ok(request) = requests.recv(rt) else {
-            break
-        };
-        value = answer(rt, value, request);
+        match requests.recv(rt) {
+            Ok(request) => value = answer(rt, value, request),
+            Err(ReceiveError::SendClosed) => break,
+            Err(error) => return Err(error),
+        }
     }
-    value
+    Ok(value)
 }
 
 /// The value after this request.

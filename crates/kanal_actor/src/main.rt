@@ -27,6 +27,6 @@ fn main(rt: HostRuntime) -> Result<()> {
     if counter.add(&rt, 1).is_err() {
         println!(rt; "refused")?;
     }
-    println!(rt; "{}", thread.join(&rt))?;
+    println!(rt; "{}", thread.join(&rt)?)?;
     Ok(())
 }

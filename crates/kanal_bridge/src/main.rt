@@ -8,14 +8,13 @@
 
 use anyhow::Result;
 use futures::executor::block_on;
-use futures::{FutureExt, StreamExt};
-use kanal::error::SendError;
+use futures::{StreamExt, TryStreamExt};
+use kanal::error::{ReceiveError, SendError};
 use kanal::{AsyncReceiver, AsyncSender, Sender};
 use std::alloc::AllocGlobal;
 use std::random::RandomSource;
 use std::sync::Wait;
-use std::thread::{JoinHandle, Threads};
-use std::{io, thread};
+use std::thread::{self, JoinHandle, Threads};
 
 /// What a thread that sends answers at its end.
 type Sent = std::result::Result<(), SendError>;
@@ -38,19 +37,22 @@ fn produce<R: Threads + Wait + Copy + Send + 'static>(
     Ok(thread)
 }
 
-/// Squares each number that comes, until no more come.
-fn square_each<R>(
-    rt: &R,
-    numbers: &AsyncReceiver<u64>,
-    squares: &AsyncSender<u64>,
-) -> io::Result<()>
+/// Squares each number that comes, until no more come. A square that couldn't be sent, and a stream that
+/// ended before its senders were gone, are answered as errors.
+fn square_each<R>(rt: &R, numbers: &AsyncReceiver<u64>, squares: &AsyncSender<u64>) -> Result<()>
 where
     R: Wait + RandomSource + AllocGlobal,
 {
-    let all = numbers
-        .stream()
-        .for_each(|n| squares.send(n.wrapping_mul(n)).map(|_sent| ()));
-    block_on(rt, all)
+    let mut stream = numbers.stream();
+    let each = stream
+        .by_ref()
+        .map(Ok)
+        .try_for_each(|n: u64| squares.send(n.wrapping_mul(n)));
+    block_on(rt, each)??;
+    match stream.fault() {
+        None | Some(ReceiveError::SendClosed) => Ok(()),
+        Some(error) => Err((*error).into()),
+    }
 }
 
 /// Runs the task that squares in a thread of its own.
@@ -58,7 +60,7 @@ fn square<R>(
     rt: R,
     numbers: AsyncReceiver<u64>,
     squares: AsyncSender<u64>,
-) -> Result<JoinHandle<io::Result<()>>>
+) -> Result<JoinHandle<Result<()>>>
 where
     R: Threads + Wait + RandomSource + AllocGlobal + Copy + Send + 'static,
 {
@@ -74,8 +76,11 @@ fn main(rt: HostRuntime) -> Result<()> {
 
     let results = results.to_sync();
     for _ in rt.forever() {
-        let Ok(result) = results.recv(&rt) else { break };
-        println!(rt; "{result}")?;
+        match results.recv(&rt) {
+            Ok(result) => println!(rt; "{result}")?,
+            Err(ReceiveError::SendClosed) => break,
+            Err(error) => return Err(error.into()),
+        }
     }
     thread.join(&rt)?;
     task.join(&rt)?;

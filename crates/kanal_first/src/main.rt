@@ -3,7 +3,7 @@
 
 use anyhow::Result;
 use kanal::Sender;
-use kanal::error::SendError;
+use kanal::error::{ReceiveError, SendError};
 use std::sync::Wait;
 use std::thread::{self, JoinHandle, Threads};
 
@@ -24,10 +24,11 @@ fn main(rt: HostRuntime) -> Result<()> {
     let (sender, receiver) = kanal::bounded(rt.alloc(), 8)?;
     let thread = count(rt, sender)?;
     for _ in rt.forever() {
-        let Ok(number) = receiver.recv(&rt) else {
-            break;
-        };
-        println!(rt; "{number}")?;
+        match receiver.recv(&rt) {
+            Ok(number) => println!(rt; "{number}")?,
+            Err(ReceiveError::SendClosed) => break,
+            Err(error) => return Err(error.into()),
+        }
     }
     thread.join(&rt)?;
     Ok(())

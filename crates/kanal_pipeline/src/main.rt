@@ -33,7 +33,7 @@ fn main(rt: HostRuntime) -> Result<()> {
     drop(lines);
 
     counting.join(&rt)?;
-    let total = adding.join(&rt);
+    let total = adding.join(&rt)?;
     eprintln!(rt; "at most {most} of {LINES} lines waited")?;
     println!(rt; "{} words in {} lines", total.words, total.lines)?;
     Ok(())

@@ -1,6 +1,6 @@
 //! The second and the third stage, each a loop in a thread of its own that ends with its channel.
 use anyhow::Result;
-use kanal::error::SendError;
+use kanal::error::ReceiveError;
 use kanal::{Receiver, Sender};
 use std::sync::Wait;
 use std::thread::{self, JoinHandle, Threads};
@@ -22,20 +22,19 @@ pub fn count_words<R: Threads + Wait + Copy + Send + 'static>(
     rt: R,
     lines: Receiver<String>,
     counts: Sender<u64>,
-) -> Result<JoinHandle<std::result::Result<(), SendError>>> {
+) -> Result<JoinHandle<Result<()>>> {
     let thread = thread::spawn(&rt, move || count_each(&rt, &lines, &counts))?;
     Ok(thread)
 }
 
 /// Hands on how many words each line has, until no more lines come.
-fn count_each<R: Wait>(
-    rt: &R,
-    lines: &Receiver<String>,
-    counts: &Sender<u64>,
-) -> std::result::Result<(), SendError> {
+fn count_each<R: Wait>(rt: &R, lines: &Receiver<String>, counts: &Sender<u64>) -> Result<()> {
     for _ in rt.forever() {
-        let Ok(line) = lines.recv(rt) else { break };
-        counts.send(rt, words(&line))?;
+        match lines.recv(rt) {
+            Ok(line) => counts.send(rt, words(&line))?,
+            Err(ReceiveError::SendClosed) => break,
+            Err(error) => return Err(error.into()),
+        }
     }
     Ok(())
 }
@@ -53,19 +52,18 @@ fn words(line: &str) -> u64 {
 pub fn add_up<R: Threads + Wait + time::Clock + Copy + Send + 'static>(
     rt: R,
     counts: Receiver<u64>,
-) -> Result<JoinHandle<Total>> {
+) -> Result<JoinHandle<Result<Total>>> {
     let thread = thread::spawn(&rt, move || add_each(&rt, &counts))?;
     Ok(thread)
 }
 
 /// The sums, once no more counts come.
-fn add_each<R: Wait + time::Clock>(rt: &R, counts: &Receiver<u64>) -> Total {
+fn add_each<R: Wait + time::Clock>(rt: &R, counts: &Receiver<u64>) -> Result<Total> {
     let mut total = Total { lines: 0, words: 0 };
-    for _ in rt.forever() {
-        let Ok(words) = counts.recv(rt) else { break };
+    counts.for_each(rt, |words| {
         let _slept = thread::sleep(rt, Duration::from_millis(WORK));
         total.lines = total.lines.wrapping_add(1);
         total.words = total.words.wrapping_add(words);
-    }
-    total
+    })?;
+    Ok(total)
 }

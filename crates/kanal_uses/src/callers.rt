@@ -1,5 +1,5 @@
 //! One caller of each crate that has a page for callers, with a contract of its own where one can be had.
-ghost use Rattle.std.specs.Prelude.{◌≡◌, ◌≢◌, ◌*◌, Ok, Some, None, true, IfOk};
+ghost use Rattle.std.specs.Prelude.{◌≡◌, ◌≢◌, ◌*◌, ◌/◌, ◌%◌, ◌==◌, cond, Ok, Err, Some, None, true, IfOk};
 ghost use Rattle.std.proofs.Common.{rules};
 ghost use Rattle.kanal_pool.specs.Answers.{answers};
 
@@ -70,6 +70,27 @@ impl Job for Square {
 
     fn work(&self) -> Result<u64, NoMemory> {
         Ok(u64::from(self.0) * u64::from(self.0))
+    }
+
+    ghost equal_is_same = { Prim.search rules };
+}
+
+/// A number to halve.
+#[derive(Clone, Copy, Debug, PartialEq, Eq)]
+pub struct Half(pub u32);
+
+impl Job for Half {
+    /// The half of an even number; an odd one comes back as the error.
+    type Answer = Result<u32, u32>;
+
+    ghost value = { λ half. cond (half.0 % 2 == 0) (Ok (half.0 / 2)) (Err half.0) };
+
+    fn work(&self) -> Result<Result<u32, u32>, NoMemory> {
+        if self.0 % 2 == 0 {
+            Ok(Ok(self.0 / 2))
+        } else {
+            Ok(Err(self.0))
+        }
     }
 
     ghost equal_is_same = { Prim.search rules };

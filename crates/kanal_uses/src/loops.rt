@@ -1,5 +1,6 @@
 //! Loops over messages, in the three forms that get a proof.
 use anyhow::Result;
+use kanal::error::ReceiveError;
 use std::alloc::AllocGlobal;
 use std::sync::Wait;
 
@@ -22,10 +23,11 @@ pub fn until_the_last_sender_is_gone<R: Wait + AllocGlobal + Print>(rt: &R) -> R
     sender.send(rt, 50)?;
     drop(sender);
     for _ in rt.forever() {
-        let Ok(message) = receiver.recv(rt) else {
-            break;
-        };
-        println!(rt; "{message}")?;
+        match receiver.recv(rt) {
+            Ok(message) => println!(rt; "{message}")?,
+            Err(ReceiveError::SendClosed) => break,
+            Err(error) => return Err(error.into()),
+        }
     }
     Ok(())
 }

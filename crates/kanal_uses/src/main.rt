@@ -5,13 +5,17 @@
 
 mod callers;
 mod ends;
+mod facts;
+mod faults;
 mod loops;
+mod many;
+mod polls;
 mod tasks;
 mod threads;
 mod timed;
 
 use anyhow::Result;
-use callers::Square;
+use callers::{Half, Square};
 use std::alloc::AllocGlobal;
 use std::sync::Wait;
 use std::thread::Threads;
@@ -27,6 +31,10 @@ fn call_each<R: Threads + Wait + AllocGlobal + Print + Sync>(rt: &R) -> Result<(
     for value in callers::by_two(rt, rt.alloc(), jobs.as_slice())? {
         println!(rt; "{value}")?;
     }
+    let halves = [Half(8), Half(9)];
+    for value in callers::by_two(rt, rt.alloc(), halves.as_slice())? {
+        println!(rt; "{value:?}")?;
+    }
     Ok(())
 }
 
@@ -37,6 +45,8 @@ fn main(rt: HostRuntime) -> Result<()> {
     tasks::a_sender_lent_to_a_task(rt)?;
     tasks::a_receiver_for_a_task_and_one_for_a_thread(rt)?;
     timed::nothing_came(&rt)?;
+    timed::no_place_came(&rt)?;
+    timed::by_a_clock_that_moves(&rt)?;
     loops::so_many(&rt)?;
     loops::until_the_last_sender_is_gone(&rt)?;
     loops::each_handed_to_a_closure(&rt)?;
@@ -44,5 +54,15 @@ fn main(rt: HostRuntime) -> Result<()> {
     ends::closed(&rt)?;
     ends::last_sender_dropped(&rt)?;
     ends::last_receiver_dropped(&rt)?;
+    many::a_clone_for_each_thread(rt)?;
+    many::a_seal_and_then_a_join(rt)?;
+    many::a_sender_shared_in_a_scope(&rt)?;
+    many::one_of_several(rt)?;
+    polls::before_the_message_and_after_it(&rt)?;
+    polls::two_channels_in_one_task(&rt)?;
+    polls::many_channels_in_one_task(&rt)?;
+    println!(rt; "{}", faults::each_by_a_question_mark(&rt)?)?;
+    faults::a_sealed_one(&rt)?;
+    facts::through_a_channel(&rt)?;
     call_each(&rt)
 }

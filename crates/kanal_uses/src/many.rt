@@ -1,0 +1,127 @@
+//! One channel among many threads.
+use anyhow::Result;
+use kanal::error::SendError;
+use kanal::{Receiver, Sender};
+use std::alloc::AllocGlobal;
+use std::sync::Wait;
+use std::thread::{self, JoinHandle, Threads};
+
+/// What a thread that sends answers at its end.
+type Sent = std::result::Result<(), SendError>;
+
+/// Sends one number from a thread.
+fn send_one<R: Threads + Wait + Copy + Send + 'static>(
+    rt: R,
+    sender: Sender<u64>,
+    number: u64,
+) -> Result<JoinHandle<Sent>> {
+    let thread = thread::spawn(&rt, move || sender.send(&rt, number))?;
+    Ok(thread)
+}
+
+/// A clone for each of four threads, and the sum of what they sent.
+pub fn a_clone_for_each_thread<R>(rt: R) -> Result<()>
+where
+    R: Threads + Wait + AllocGlobal + Print + Copy + Send + 'static,
+{
+    let (sender, receiver) = kanal::bounded::<u64>(rt.alloc(), 2)?;
+    let mut threads = Vec::new(rt.alloc());
+    for number in 1..=4 {
+        threads.push(send_one(rt, sender.clone(&rt)?, number)?)?;
+    }
+    drop(sender);
+    println!(rt; "{}", sum_of(&rt, &receiver)?)?;
+    for thread in threads {
+        thread.join(&rt)?;
+    }
+    Ok(())
+}
+
+/// The sum of all numbers that come, once no sender is left or the channel is sealed.
+fn sum_of<R: Wait>(rt: &R, receiver: &Receiver<u64>) -> Result<u64> {
+    let mut sum: u64 = 0;
+    receiver.for_each(rt, |number| sum = sum.wrapping_add(number))?;
+    Ok(sum)
+}
+
+/// Adds up what comes, in a thread.
+fn add_up<R: Threads + Wait + Copy + Send + 'static>(
+    rt: R,
+    receiver: Receiver<u64>,
+) -> Result<JoinHandle<Result<u64>>> {
+    let thread = thread::spawn(&rt, move || sum_of(&rt, &receiver))?;
+    Ok(thread)
+}
+
+/// Two workers, which a seal lets end: what is in the channel is still worked on.
+pub fn a_seal_and_then_a_join<R>(rt: R) -> Result<()>
+where
+    R: Threads + Wait + AllocGlobal + Print + Copy + Send + 'static,
+{
+    let (sender, receiver) = kanal::bounded::<u64>(rt.alloc(), 8)?;
+    let one = add_up(rt, receiver.clone(&rt)?)?;
+    let other = add_up(rt, receiver)?;
+    for number in 1..=10 {
+        sender.send(&rt, number)?;
+    }
+    sender.seal(&rt)?;
+    let (one, other) = (one.join(&rt)?, other.join(&rt)?);
+    println!(rt; "{}", one.wrapping_add(other))?;
+    Ok(())
+}
+
+/// A sender that three threads of a scope share by a reference.
+pub fn a_sender_shared_in_a_scope<R>(rt: &R) -> Result<()>
+where
+    R: Threads + Wait + AllocGlobal + Print + Sync,
+{
+    let (sender, receiver) = kanal::bounded::<u64>(rt.alloc(), 3)?;
+    let shared = &sender;
+    thread::scope(thread::scope_env(), rt, |scope| {
+        for number in 1..=3 {
+            if scope.spawn(move || shared.send(rt, number)).is_err() {
+                break;
+            }
+        }
+    });
+    drop(sender);
+    println!(rt; "{}", sum_of(rt, &receiver)?)?;
+    Ok(())
+}
+
+/// What comes from two kinds of threads by one channel.
+#[derive(Clone, Copy, Debug, PartialEq, Eq)]
+enum Event {
+    Word(&'static str),
+    Number(u64),
+}
+
+/// Sends one event from a thread.
+fn tell<R: Threads + Wait + Copy + Send + 'static>(
+    rt: R,
+    events: Sender<Event>,
+    event: Event,
+) -> Result<JoinHandle<Sent>> {
+    let thread = thread::spawn(&rt, move || events.send(&rt, event))?;
+    Ok(thread)
+}
+
+/// Waits for the first of several senders: one channel, whose messages say where they come from.
+pub fn one_of_several<R>(rt: R) -> Result<()>
+where
+    R: Threads + Wait + AllocGlobal + Print + Copy + Send + 'static,
+{
+    let (sender, receiver) = kanal::bounded::<Event>(rt.alloc(), 1)?;
+    let words = tell(rt, sender.clone(&rt)?, Event::Word("four"))?;
+    let numbers = tell(rt, sender, Event::Number(5))?;
+    let mut letters: usize = 0;
+    let mut sum: u64 = 0;
+    receiver.for_each(&rt, |event| match event {
+        Event::Word(word) => letters = letters.wrapping_add(word.len()),
+        Event::Number(number) => sum = sum.wrapping_add(number),
+    })?;
+    println!(rt; "{letters} letters, and {sum}")?;
+    words.join(&rt)?;
+    numbers.join(&rt)?;
+    Ok(())
+}

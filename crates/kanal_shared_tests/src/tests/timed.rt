@@ -4,13 +4,18 @@ use futures::task::Poll;
 use kanal_core::error::{ReceiveErrorTimeout, SendErrorTimeout};
 use kanal_shared::{Clock, Shared, TestClock};
 use kanal_steps::steps::Offered;
+use std::alloc::AllocGlobal;
 use std::cell::Cell;
+use std::process::Abort;
+use std::sync::Wait;
+use std::time;
 use std::time::Duration;
 
-/// A clock that stands at 0, and sends 7 at its third read.
+/// A clock that stands at 0, and sends 7 at the read with this number.
 #[derive(Drop)]
 struct Sending<'a> {
     reads: Cell<u64>,
+    sends_at: u64,
     shared: &'a Shared<u64>,
 }
 
@@ -18,7 +23,7 @@ impl Clock for Sending<'_> {
     fn now(&self) -> u64 {
         let reads = self.reads.get().wrapping_add(1);
         self.reads.set(reads);
-        if reads == 3 {
+        if reads == self.sends_at {
             drop(self.shared.offer_realtime(7));
         }
         0
@@ -55,15 +60,34 @@ fn a_late_receive_serves_a_send(rt: HostRuntime) {
     equal(&rt, task.poll(&mut sending), Poll::Ready(Ok(())));
 }
 
-#[test]
-fn a_timed_receive_is_given_a_message_during_its_wait(rt: HostRuntime) {
-    let shared = channel::<u64>(&rt, 0);
+/// Receives within so many nanoseconds, by a clock that sends at the read with this number.
+fn given_at<R: Abort + Wait + time::Clock + AllocGlobal>(rt: &R, sends_at: u64, nanos: u64) {
+    let shared = channel::<u64>(rt, 0);
     let clock = Sending {
         reads: Cell::new(0),
+        sends_at,
         shared: &shared,
     };
-    let got = shared.recv_before(&rt, Duration::from_nanos(1), &clock);
-    equal(&rt, got, Ok(7));
+    let got = shared.recv_before(rt, Duration::from_nanos(nanos), &clock);
+    equal(rt, got, Ok(7));
+}
+
+#[test]
+fn a_timed_receive_is_given_a_message_during_its_wait(rt: HostRuntime) {
+    given_at(&rt, 3, 1);
+}
+
+/// However often a clock that stands still is read, the wait goes on until its outcome comes.
+#[test]
+fn a_clock_that_stands_still_ends_no_wait(rt: HostRuntime) {
+    given_at(&rt, 200, 1);
+}
+
+/// The deadline is the largest moment, and the message comes long before.
+#[test]
+fn a_message_comes_before_a_far_deadline(rt: HostRuntime) {
+    given_at(&rt, 3, u64::MAX);
+    given_at(&rt, 40, u64::MAX);
 }
 
 #[test]

@@ -1,44 +1,13 @@
 //! Draws a recorded history: `kanal_draw text` as aligned text, `kanal_draw svg` as a picture.
 //!
-//! It reads the history from standard input and writes to standard output. `reading` turns lines into
-//! calls, `history` makes them on a channel and follows each message and each wait, `text` and `svg`
-//! draw what came of that. Nothing is written before all is read and drawn.
+//! It reads the history from standard input and writes to standard output what `kanal_drawing` draws of
+//! it. Nothing is written before all is read and drawn.
 #![tactic(auto)]
 
-mod answer;
-mod fault;
-mod history;
-mod line;
-mod reading;
-mod svg;
-mod text;
-mod waits;
-
-use fault::Fault;
-use history::History;
+use kanal_drawing::{Fault, Form, draw};
 use std::env;
 use std::io::{Read, Write};
 use std::process::ExitCode;
-
-/// How a history is drawn.
-#[derive(Clone, Copy)]
-enum Form {
-    /// As aligned text.
-    Text,
-    /// As a picture.
-    Picture,
-}
-
-impl Form {
-    /// The form that the word names.
-    fn named(word: &str) -> Option<Form> {
-        match word {
-            "text" => Some(Form::Text),
-            "svg" => Some(Form::Picture),
-            _ => None,
-        }
-    }
-}
 
 /// The form that the program's words ask for.
 fn asked(rt: &HostRuntime) -> Result<Form, Fault> {
@@ -61,15 +30,8 @@ fn read_all(rt: &HostRuntime) -> Result<Vec<u8>, Fault> {
     }
 }
 
-/// Reads a history and draws it.
-fn draw(rt: &HostRuntime) -> Result<(), Fault> {
-    let form = asked(rt)?;
-    let bytes = read_all(rt)?;
-    let history = History::of(rt.alloc(), reading::read(rt.alloc(), &bytes)?)?;
-    let drawn = match form {
-        Form::Text => text::draw(rt.alloc(), &history)?,
-        Form::Picture => svg::draw(rt.alloc(), &history)?,
-    };
+/// Writes the whole output.
+fn write_all(rt: &HostRuntime, drawn: &str) -> Result<(), Fault> {
     let mut output = rt.stdout();
     if output.write_all(drawn.as_bytes()).is_err() || output.flush().is_err() {
         return Err(Fault::Device);
@@ -77,8 +39,16 @@ fn draw(rt: &HostRuntime) -> Result<(), Fault> {
     Ok(())
 }
 
+/// Reads a history and draws it.
+fn run(rt: &HostRuntime) -> Result<(), Fault> {
+    let form = asked(rt)?;
+    let bytes = read_all(rt)?;
+    let drawn = draw(rt.alloc(), form, &bytes)?;
+    write_all(rt, drawn.as_str())
+}
+
 fn main(rt: HostRuntime) -> ExitCode {
-    match draw(&rt) {
+    match run(&rt) {
         Ok(()) => ExitCode::SUCCESS,
         Err(fault) => {
             let _told = eprintln!(rt; "{fault}");

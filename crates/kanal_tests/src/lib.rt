@@ -1,4 +1,5 @@
-//! Tests that cross crates: a script's way from its bytes to the printed answer, and whole histories.
+//! Tests that cross crates: a script's way from its bytes to the printed answer, whole histories, and
+//! histories that can't be drawn.
 #![tactic(auto)]
 
 #[cfg(test)]

@@ -3,4 +3,5 @@ mod devices;
 mod faults;
 mod journals;
 mod rows;
+mod undrawn;
 mod unreadable;

@@ -1,5 +1,5 @@
-//! What the tests share: their sizes, the comparison of an answer with the expected one, a count of
-//! calls that begin, and calls that are repeated until they succeed.
+//! What the tests share: their sizes, the comparison of an answer with the expected one, and a count of
+//! calls that begin.
 use std::alloc::{AllocGlobal, Global};
 use std::fmt::Debug;
 use std::process::Abort;
@@ -40,20 +40,13 @@ pub fn shared(rt: &impl Abort, counter: &Arc<AtomicU64, Global>) -> Arc<AtomicU6
     Arc::try_clone(counter).expect(rt, "a count of the counter")
 }
 
-/// Repeats the call until it succeeds; ends the test where that takes too many turns.
-pub fn repeat<R: Abort, F: Fn() -> bool>(rt: &R, call: F)
-    requires { F.IsAlwaysCallable call }
-{
+/// Waits until so many calls have begun; ends the test where that takes too many turns.
+pub fn wait_until(rt: &impl Abort, begun: &AtomicU64, calls: u64) {
     for _ in 0..TURNS {
-        if call() {
+        if begun.load(SeqCst) >= calls {
             return;
         }
         thread::yield_now();
     }
     holds(rt, false);
-}
-
-/// Waits until so many calls have begun; ends the test where that takes too many turns.
-pub fn wait_until(rt: &impl Abort, begun: &AtomicU64, calls: u64) {
-    repeat(rt, || begun.load(SeqCst) >= calls);
 }

@@ -1,27 +1,45 @@
 //! Calls that meet another party. One that doesn't wait is repeated until it meets that party.
-use crate::tests::given::{TURNS, holds, repeat};
+use crate::tests::given::{TURNS, holds};
 use crate::tests::sync::given::{new, receive_one, send_one};
 use kanal::{Receiver, Sender};
+use std::alloc::AllocGlobal;
 use std::process::Abort;
 use std::sync::Wait;
 use std::thread;
+use std::thread::Threads;
 
-/// Sends the number as soon as it is taken.
-fn try_to_send<R: Wait + Abort>(rt: &R, s: &Sender<u64>) {
-    repeat(rt, || s.try_send(rt, 1) == Ok(true));
+/// The forms of a send that doesn't wait for a receiver.
+#[derive(Clone, Copy)]
+enum Sending {
+    Try,
+    TryRealtime,
+    TryOption,
+    TryOptionRealtime,
 }
 
-/// The same, without a wait for the lock.
-fn try_to_send_realtime<R: Wait + Abort>(rt: &R, s: &Sender<u64>) {
-    repeat(rt, || s.try_send_realtime(1) == Ok(true));
+/// Sends the number once by this form, from the option where it takes one. Whether it was taken. The test
+/// ends unless the option still holds it.
+fn is_sent<R: Wait + Abort>(
+    rt: &R,
+    s: &Sender<u64>,
+    form: Sending,
+    option: &mut Option<u64>,
+) -> bool {
+    assert!(rt; option.is_some());
+    let answer = match form {
+        Sending::Try => s.try_send(rt, 1),
+        Sending::TryRealtime => s.try_send_realtime(1),
+        Sending::TryOption => s.try_send_option(rt, option),
+        Sending::TryOptionRealtime => s.try_send_option_realtime(option),
+    };
+    answer == Ok(true)
 }
 
-/// Sends the option's number as soon as it is taken. Until then the option holds it.
-fn try_to_send_option<R: Wait + Abort>(rt: &R, s: &Sender<u64>) {
+/// Sends the number by this form as soon as it is taken.
+fn send_by<R: Wait + Abort>(rt: &R, s: &Sender<u64>, form: Sending) {
     let mut option = Some(1);
     for _ in 0..TURNS {
-        assert!(rt; option.is_some());
-        if s.try_send_option(rt, &mut option) == Ok(true) {
+        if is_sent(rt, s, form, &mut option) {
             return;
         }
         thread::yield_now();
@@ -29,57 +47,30 @@ fn try_to_send_option<R: Wait + Abort>(rt: &R, s: &Sender<u64>) {
     holds(rt, false);
 }
 
-/// The same, without a wait for the lock.
-fn try_to_send_option_realtime<R: Wait + Abort>(rt: &R, s: &Sender<u64>) {
-    let mut option = Some(1);
-    for _ in 0..TURNS {
-        assert!(rt; option.is_some());
-        if s.try_send_option_realtime(&mut option) == Ok(true) {
-            return;
-        }
-        thread::yield_now();
-    }
-    holds(rt, false);
+/// A thread sends the number by this form, and another receives it.
+fn number_comes<R: Threads + Wait + Abort + AllocGlobal + Sync>(rt: &R, form: Sending) {
+    let (s, r) = new::<u64>(rt, Some(0));
+    thread::join(rt, move || send_by(rt, &s, form), || receive_one(rt, &r, 1));
 }
 
 #[test]
 fn try_send(rt: HostRuntime) {
-    let (s, r) = new::<u64>(&rt, Some(0));
-    thread::join(
-        &rt,
-        move || try_to_send(&rt, &s),
-        || receive_one(&rt, &r, 1),
-    );
+    number_comes(&rt, Sending::Try);
 }
 
 #[test]
 fn try_send_realtime(rt: HostRuntime) {
-    let (s, r) = new::<u64>(&rt, Some(0));
-    thread::join(
-        &rt,
-        move || try_to_send_realtime(&rt, &s),
-        || receive_one(&rt, &r, 1),
-    );
+    number_comes(&rt, Sending::TryRealtime);
 }
 
 #[test]
 fn try_send_option(rt: HostRuntime) {
-    let (s, r) = new::<u64>(&rt, Some(0));
-    thread::join(
-        &rt,
-        move || try_to_send_option(&rt, &s),
-        || receive_one(&rt, &r, 1),
-    );
+    number_comes(&rt, Sending::TryOption);
 }
 
 #[test]
 fn try_send_option_realtime(rt: HostRuntime) {
-    let (s, r) = new::<u64>(&rt, Some(0));
-    thread::join(
-        &rt,
-        move || try_to_send_option_realtime(&rt, &s),
-        || receive_one(&rt, &r, 1),
-    );
+    number_comes(&rt, Sending::TryOptionRealtime);
 }
 
 #[test]
@@ -92,40 +83,49 @@ fn send(rt: HostRuntime) {
     );
 }
 
-/// Receives this message as soon as it is there.
-fn try_to_recv<T, R>(rt: &R, r: &Receiver<T>, message: T)
-where
-    T: Drop + Copy + PartialEq,
-    R: Wait + Abort,
-{
-    repeat(rt, || r.try_recv(rt) == Ok(Some(message)));
+/// The forms of a receive that doesn't wait for a sender.
+#[derive(Clone, Copy)]
+enum Receiving {
+    Try,
+    TryRealtime,
 }
 
-/// The same, without a wait for the lock.
-fn try_to_recv_realtime<T, R>(rt: &R, r: &Receiver<T>, message: T)
-where
-    T: Drop + Copy + PartialEq,
-    R: Wait + Abort,
-{
-    repeat(rt, || r.try_recv_realtime() == Ok(Some(message)));
+/// Receives once by this form. Whether this word came.
+fn is_there<R: Wait>(rt: &R, r: &Receiver<&'static str>, form: Receiving, word: &str) -> bool {
+    let answer = match form {
+        Receiving::Try => r.try_recv(rt),
+        Receiving::TryRealtime => r.try_recv_realtime(),
+    };
+    answer == Ok(Some(word))
+}
+
+/// Receives the word by this form as soon as it is there.
+fn receive_by<R: Wait + Abort>(rt: &R, r: &Receiver<&'static str>, form: Receiving, word: &str) {
+    for _ in 0..TURNS {
+        if is_there(rt, r, form, word) {
+            return;
+        }
+        thread::yield_now();
+    }
+    holds(rt, false);
+}
+
+/// A thread sends a word, and another receives it by this form.
+fn word_comes<R: Threads + Wait + Abort + AllocGlobal + Sync>(rt: &R, form: Receiving) {
+    let (s, r) = new::<&'static str>(rt, Some(0));
+    thread::join(
+        rt,
+        move || send_one(rt, &s, "Buddy"),
+        || receive_by(rt, &r, form, "Buddy"),
+    );
 }
 
 #[test]
 fn try_recv(rt: HostRuntime) {
-    let (s, r) = new::<&'static str>(&rt, Some(0));
-    thread::join(
-        &rt,
-        move || send_one(&rt, &s, "Buddy"),
-        || try_to_recv(&rt, &r, "Buddy"),
-    );
+    word_comes(&rt, Receiving::Try);
 }
 
 #[test]
 fn try_recv_realtime(rt: HostRuntime) {
-    let (s, r) = new::<&'static str>(&rt, Some(0));
-    thread::join(
-        &rt,
-        move || send_one(&rt, &s, "Buddy"),
-        || try_to_recv_realtime(&rt, &r, "Buddy"),
-    );
+    word_comes(&rt, Receiving::TryRealtime);
 }

@@ -8,6 +8,7 @@ use std::process::Abort;
 use std::random::RandomSource;
 use std::sync::Wait;
 use std::thread;
+use std::thread::Threads;
 
 #[test]
 fn sender_clone_async(rt: HostRuntime) {
@@ -23,55 +24,81 @@ fn receiver_clone_async(rt: HostRuntime) {
     equal(&rt, s.receiver_count(&rt), 2);
 }
 
-/// Makes the sender one for tasks, and sends in a task.
-fn send_converted<R: Wait + Abort + RandomSource + AllocGlobal>(rt: &R, s: Sender<&'static str>) {
-    send_in_task(rt, &s.to_async(), "World");
+/// How a handle for threads serves a task.
+#[derive(Clone, Copy)]
+enum Served {
+    /// It becomes one for tasks.
+    Converted,
+    /// It is lent as one for tasks.
+    Lent,
+}
+
+/// Sends the word in a task.
+fn send_word<R: Wait + Abort + RandomSource + AllocGlobal>(
+    rt: &R,
+    s: Sender<&'static str>,
+    how: Served,
+) {
+    match how {
+        Served::Converted => send_in_task(rt, &s.to_async(), "World"),
+        Served::Lent => send_in_task(rt, s.as_async(), "World"),
+    }
+}
+
+/// A task sends the word through a sender that serves it so, and a thread receives it.
+fn word_is_sent<R>(rt: &R, how: Served)
+where
+    R: Threads + Wait + Abort + RandomSource + AllocGlobal + Sync,
+{
+    let (s, r) = new::<&'static str>(rt, Some(0));
+    thread::join(
+        rt,
+        move || send_word(rt, s, how),
+        || receive_one(rt, &r, "World"),
+    );
 }
 
 #[test]
 fn sender_to_async(rt: HostRuntime) {
-    let (s, r) = new::<&'static str>(&rt, Some(0));
-    thread::join(
-        &rt,
-        move || send_converted(&rt, s),
-        || receive_one(&rt, &r, "World"),
-    );
+    word_is_sent(&rt, Served::Converted);
 }
 
 #[test]
 fn sender_as_async(rt: HostRuntime) {
-    let (s, r) = new::<&'static str>(&rt, Some(0));
-    thread::join(
-        &rt,
-        move || send_in_task(&rt, s.as_async(), "World"),
-        || receive_one(&rt, &r, "World"),
-    );
+    word_is_sent(&rt, Served::Lent);
 }
 
-/// Makes the receiver one for tasks, and receives in a task.
-fn receive_converted<R: Wait + Abort + RandomSource + AllocGlobal>(
+/// Receives the word in a task.
+fn receive_word<R: Wait + Abort + RandomSource + AllocGlobal>(
     rt: &R,
     r: Receiver<&'static str>,
+    how: Served,
 ) {
-    receive_in_task(rt, &r.to_async(), "World");
+    match how {
+        Served::Converted => receive_in_task(rt, &r.to_async(), "World"),
+        Served::Lent => receive_in_task(rt, r.as_async(), "World"),
+    }
+}
+
+/// A task receives the word through a receiver that serves it so, and a thread sends it.
+fn word_is_received<R>(rt: &R, how: Served)
+where
+    R: Threads + Wait + Abort + RandomSource + AllocGlobal + Sync,
+{
+    let (s, r) = new::<&'static str>(rt, Some(0));
+    thread::join(
+        rt,
+        move || receive_word(rt, r, how),
+        || send_one(rt, &s, "World"),
+    );
 }
 
 #[test]
 fn receiver_to_async(rt: HostRuntime) {
-    let (s, r) = new::<&'static str>(&rt, Some(0));
-    thread::join(
-        &rt,
-        move || receive_converted(&rt, r),
-        || send_one(&rt, &s, "World"),
-    );
+    word_is_received(&rt, Served::Converted);
 }
 
 #[test]
 fn receiver_as_async(rt: HostRuntime) {
-    let (s, r) = new::<&'static str>(&rt, Some(0));
-    thread::join(
-        &rt,
-        move || receive_in_task(&rt, r.as_async(), "World"),
-        || send_one(&rt, &s, "World"),
-    );
+    word_is_received(&rt, Served::Lent);
 }

@@ -3,10 +3,12 @@ use crate::tests::given::equal;
 use crate::tests::sync::given::{receive_one as receive_blocking, send_one as send_blocking};
 use crate::tests::tasks::given::{new, receive_one, send_one};
 use kanal::{AsyncReceiver, AsyncSender};
-use std::fmt::Debug;
+use std::alloc::AllocGlobal;
 use std::process::Abort;
+use std::random::RandomSource;
 use std::sync::Wait;
 use std::thread;
+use std::thread::Threads;
 
 #[test]
 fn sender_clone_sync(rt: HostRuntime) {
@@ -34,66 +36,73 @@ fn clones_without_a_buffer(rt: HostRuntime) {
     equal(&rt, s.receiver_count(&rt), 2);
 }
 
-/// Makes the sender one for threads, and sends.
-fn send_converted<R: Wait + Abort>(rt: &R, s: AsyncSender<&'static str>) {
-    send_blocking(rt, &s.to_sync(), "World");
+/// How a handle for tasks serves a thread.
+#[derive(Clone, Copy)]
+enum Served {
+    /// It becomes one for threads.
+    Converted,
+    /// It is lent as a view for threads.
+    Lent,
+}
+
+/// Sends the word in a thread.
+fn send_word<R: Wait + Abort>(rt: &R, s: AsyncSender<&'static str>, how: Served) {
+    match how {
+        Served::Converted => send_blocking(rt, &s.to_sync(), "World"),
+        Served::Lent => equal(rt, s.as_sync().send(rt, "World"), Ok(())),
+    }
+}
+
+/// A thread sends the word through a sender that serves it so, and a task receives it.
+fn word_is_sent<R>(rt: &R, how: Served)
+where
+    R: Threads + Wait + Abort + RandomSource + AllocGlobal + Sync,
+{
+    let (s, r) = new::<&'static str>(rt, Some(0));
+    thread::join(
+        rt,
+        move || send_word(rt, s, how),
+        || receive_one(rt, &r, "World"),
+    );
 }
 
 #[test]
 fn sender_to_sync(rt: HostRuntime) {
-    let (s, r) = new::<&'static str>(&rt, Some(0));
-    thread::join(
-        &rt,
-        move || send_converted(&rt, s),
-        || receive_one(&rt, &r, "World"),
-    );
-}
-
-/// Sends through a view for threads.
-fn send_through_a_view<T: Drop, R: Wait + Abort>(rt: &R, s: &AsyncSender<T>, message: T) {
-    equal(rt, s.as_sync().send(rt, message), Ok(()));
+    word_is_sent(&rt, Served::Converted);
 }
 
 #[test]
 fn sender_as_sync(rt: HostRuntime) {
-    let (s, r) = new::<&'static str>(&rt, Some(0));
-    thread::join(
-        &rt,
-        move || send_through_a_view(&rt, &s, "World"),
-        || receive_one(&rt, &r, "World"),
-    );
+    word_is_sent(&rt, Served::Lent);
 }
 
-/// Makes the receiver one for threads, and receives.
-fn receive_converted<R: Wait + Abort>(rt: &R, r: AsyncReceiver<&'static str>) {
-    receive_blocking(rt, &r.to_sync(), "World");
+/// Receives the word in a thread.
+fn receive_word<R: Wait + Abort>(rt: &R, r: AsyncReceiver<&'static str>, how: Served) {
+    match how {
+        Served::Converted => receive_blocking(rt, &r.to_sync(), "World"),
+        Served::Lent => equal(rt, r.as_sync().recv(rt), Ok("World")),
+    }
+}
+
+/// A thread receives the word through a receiver that serves it so, and a task sends it.
+fn word_is_received<R>(rt: &R, how: Served)
+where
+    R: Threads + Wait + Abort + RandomSource + AllocGlobal + Sync,
+{
+    let (s, r) = new::<&'static str>(rt, Some(0));
+    thread::join(
+        rt,
+        move || receive_word(rt, r, how),
+        || send_one(rt, &s, "World"),
+    );
 }
 
 #[test]
 fn receiver_to_sync(rt: HostRuntime) {
-    let (s, r) = new::<&'static str>(&rt, Some(0));
-    thread::join(
-        &rt,
-        move || receive_converted(&rt, r),
-        || send_one(&rt, &s, "World"),
-    );
-}
-
-/// Receives this message through a view for threads.
-fn receive_through_a_view<T, R>(rt: &R, r: &AsyncReceiver<T>, message: T)
-where
-    T: Drop + PartialEq + Debug,
-    R: Wait + Abort,
-{
-    equal(rt, r.as_sync().recv(rt), Ok(message));
+    word_is_received(&rt, Served::Converted);
 }
 
 #[test]
 fn receiver_as_sync(rt: HostRuntime) {
-    let (s, r) = new::<&'static str>(&rt, Some(0));
-    thread::join(
-        &rt,
-        move || receive_through_a_view(&rt, &r, "World"),
-        || send_one(&rt, &s, "World"),
-    );
+    word_is_received(&rt, Served::Lent);
 }

@@ -103,7 +103,7 @@ impl<E> Split<View<E>> for Reads {
     ghost right = { λ v. reader v.log [] };
 }
 
-/// All that a seat knows goes into a new one, and nothing stays.
+/// Moves a view to a new seat; the old one knows nothing then.
 pub(crate) struct Goes;
 
 impl<E> Split<View<E>> for Goes {

@@ -144,8 +144,8 @@ impl<T: Drop, J: Naming> Channel<T, J> {
 
     /// Learns what became of the wait with the ticket.
     ///
-    /// What is settled through a cell is its own ticket's; that it is isn't known by a type, so it is
-    /// looked at, and another's would never be answered.
+    /// A cell is settled for its own ticket. No type ties the cell to the ticket, so the two are compared;
+    /// the call would never return if they differed, which no run has shown.
     #[tactic(auto, using(crate::proofs::Settling::settled_longer))]
     pub(crate) fn learn_of<R: Wait>(
         &self,

@@ -1,7 +1,7 @@
 //! What becomes of a wait, with the history that says so, on its way from who settles it to who waits.
 //!
-//! Stands on the cell and on passes. What comes through a cell is known by its type alone: so the type
-//! keeps that the history which comes along has settled this ticket so.
+//! Stands on the cell and on passes. Who receives through a cell knows the payload's type and nothing else.
+//! So the proof goes into the type: the pass that comes along has seen that a call settled this ticket so.
 ghost use Rattle.std.specs.Prelude.{◌≡◌, []};
 ghost use Rattle.kanal_cell.specs.CellRule.{HasNotSettled};
 ghost use Rattle.kanal_cell.specs.CellEnds.{settle_view};

@@ -1,8 +1,8 @@
 //! The common way of an offer and of a take: where nobody waits.
 //!
-//! Stands on the core's two rooms. What an offer or a take may answer beside this has room for those whose
-//! waits it settles; here is no such answer, so that a call which finds nobody waiting makes no room for
-//! them. Whoever is given nothing here asks again, by the whole call.
+//! Stands on the core's two rooms. `Offer` and `Take` are large values, since they may hold a waiter that
+//! was settled. The calls here return small ones, so that the common way is cheap. Who gets nothing here
+//! makes the whole call.
 ghost use Rattle.std.specs.Prelude.{◌≡◌, [], IfErr, IfNone, IfSome, OnOk};
 ghost use Rattle.kanal_core.specs.Channel.{line_of};
 ghost use Rattle.kanal_core.specs.Calls.{Enters, TakesFront};

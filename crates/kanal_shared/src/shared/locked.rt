@@ -145,7 +145,7 @@ impl<T: Drop> Locked<'_, T> {
         if !owed.is_nothing() {
             return self.give_back_owing(owed);
         }
-        owed.settle(); // Nobody is told: so a value with nothing in it goes, and needs no drop.
+        owed.settle(); // This consumes the empty token, and tells nobody.
         self.give_back_quiet();
     }
 

@@ -48,7 +48,7 @@ fn receive_all<J: Naming, R: Wait>(
 }
 
 /// The third party: it learns what both threads have seen of the channel's history, and says that in
-/// this history the i-th message received is the i-th message sent.
+/// this history the i-th kept message went to the i-th kept receive.
 fn overseen<T: Drop, J: Naming>(
     channel: &Channel<T, J>,
     sender: Pass<T, J>,

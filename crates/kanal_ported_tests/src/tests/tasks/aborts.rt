@@ -7,17 +7,30 @@ use kanal::{AsyncReceiver, AsyncSender, ReceiveFuture, SendFuture};
 use std::alloc::{AllocGlobal, Global};
 use std::process::Abort;
 use std::random::RandomSource;
-use std::sync::Arc;
 use std::sync::atomic::AtomicU64;
+use std::sync::{Arc, Wait};
 
-/// Ten receives that wait: none has answered.
-fn ten_receives<'a, R: Abort + RandomSource + AllocGlobal>(
+/// Ten clones of the receiver, one for each task.
+fn ten_receivers<R: Wait + Abort + AllocGlobal>(
     rt: &R,
-    rx: &'a AsyncReceiver<DropTester>,
+    rx: &AsyncReceiver<DropTester>,
+) -> Vec<AsyncReceiver<DropTester>> {
+    let mut clones = Vec::new(rt.alloc());
+    for _ in 0..10 {
+        let theirs = rx.clone(rt).expect(rt, "a clone");
+        clones.push(theirs).expect(rt, "memory for a clone");
+    }
+    clones
+}
+
+/// A receive that waits by each of these receivers: none has answered.
+fn waiting_receives<'a, R: Abort + RandomSource + AllocGlobal>(
+    rt: &R,
+    receivers: &'a [AsyncReceiver<DropTester>],
 ) -> Vec<ReceiveFuture<'a, DropTester>> {
     let task = MockTask::new(rt).expect(rt, "a task");
     let mut list = Vec::new(rt.alloc());
-    for _ in 0..10 {
+    for rx in receivers {
         let mut receiving = rx.recv();
         holds(rt, task.poll(&mut receiving).is_pending());
         list.push(receiving).expect(rt, "memory for a future");
@@ -28,20 +41,35 @@ fn ten_receives<'a, R: Abort + RandomSource + AllocGlobal>(
 #[test]
 fn recv_abort_test(rt: HostRuntime) {
     let (_tx, rx) = new::<DropTester>(&rt, Some(10));
-    let list = ten_receives(&rt, &rx);
+    let clones = ten_receivers(&rt, &rx);
+    let list = waiting_receives(&rt, clones.as_slice());
     drop(list);
+    drop(clones);
     equal(&rt, rx.close(&rt), Ok(()));
 }
 
-/// Ten sends that wait: none has answered.
-fn ten_sends<'a, R: Abort + RandomSource + AllocGlobal>(
+/// Ten clones of the sender, one for each task.
+fn ten_senders<R: Wait + Abort + AllocGlobal>(
     rt: &R,
-    tx: &'a AsyncSender<DropTester>,
+    tx: &AsyncSender<DropTester>,
+) -> Vec<AsyncSender<DropTester>> {
+    let mut clones = Vec::new(rt.alloc());
+    for _ in 0..10 {
+        let theirs = tx.clone(rt).expect(rt, "a clone");
+        clones.push(theirs).expect(rt, "memory for a clone");
+    }
+    clones
+}
+
+/// A send that waits by each of these senders: none has answered.
+fn waiting_sends<'a, R: Abort + RandomSource + AllocGlobal>(
+    rt: &R,
+    senders: &'a [AsyncSender<DropTester>],
     drops: &Arc<AtomicU64, Global>,
 ) -> Vec<SendFuture<'a, DropTester>> {
     let task = MockTask::new(rt).expect(rt, "a task");
     let mut list = Vec::new(rt.alloc());
-    for _ in 0..10 {
+    for tx in senders {
         let mut sending = tx.send(DropTester::new(rt, drops));
         holds(rt, task.poll(&mut sending).is_pending());
         list.push(sending).expect(rt, "memory for a future");
@@ -53,9 +81,11 @@ fn ten_sends<'a, R: Abort + RandomSource + AllocGlobal>(
 fn send_abort_test(rt: HostRuntime) {
     let drops = counter(&rt);
     let (tx, rx) = new::<DropTester>(&rt, Some(0));
-    let list = ten_sends(&rt, &tx, &drops);
+    let clones = ten_senders(&rt, &tx);
+    let list = waiting_sends(&rt, clones.as_slice(), &drops);
     dropped(&rt, &drops, 0);
     drop(list);
+    drop(clones);
     dropped(&rt, &drops, 10);
     equal(&rt, rx.close(&rt), Ok(()));
     dropped(&rt, &drops, 10);

@@ -1,4 +1,7 @@
 //! A deadline that meets a receiver: each message is received once or given up once.
+//!
+//! A run in which the sends and the receives didn't meet fails the test: then all but one were given up, or all
+//! but one were received.
 use crate::tests::counted::{counter, shared};
 use crate::tests::given::{ends, equal, holds};
 use kanal::error::SendErrorTimeout;
@@ -96,9 +99,12 @@ fn a_deadline_meets_a_receiver(rt: HostRuntime) {
     let thread = start(rt, sender, shared(&rt, &drops));
     await_one_drop(&drops);
     let received = receive_all(&rt, &receiver);
+    // Where the receiver gave up, a send that waits still is refused now, and the counts differ.
+    drop(receiver);
     let given_up = thread.join(&rt);
-    holds(&rt, received > 0);
-    holds(&rt, given_up > 0);
+    // One of each is sure; the others met.
+    holds(&rt, received > 1);
+    holds(&rt, given_up > 1);
     equal(&rt, received.wrapping_add(given_up), ROUNDS);
     equal(&rt, drops.count(), ROUNDS);
 }

@@ -10,6 +10,7 @@ mod notices;
 mod races;
 mod receives;
 mod recorded;
+mod seals;
 mod sync;
 mod tasks;
 mod watch;

@@ -1,14 +1,16 @@
 //! Four threads that make random calls on one recorded channel, and tell each other what they have seen.
 //!
-//! The passes agree with the journal each time, and its events, run on a new channel, get its replies.
+//! The passes agree with the journal each time, and its events, run on a new channel, get its replies. The
+//! threads meet before their first calls: a round in which they don't fails the test.
 use crate::tests::given::equal;
+use crate::tests::meeting::Meeting;
 use crate::tests::watch::Watch;
 use kanal_core::mutex::Mutex;
 use kanal_journal::journal::{Ask, Event, Journal, Reply, Side, run};
 use kanal_recorded::{Pass, Recorded, Seen};
-use std::alloc::AllocGlobal;
+use std::alloc::{AllocGlobal, Global};
 use std::process::Abort;
-use std::sync::Wait;
+use std::sync::{Arc, Wait};
 use std::thread;
 use std::thread::Threads;
 
@@ -27,11 +29,12 @@ impl Generator {
     }
 }
 
-/// What the threads share: the channel, and how much of its journal one of them has told.
+/// What the threads share: the channel, how much of its journal one of them has told, and where they meet.
 #[derive(Drop)]
 struct Common {
     channel: Recorded<u64>,
     told: Mutex<Seen>,
+    meeting: Arc<Meeting, Global>,
 }
 
 /// Ends the channel, seldom.
@@ -80,9 +83,10 @@ fn tell_or_hear<R: Wait>(rt: &R, told: &Mutex<Seen>, pass: &mut Pass<u64>, draw:
 /// How many calls a thread makes in a round.
 const CALLS: usize = 25;
 
-/// Makes all calls of one thread.
-fn calls<R: Wait>(rt: &R, common: &Common, mut pass: Pass<u64>, seed: u64) -> Pass<u64> {
+/// Makes all calls of one thread, once it has met the others.
+fn calls<R: Wait + Abort>(rt: &R, common: &Common, mut pass: Pass<u64>, seed: u64) -> Pass<u64> {
     let mut draws = Generator { state: seed };
+    common.meeting.attend(rt, 0);
     for _ in 0..CALLS {
         let _reply = call(rt, &common.channel, &mut pass, &mut draws);
         tell_or_hear(rt, &common.told, &mut pass, draws.below(4));
@@ -94,7 +98,12 @@ fn calls<R: Wait>(rt: &R, common: &Common, mut pass: Pass<u64>, seed: u64) -> Pa
 type Two = (Pass<u64>, Pass<u64>);
 
 /// The calls of two threads.
-fn in_two<R: Threads + Wait + Sync>(rt: &R, common: &Common, passes: Two, seed: u64) -> Two {
+fn in_two<R: Threads + Wait + Abort + Sync>(
+    rt: &R,
+    common: &Common,
+    passes: Two,
+    seed: u64,
+) -> Two {
     let (first, second) = passes;
     thread::join(
         rt,
@@ -104,7 +113,7 @@ fn in_two<R: Threads + Wait + Sync>(rt: &R, common: &Common, passes: Two, seed: 
 }
 
 /// The calls of four.
-fn in_four<R: Threads + Wait + Sync>(
+fn in_four<R: Threads + Wait + Abort + Sync>(
     rt: &R,
     common: &Common,
     passes: Two,
@@ -138,9 +147,17 @@ fn journal<R: Threads + Wait + Abort + AllocGlobal + Sync>(rt: &R, round: u64) -
     let channel = Recorded::new(rt.alloc(), Some(2)).expect(rt, "a channel");
     let (passes, others) = (two(rt, &channel), two(rt, &channel));
     let told = Mutex::new(passes.0.tell());
-    let common = Common { channel, told };
+    let common = Common {
+        channel,
+        told,
+        meeting: Meeting::new(rt, 4),
+    };
     let (passes, others) = in_four(rt, &common, passes, others, round.wrapping_mul(4));
-    let Common { channel, told: _ } = common;
+    let Common {
+        channel,
+        told: _,
+        meeting: _,
+    } = common;
     let finished = channel.finish(listed(rt, passes, others));
     finished
         .ok()

@@ -69,7 +69,9 @@ fn main(rt: HostRuntime) -> ExitCode {
         && in_tasks(&rt, alloc, &mut tally).is_some()
         && pool::works(&rt, alloc, &mut tally).is_some()
         && blocked::send_waits(rt, alloc, &mut tally).is_some()
-        && blocked::recv_waits(rt, alloc, &mut tally).is_some();
+        && blocked::recv_waits(rt, alloc, &mut tally).is_some()
+        && beside::option_sends(&rt, alloc, &mut tally).is_some()
+        && beside::streams(&rt, alloc, &mut tally).is_some();
     if answered && println!(rt; "refused calls: {}", tally.refused()).is_ok() {
         ExitCode::SUCCESS
     } else {

@@ -3,6 +3,7 @@
 use super::calls::task_channel;
 use crate::polls::{receive_begins, send_begins, task};
 use crate::tally::{Tally, holds};
+use futures::StreamExt;
 use futures::task::Poll;
 use futures::test::MockTask;
 use kanal::error::{ReceiveError, ReceiveErrorTimeout, SendError, SendErrorTimeout};
@@ -145,6 +146,81 @@ fn polled_receive<R: Wait>(
     if polled == Poll::Ready(Err(ReceiveError::NoMemory)) {
         tally.add();
         return is_as_it_was(rt, sender);
+    }
+    polled == Poll::Pending && is_as_it_was(rt, sender)
+}
+
+/// A send of an option until a deadline, beside a send that waits.
+pub fn option_sends<R: Wait + RandomSource + AllocGlobal + time::Clock>(
+    rt: &R,
+    alloc: Global,
+    tally: &mut Tally,
+) -> Option<()> {
+    let (sender, receiver) = task_channel::<u64>(alloc, tally, 0)?;
+    let task = task(rt)?;
+    let mut waiting = sender.send(3);
+    holds(
+        send_begins(tally, &sender, &task, &mut waiting, 3)
+            && late_option(rt, tally, &sender)
+            && receiver.try_recv(rt) == Ok(Some(3))
+            && task.poll(&mut waiting) == Poll::Ready(Ok(()))
+            && receiver.try_recv(rt) == Ok(None),
+    )
+}
+
+/// Whether such a send is late and keeps its message, if need be the second time.
+fn late_option<R: Wait + time::Clock>(
+    rt: &R,
+    tally: &mut Tally,
+    sender: &AsyncSender<u64>,
+) -> bool {
+    let mut option = Some(4);
+    let now = Duration::from_nanos(0);
+    let view = sender.as_sync();
+    let answer = match view.send_option_timeout(rt, &mut option, now, &TestClock::still(0)) {
+        Err(SendErrorTimeout::NoMemory) => {
+            tally.add();
+            if option != Some(4) || !is_as_it_was(rt, sender) {
+                return false;
+            }
+            view.send_option_timeout(rt, &mut option, now, &TestClock::still(0))
+        },
+        answer => answer,
+    };
+    answer == Err(SendErrorTimeout::Timeout) && option == Some(4)
+}
+
+/// A stream's first poll beside a receive that waits.
+pub fn streams<R: Wait + RandomSource + AllocGlobal>(
+    rt: &R,
+    alloc: Global,
+    tally: &mut Tally,
+) -> Option<()> {
+    let (sender, receiver) = task_channel::<u64>(alloc, tally, 0)?;
+    let (first, second) = (task(rt)?, task(rt)?);
+    let mut waiting = receiver.recv();
+    holds(
+        receive_begins(tally, &receiver, &first, &mut waiting)
+            && polled_stream(rt, tally, &sender, &receiver, &second)
+            && sender.try_send(rt, 7) == Ok(true)
+            && first.poll(&mut waiting) == Poll::Ready(Ok(7))
+            && sender.try_send(rt, 8) == Ok(false),
+    )
+}
+
+/// Whether a stream is polled beside the receive that waits, and waits too or is over; then it is dropped.
+fn polled_stream<R: Wait>(
+    rt: &R,
+    tally: &mut Tally,
+    sender: &AsyncSender<u64>,
+    receiver: &AsyncReceiver<u64>,
+    task: &MockTask,
+) -> bool {
+    let mut stream = receiver.stream();
+    let polled = task.poll(&mut stream.next());
+    if polled == Poll::Ready(None) {
+        tally.add();
+        return stream.fault() == Some(&ReceiveError::NoMemory) && is_as_it_was(rt, sender);
     }
     polled == Poll::Pending && is_as_it_was(rt, sender)
 }

@@ -114,13 +114,15 @@ pub fn recv_waits<R: Threads + Wait + RandomSource + AllocGlobal + Copy + Send +
     holds(gave && got == Some(8) && task.poll(&mut waiting) == Poll::Ready(Ok(7)))
 }
 
-/// What a blocking receive is answered, if need be the second time. Refused, it changed no count.
+/// What a blocking receive is answered, if need be the second time. Refused, it changed no count: there are two
+/// senders, of which the other thread has one.
 fn receive<R: Wait>(rt: &R, tally: &mut Tally, receiver: &AsyncReceiver<u64>) -> Option<u64> {
     let view = receiver.as_sync();
     match view.recv(rt) {
         Err(ReceiveError::NoMemory) => {
             tally.add();
-            holds(receiver.len(rt) == 0 && receiver.receiver_count(rt) == 1)?;
+            holds(receiver.len(rt) == 0)?;
+            holds(receiver.receiver_count(rt) == 1 && receiver.sender_count(rt) == 2)?;
             view.recv(rt).ok()
         },
         got => got.ok(),
@@ -146,7 +148,8 @@ pub fn send_waits<R: Threads + Wait + RandomSource + AllocGlobal + Copy + Send +
     holds(task.poll(&mut waiting) == Poll::Ready(Ok(())))
 }
 
-/// How many messages it took until one was sent by a blocking send. Refused, it changed no count.
+/// How many messages it took until one was sent by a blocking send. Refused, it changed no count: there are two
+/// receivers, of which the other thread has one.
 fn send<R: Wait>(
     rt: &R,
     tally: &mut Tally,
@@ -158,7 +161,8 @@ fn send<R: Wait>(
         Ok(()) => Some(1),
         Err(SendError::NoMemory) => {
             tally.add();
-            holds(drops.count() == 1 && sender.len(rt) == 0 && sender.sender_count(rt) == 1)?;
+            holds(drops.count() == 1 && sender.len(rt) == 0)?;
+            holds(sender.sender_count(rt) == 1 && sender.receiver_count(rt) == 2)?;
             view.send(rt, drops.message().ok()?).ok()?;
             Some(2)
         },

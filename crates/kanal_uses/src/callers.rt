@@ -1,12 +1,17 @@
 //! One caller of each crate that has a page for callers, with a contract of its own where one can be had.
-ghost use Rattle.std.specs.Prelude.{◌≡◌, ◌≢◌, ◌*◌, ◌/◌, ◌%◌, ◌==◌, cond, Ok, Err, Some, None, true, IfOk};
+ghost use Rattle.std.specs.Prelude.{◌≡◌, ◌≢◌, ◌*◌, ◌/◌, ◌%◌, ◌==◌, ℕ, cond};
+ghost use Rattle.std.specs.Prelude.{Ok, Err, Some, None, true, IfOk, IfSome};
 ghost use Rattle.std.proofs.Common.{rules};
+ghost use Rattle.kanal_journal.specs.Paired.{Paired, until};
 ghost use Rattle.kanal_pool.specs.Answers.{answers};
+ghost use Rattle.kanal_recorded.specs.Merges.{journal_history};
 
 use kanal::Sender;
 use kanal::error::SendError;
 use kanal_cell::signal;
+use kanal_core::error::NewError;
 use kanal_core::internal::{ChannelInternal, Offer, Take};
+use kanal_journal::journal::Journal;
 use kanal_pool::{Job, NoGate, NoMemory, PoolError, map_jobs};
 use kanal_recorded::{Pass, Recorded};
 use std::alloc::Global;
@@ -27,15 +32,24 @@ pub fn offer<R: Wait>(
     (answer, option)
 }
 
-/// Puts one message through a core of one place.
-pub fn through(alloc: Global, message: u64) -> Option<u64> {
-    let mut core = ChannelInternal::<u64, u8>::new(alloc, 1).ok()?;
-    let Offer::Entered = core.offer(message) else {
-        return None;
+/// Puts two messages into a core of two places, and takes one: it is the first, and one is left.
+pub fn first_of_two(
+    alloc: Global,
+    first: u64,
+    second: u64,
+) -> Result<(Option<u64>, usize), NewError>
+    ensures { IfOk result (λ answer. answer ≡ (Some first, 1)) }
+{
+    let mut core = ChannelInternal::<u64, u8>::new(alloc, 2)?;
+    let Offer::Entered = core.offer(first) else {
+        return Ok((None, 0));
+    };
+    let Offer::Entered = core.offer(second) else {
+        return Ok((None, 0));
     };
     match core.take() {
-        Take::Got(front, _settled) => Some(front),
-        _ => None,
+        Take::Got(front, _settled) => Ok((Some(front), core.len())),
+        _ => Ok((None, 0)),
     }
 }
 
@@ -46,8 +60,10 @@ pub fn handed(alloc: Global, number: u64) -> Option<u64> {
     wait.poll()
 }
 
-/// One message from one party to another, and how long the journal is then.
-pub fn one_message<R: Wait>(rt: &R, alloc: Global) -> Option<usize> {
+/// One message from one party to another, and the journal of it.
+pub fn one_message<R: Wait>(rt: &R, alloc: Global) -> Option<Journal<u64>>
+    ensures paired { IfSome result (λ j. (n : ℕ) → Paired (until n (journal_history j))) }
+{
     let channel: Recorded<u64> = Recorded::new(alloc, Some(1)).ok()?;
     let (mut a, mut b) = (channel.pass(rt).ok()?, channel.pass(rt).ok()?);
     let _sent = a.try_send(rt, &channel, 7);
@@ -55,8 +71,10 @@ pub fn one_message<R: Wait>(rt: &R, alloc: Global) -> Option<usize> {
     let mut passes: Vec<Pass<u64>> = Vec::with_capacity(alloc, 2).ok()?;
     passes.push(a).ok()?;
     passes.push(b).ok()?;
-    let journal = channel.finish(passes).ok()?;
-    Some(journal.entries.len())
+    let Ok(journal) = channel.finish(passes) else {
+        return None;
+    };
+    Some(journal)
 }
 
 /// A number to square.

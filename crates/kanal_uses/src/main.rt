@@ -24,9 +24,12 @@ use std::thread::Threads;
 fn call_each<R: Threads + Wait + AllocGlobal + Print + Sync>(rt: &R) -> Result<()> {
     let (sender, _receiver) = kanal::bounded::<u64>(rt.alloc(), 1)?;
     println!(rt; "{}", callers::offer(rt, &sender, 7).1.is_none())?;
-    println!(rt; "{}", callers::through(rt.alloc(), 8).unwrap_or(0))?;
+    let (front, left) = callers::first_of_two(rt.alloc(), 8, 7)?;
+    println!(rt; "{front:?}, {left} left")?;
     println!(rt; "{}", callers::handed(rt.alloc(), 9).unwrap_or(0))?;
-    println!(rt; "{}", callers::one_message(rt, rt.alloc()).unwrap_or(0))?;
+    if let Some(journal) = callers::one_message(rt, rt.alloc()) {
+        println!(rt; "{}", journal.entries.len())?;
+    }
     let jobs = [Square(2), Square(3)];
     for value in callers::by_two(rt, rt.alloc(), jobs.as_slice())? {
         println!(rt; "{value}")?;

@@ -4,18 +4,7 @@ use Rattle.kanal_core.specs.declared.error.SendErrorTimeout.{SendErrorTimeout}
 use Rattle.kanal_core.specs.declared.error.SendErrorTimeout.TheVariants.{Closed as SendToClosed, ReceiveClosed, Sealed, Timeout as SendTimeout, NoMemory as SendNoMemory, TooMany as SendTooMany, DeadlineOutOfRange as SendOutOfRange}
 use Rattle.kanal_core.specs.declared.error.ReceiveErrorTimeout.{ReceiveErrorTimeout}
 use Rattle.kanal_core.specs.declared.error.ReceiveErrorTimeout.TheVariants.{Closed as ReceiveFromClosed, SendClosed, Timeout as ReceiveTimeout, NoMemory as ReceiveNoMemory, TooMany as ReceiveTooMany, DeadlineOutOfRange as ReceiveOutOfRange}
-use Rattle.kanal_shared.specs.declared.backoff.Looked.{Looked}
-use Rattle.kanal_shared.specs.declared.backoff.Looked.TheVariants.{Late, Early, Outcome}
-
--- the clock has answered a moment that is not before the deadline
-abbrev pub HasCome : (ℕ → Type 0) → ℕ → Type 0
-HasCome answered deadline = (moment : ℕ) × answered moment × (deadline ≤ moment)
-
--- who looked is late by a moment that was answered, and that is not before the deadline
-abbrev pub LooksBy : {P : Type 0} → (ℕ → Type 0) → ℕ → Looked P → Type 0
-LooksBy answered deadline (Late waiter moment) = answered moment × (deadline ≤ moment)
-LooksBy answered deadline (Early waiter) = Unit {0}
-LooksBy answered deadline (Outcome outcome) = Unit {0}
+use Rattle.kanal_waits.specs.Deadlines.{HasCome}
 
 -- a refusal of a send that tells nothing of time
 abbrev pub IsUntimedSend : SendErrorTimeout → Type 0

@@ -11,13 +11,12 @@ ghost use Rattle.kanal_shared.specs.Drains.{GoesOnBy};
 
 mod timed;
 
-use crate::backoff::Waiting;
-use crate::pause::pause_once;
 use crate::shared::{Locked, Shared};
 use kanal_core::error::ReceiveError;
 use kanal_core::internal::{Outcome, Reason};
 use kanal_steps::steps;
 use kanal_steps::steps::Received;
+use kanal_waits::{Waiting, pause_once};
 use std::sync::Wait;
 
 /// What the end of a receiver's wait answers.

@@ -9,13 +9,12 @@ ghost use Rattle.kanal_steps.specs.Steps.{IfRefused, IfSendWaits, back_of};
 
 mod timed;
 
-use crate::backoff::Waiting;
-use crate::pause::pause_once;
 use crate::shared::{Locked, Shared};
 use kanal_core::error::SendError;
 use kanal_core::internal::{Outcome, Reason};
 use kanal_steps::steps;
 use kanal_steps::steps::{Offered, Sent};
+use kanal_waits::{Waiting, pause_once};
 use std::sync::Wait;
 
 /// What the end of a sender's wait answers.

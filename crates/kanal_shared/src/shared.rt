@@ -7,12 +7,12 @@
 //! notice's counter, and alone releases the lock.
 mod locked;
 
-use crate::backoff::WaitPolicy;
 use kanal_core::internal::{Ticket, Waiter};
 use kanal_core::mutex::Mutex;
 use kanal_steps::owed::Owed;
 use kanal_steps::seat::Core;
 use kanal_steps::steps;
+use kanal_waits::WaitPolicy;
 pub(crate) use locked::Left;
 pub use locked::Locked;
 use std::alloc::Global;

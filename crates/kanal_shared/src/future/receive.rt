@@ -8,7 +8,6 @@ ghost use Rattle.kanal_shared.specs.Locks.{core_under};
 ghost use Rattle.kanal_shared.specs.Futures.{receive_is_over, receive_source, receive_waits};
 
 use super::{Started, State, Wakers};
-use crate::pause::Pauses;
 use crate::receiving::answer_of;
 use crate::shared::{Left, Locked, Shared};
 use futures::Future;
@@ -16,6 +15,7 @@ use futures::task::{Context, Poll};
 use kanal_core::error::ReceiveError;
 use kanal_steps::owed::Owed;
 use kanal_steps::steps;
+use kanal_waits::Pauses;
 use std::{fmt, mem};
 
 /// Receives a message, as `AsyncReceiver::recv` answers it.

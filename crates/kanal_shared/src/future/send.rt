@@ -8,7 +8,6 @@ ghost use Rattle.kanal_shared.specs.Locks.{core_under};
 ghost use Rattle.kanal_shared.specs.Futures.{send_is_over, send_source};
 
 use super::{Started, State, Wakers};
-use crate::pause::Pauses;
 use crate::sending::answer_of;
 use crate::shared::{Left, Locked, Shared};
 use futures::Future;
@@ -17,6 +16,7 @@ use kanal_core::error::SendError;
 use kanal_steps::owed::Owed;
 use kanal_steps::steps;
 use kanal_steps::steps::Offered;
+use kanal_waits::Pauses;
 use std::{fmt, mem};
 
 /// Sends a message, as `AsyncSender::send` answers it.

@@ -6,13 +6,12 @@ ghost use Rattle.std.specs.Duration.{as_nanos};
 ghost use Rattle.kanal_shared.specs.Deadlines.{IsUntimedReceive, ReceiveTells, ReceivesInTime};
 
 use super::answer_of;
-use crate::backoff::Waiting;
-use crate::clock::{Clock, later};
 use crate::shared::{Locked, Shared};
 use kanal_core::error::{ReceiveError, ReceiveErrorTimeout};
 use kanal_core::internal::{Outcome, Ticket};
 use kanal_steps::steps;
 use kanal_steps::steps::Received;
+use kanal_waits::{Clock, Waiting, later};
 use std::sync::Wait;
 use std::time;
 use std::time::Duration;

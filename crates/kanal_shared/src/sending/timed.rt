@@ -6,12 +6,11 @@ ghost use Rattle.std.specs.Duration.{as_nanos};
 ghost use Rattle.kanal_shared.specs.Deadlines.{IsUntimedSend, SendTells, SendsInTime};
 ghost use Rattle.kanal_shared.specs.Timed.{StartedNoWait, refusal_of};
 
-use crate::backoff::Waiting;
-use crate::clock::{Clock, later};
 use crate::shared::{Locked, Shared};
 use kanal_core::error::{SendError, SendErrorTimeout};
 use kanal_core::internal::{Outcome, Reason, Ticket};
 use kanal_steps::steps::Sent;
+use kanal_waits::{Clock, Waiting, later};
 use std::sync::Wait;
 use std::time;
 use std::time::Duration;

@@ -9,10 +9,10 @@ ghost use Rattle.std.specs.Prelude.{◌≡◌, false};
 ghost use Rattle.kanal_shared.specs.Locks.{is_held, takes_nothing};
 
 use super::Shared;
-use crate::pause::pause;
 use kanal_steps::owed::Owed;
 use kanal_steps::seat::{Core, Leavers};
 use kanal_steps::steps;
+use kanal_waits::pause;
 use std::sync::atomic::AtomicU64;
 use std::sync::atomic::Ordering::SeqCst;
 use std::sync::{MutexGuard, Wait};

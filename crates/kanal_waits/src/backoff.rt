@@ -7,8 +7,8 @@
 ghost use Rattle.std.specs.Prelude.{◌≡◌, ◌≤◌, IfErr};
 ghost use Rattle.kanal_cell.specs.CellRule.{MaySleep};
 ghost use Rattle.kanal_cell.specs.CellEnds.{wait_view};
-ghost use Rattle.kanal_shared.specs.Deadlines.{LooksBy};
-ghost use Rattle.kanal_shared.specs.Waits.{waits_at};
+ghost use Rattle.kanal_waits.specs.Deadlines.{LooksBy};
+ghost use Rattle.kanal_waits.specs.Waits.{waits_at};
 
 mod awake;
 mod policy;

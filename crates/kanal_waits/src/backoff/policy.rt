@@ -6,7 +6,7 @@
 //! which of the two it will be. So where the buffer is short, a call yields only while the channel has
 //! credit for that, and the channel gets credit from waits that ended while they paused. On a busy
 //! machine few waits end so, and a call that is not told soon sleeps until it is told.
-use crate::pause::pause;
+use crate::pauses::pause;
 use std::sync::atomic::AtomicU64;
 use std::sync::atomic::Ordering::SeqCst;
 use std::thread;

@@ -1,8 +1,8 @@
 -- At which end of a cell a blocked call waits.
 use Rattle.kanal_cell.specs.declared.signal.WaitEnd.{WaitEnd}
-use Rattle.kanal_shared.specs.declared.backoff.Waiting.{Waiting}
-use Rattle.kanal_shared.specs.declared.backoff.Watch.{Watch}
-use Rattle.kanal_shared.specs.declared.backoff.Watch.TheVariants.{Awake, Asleep}
+use Rattle.kanal_waits.specs.declared.backoff.Waiting.{Waiting}
+use Rattle.kanal_waits.specs.declared.backoff.Watch.{Watch}
+use Rattle.kanal_waits.specs.declared.backoff.Watch.TheVariants.{Awake, Asleep}
 
 -- the end at which it looks, whether it sleeps or not
 abbrev pub end_at : {P : Type 0} → Watch P → WaitEnd P

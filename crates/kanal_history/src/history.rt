@@ -1,0 +1,70 @@
+//! The trait of a history of the calls on a channel's line.
+//!
+//! Stands on calls and on what passes tell of them.
+ghost use Rattle.std.specs.Prelude.{◌≡◌, ℕ};
+ghost use Rattle.kanal_core.specs.Line.{Line};
+ghost use Rattle.kanal_core.specs.declared.internal.outcome.Outcome.{Outcome};
+ghost use Rattle.kanal_history.specs.Calls.{IsToldOn, line_by};
+ghost use Rattle.kanal_history.specs.Words.{AreSound, Words};
+
+use crate::call::Call;
+use kanal_board::EntryOf;
+
+/// What is kept of the calls on a channel's line. It lies under the channel's lock, beside the core.
+pub trait History<T>: Drop {
+    /// What a caller has, and each call is lent: what it has seen of the calls, and which are its own.
+    type Pass: Drop;
+    /// What all who share the channel share of what is kept.
+    type Board: Drop;
+    /// What a pass has seen, for who is told of a settlement. No call is made by it: `append` takes a pass.
+    type Prefix: Drop;
+
+    /// What is kept led to this line.
+    ghost stands: { Self → Line T → Type 0 };
+
+    /// What passes tell of calls.
+    ghost words: { Words T Self.Pass };
+
+    /// What was seen has it that a call settled the ticket so.
+    ghost shows: { Self.Prefix → ℕ × Outcome T → Type 0 };
+
+    /// Keeps the call that the two values are the entry of, as a call of this pass.
+    fn append<X, Y, M: EntryOf<X, Y, Call<T>>>(
+        &mut self,
+        board: &Self::Board,
+        pass: &mut Self::Pass,
+        about: &X,
+        answer: &Y,
+    )
+        requires told { (l : Line _) × stands self.old l
+            × IsToldOn l (M.entry about.now answer.now) }
+        ensures stands { (l : Line _) → stands self.old l
+            → stands self.new (line_by (M.entry about.now answer.now) l) }
+        ensures made { words.makes pass.old pass.new (M.entry about.now answer.now) };
+
+    /// Shows the pass all that is kept.
+    fn show(&mut self, board: &Self::Board, pass: &mut Self::Pass)
+        ensures stands { (l : Line _) → stands self.old l → stands self.new l }
+        ensures looks { words.looks pass.old pass.new }
+        ensures ends { (l : Line _) → stands self.old l → words.ends pass.new l };
+
+    /// What the pass has seen.
+    fn prefix(board: &Self::Board, pass: &mut Self::Pass) -> Self::Prefix
+        ensures same { pass.new ≡ pass.old }
+        ensures settled { (pair : ℕ × Outcome _) → words.settled pass.old pair
+            → shows result pair };
+
+    /// The same once more.
+    fn again(board: &Self::Board, prefix: &mut Self::Prefix) -> Self::Prefix
+        ensures same { (pair : ℕ × Outcome _) → shows prefix.old pair → shows prefix.new pair }
+        ensures settled { (pair : ℕ × Outcome _) → shows prefix.old pair → shows result pair };
+
+    /// The pass learns what was seen, and makes no call.
+    fn learn(board: &Self::Board, pass: &mut Self::Pass, prefix: Self::Prefix)
+        ensures looks { words.looks pass.old pass.new }
+        ensures settled { (pair : ℕ × Outcome _) → shows prefix pair
+            → words.settled pass.new pair };
+
+    /// What passes tell of calls hangs together.
+    ghost sound: { AreSound words };
+}

@@ -1,0 +1,55 @@
+-- A send that doesn't wait gives its message back, or the message entered.
+use Rattle.std.proofs.Common.{◌≡◌, ◌≢◌, ◌==◌, true, Some, None, Ok, refl, sym, ap, ◌∙◌, inl, inr, subst}
+use Rattle.std.proofs.lemmas.Bool.{cases_Bool}
+use Rattle.kanal_core.specs.Line.{Line, has_place}
+use Rattle.kanal_events.specs.declared.event.Event.{Event}
+use Rattle.kanal_events.specs.declared.event.Event.TheVariants.{TrySend}
+use Rattle.kanal_events.specs.declared.event.Refusal.TheVariants.{Sealed, NoMemory}
+use Rattle.kanal_events.specs.declared.event.Reply.{Reply}
+use Rattle.kanal_events.specs.declared.event.Reply.TheVariants.{Yes, No, Refused}
+use Rattle.kanal_events.specs.Steps.{step}
+use Rattle.kanal_history.specs.declared.call.Call.{Call}
+use Rattle.kanal_history.specs.Makes.{IsAnswered}
+use Rattle.kanal_history.specs.Results.{back_by, entered_by}
+use Rattle.kanal_history.specs.Words.{Words}
+
+module _ {T : Type 0} where
+  -- the message entered and nothing comes back, or it comes back
+  abbrev pub Backs : T → Reply T → Type 0
+  Backs m reply = (entered_by reply ≡ Ok true → back_by reply ≡ None) × (entered_by reply ≢ Ok true → back_by reply ≡ Some m)
+
+  backs-yes : (m : T) → Backs m Yes
+  backs-yes m = ((λ _. refl), λ n. absurd (n refl))
+
+  backs-no : (m : T) → Backs m (No m)
+  backs-no m = ((λ e. absurd (cc)), λ _. refl)
+
+  backs-refused : (m : T) (reason : _) → Backs m (Refused reason (Some m))
+  backs-refused m reason = ((λ e. absurd (cc)), λ _. refl)
+
+  backs-step : (l : Line T) (m : T) → Backs m (step l (TrySend m)).reply
+  backs-step l m =
+      elim (cases_Bool (l.receivers == 0)) [
+        | inl a ↦ rw a (backs-refused m _)
+        | inr a ↦ elim (cases_Bool (l.senders == 0)) [
+          | inl b ↦ rw (a, b) (backs-refused m Sealed)
+          | inr b ↦ elim (cases_Bool (has_place l)) [
+            | inl c ↦ rw (a, b, c) (backs-yes m)
+            | inr c ↦ rw (a, b, c) (backs-no m)
+          ]
+        ]
+      ]
+
+  module _ {P : Type 0} (w : Words T P) (old new : P) (m : T) (reply : Reply T) (answered : IsAnswered w old new (TrySend m) reply) where
+    backs : Backs m reply
+    backs =
+        elim answered [
+          | inl r ↦ subst (Backs m) (sym (r.reads ∙ (ap (λ (c : Call T). c.reply) r.told.1 ∙ ap (λ (e : Event T). (step r.told.0 e).reply) r.asked))) (backs-step r.told.0 m)
+          | inr r ↦ subst (Backs m) (sym r.1) (backs-refused m NoMemory)
+        ]
+
+    pub sent_leaves : entered_by reply ≡ Ok true → back_by reply ≡ None
+    sent_leaves = backs.0
+
+    pub refused_stays : entered_by reply ≢ Ok true → back_by reply ≡ Some m
+    refused_stays = backs.1

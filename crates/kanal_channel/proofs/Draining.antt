@@ -1,0 +1,67 @@
+-- A drain: what it tells, and what it adds to a vector.
+use Rattle.std.proofs.Common.{◌≡◌, ℕ, ◌==◌, true, true≢false, List, [], ◌++◌, length, Result, Ok, Err, IfOk, IfErr, OnErr, false, refl, ap, sym, ◌∙◌, inl, inr, subst}
+use Rattle.std.proofs.lemmas.Bool.{cases_Bool}
+use Rattle.std.proofs.lemmas.List.{append-nil, length-map}
+use Rattle.kanal_core.specs.Line.{Line}
+use Rattle.kanal_events.specs.declared.event.Event.TheVariants.{Drain}
+use Rattle.kanal_events.specs.Steps.{is_no_memory, take_line}
+use Rattle.kanal_history.specs.declared.call.Call.{Call}
+use Rattle.kanal_events.specs.declared.made.Made.{Made}
+use Rattle.kanal_events.specs.declared.made.Made.TheVariants.{One, All, Shut, Drained as WasDrained}
+use Rattle.kanal_events.specs.Made.{drained_of, is_drained, reply_of}
+use Rattle.kanal_history.specs.Entries.{call_from}
+use Rattle.kanal_history.specs.Handles.{Drains}
+use Rattle.kanal_history.specs.Makes.{IsNoted}
+use Rattle.kanal_history.specs.Results.{drained_by}
+use Rattle.kanal_history.specs.Words.{Words}
+
+if-err : {A E : Type 0} (P : Type 0) (r : Result A E) → P → IfErr r (λ _. P)
+if-err P (Ok a) p = tt
+if-err P (Err e) p = p
+
+module _ {T : Type 0} where
+  -- the answer of a drain is the number of its messages
+  counted-line : (l : Line T) → IfOk (drained_by (take_line l).reply) (λ n. n ≡ length (take_line l).drained)
+  counted-line l =
+      elim (cases_Bool (l.receivers == 0)) [
+        | inl a ↦ rw a tt
+        | inr a ↦ rw a (sym (length-map l.line _))
+      ]
+
+module _ {T W : Type 0} where
+  none-drained : (made : Made T W) → is_no_memory (reply_of made) ≡ true → drained_of made ≡ []
+  none-drained (One reply settled) lacking = refl
+  none-drained (All reply ended) lacking = refl
+  none-drained (Shut closing) lacking = refl
+  none-drained (WasDrained count ended moved) lacking = absurd (true≢false (sym lacking))
+
+  -- a refused drain leaves the vector as it was
+  pub refused_holds : (before now : List T) (made : Made T W) → now ≡ before ++ drained_of made → IfErr (drained_by (reply_of made)) (λ _. now ≡ before)
+  refused_holds before now (One reply settled) moved = if-err (now ≡ before) _ (moved ∙ append-nil before)
+  refused_holds before now (All reply ended) moved = if-err (now ≡ before) _ (moved ∙ append-nil before)
+  refused_holds before now (Shut closing) moved = moved ∙ append-nil before
+  refused_holds before now (WasDrained count ended vectors) moved = tt
+
+  -- a refused drain leaves the vector's room as it was
+  pub refused_keeps_room : (before now : ℕ) (made : Made T W) → (is_drained made ≡ false → now ≡ before) → OnErr (drained_by (reply_of made)) (now ≡ before)
+  refused_keeps_room before now (One reply settled) keeps = if-err (now ≡ before) _ (keeps refl)
+  refused_keeps_room before now (All reply ended) keeps = if-err (now ≡ before) _ (keeps refl)
+  refused_keeps_room before now (Shut closing) keeps = keeps refl
+  refused_keeps_room before now (WasDrained count ended vectors) keeps = tt
+
+  -- a drain that was noted
+  pub noted_drains : {P : Type 0} (w : Words T P) (old new : P) (before now : List T) (made : Made T W)
+      → IsNoted w old new Drain made → now ≡ before ++ drained_of made → Drains w old new before now (drained_by (reply_of made))
+  noted_drains w old new before now made n moved =
+      elim (cases_Bool (is_no_memory (reply_of made))) [
+        | inl lacking ↦ let l = n.lacks lacking in inr (l.0, moved ∙ (ap (λ ms. before ++ ms) (none-drained made lacking) ∙ append-nil before), ap drained_by l.1)
+        | inr clear ↦
+            let m = n.stands clear in
+            inl (
+            record {
+              replied = record { call = call_from Drain made; made = m.0; asked = refl; reads = refl; told = m.1 };
+              moved = moved;
+              count = subst (λ (c : Call T). IfOk (drained_by c.reply) (λ k. k ≡ length c.drained)) (sym m.1.1) (counted-line m.1.0);
+            }
+            )
+      ]

@@ -1,0 +1,202 @@
+-- What passes tell of a call that was noted, one that waited, and one that began where the pass had looked.
+use Rattle.std.proofs.Common.{◌≡◌, ℕ, Bool, true, false, true≢false, Some, List, [], ◌∷◌, Result, Ok, Err, refl, ap, sym, ◌∙◌, inl, inr, subst}
+use Rattle.std.proofs.lemmas.Bool.{cases_Bool}
+use Rattle.kanal_core.specs.declared.internal.outcome.Outcome.{Outcome}
+use Rattle.kanal_core.specs.declared.error.ReceiveError.{ReceiveError}
+use Rattle.kanal_core.specs.declared.error.ReceiveError.TheVariants.{NoMemory as ReceiveNoMemory}
+use Rattle.kanal_core.specs.declared.error.SendError.{SendError}
+use Rattle.kanal_core.specs.declared.error.SendError.TheVariants.{NoMemory as SendNoMemory}
+use Rattle.kanal_events.specs.declared.event.Event.{Event}
+use Rattle.kanal_events.specs.declared.event.Event.TheVariants.{Send, TrySend, Recv, RecvLate, TryRecv, Drain, Withdraw, CloneTx, CloneRx, DropTx, DropRx, Seal, Close, Ask as Asks, Terminated}
+use Rattle.kanal_events.specs.declared.event.Reply.{Reply}
+use Rattle.kanal_events.specs.declared.event.Reply.TheVariants.{Waits}
+use Rattle.kanal_events.specs.Steps.{is_no_memory, no_memory}
+use Rattle.kanal_events.specs.Steps.{IsWait}
+use Rattle.kanal_history.specs.declared.call.Call.{Call}
+use Rattle.kanal_events.specs.declared.made.Made.{Made}
+use Rattle.kanal_core.specs.Line.{Line}
+use Rattle.kanal_history.specs.Calls.{IsIn, IsTold}
+use Rattle.kanal_events.specs.Made.{settled_of, reply_of}
+use Rattle.kanal_history.specs.Entries.{MayLack, entry, receipt, tried_entry, tried_receipt}
+use Rattle.kanal_history.specs.Words.{Words, AreSound, HaveSettled, HaveShown}
+use Rattle.kanal_channel.specs.declared.blocking.Begun.{Begun}
+use Rattle.kanal_channel.specs.declared.blocking.Begun.TheVariants.{Replied as BegunReplied, Waits as BegunWaits, Lacking as BegunLacking}
+use Rattle.kanal_channel.specs.Starts.{HasBegun}
+use Rattle.kanal_history.specs.Handles.{TriesToReceive, TriesToSend}
+use Rattle.kanal_history.specs.Makes.{Lacks, IsReplied, HasWaited, IsNoted, IsAnswered, HasReplied, Finishes, Comes, SeesWait}
+use Rattle.kanal_history.specs.Results.{received_after, received_by, sent_after, sent_by}
+
+module _ {T S : Type 0} where
+  -- what shows as much shows all
+  pub shown_again : (shows : S → ℕ × Outcome T → Type 0) (a b : S) → ((pair : ℕ × Outcome T) → shows a pair → shows b pair) → (pairs : List (ℕ × Outcome T)) → HaveShown shows a pairs → HaveShown shows b pairs
+  shown_again shows a b on [] have = tt
+  shown_again shows a b on (pair ∷ pairs) have = (on pair have.0, shown_again shows a b on pairs have.1)
+
+module _ {T P : Type 0} (w : Words T P) (sound : AreSound w) where
+  -- a pass has seen settled what its call settled
+  all-settled : (old new : P) (call : Call T) → w.makes old new call → (pairs : List (ℕ × Outcome T)) → ((pair : ℕ × Outcome T) → IsIn pair pairs → IsIn pair call.settled) → HaveSettled w new pairs
+  all-settled old new call m [] among = tt
+  all-settled old new call m (pair ∷ pairs) among =
+      (sound.makes_settled old new call m pair (among pair (inl refl)), all-settled old new call m pairs (λ p i. among p (inr i)))
+
+  pub noted_settled : {W : Type 0} (old new : P) (event : Event T) (made : Made T W) → IsNoted w old new event made → HaveSettled w new (settled_of made)
+  noted_settled old new event made n =
+      elim (cases_Bool (is_no_memory (reply_of made))) [
+        | inl lacking ↦ subst (HaveSettled w new) (sym (n.lacks lacking).2) tt
+        | inr clear ↦ all-settled old new _ (n.stands clear).0 (settled_of made) (λ p i. i)
+      ]
+
+  pub replied-from : {R : Type 0} (old mid new : P) (event : Event T) (read : Reply T → R) (answer : R) → w.looks old mid → IsReplied w mid new event read answer → IsReplied w old new event read answer
+  replied-from old mid new event read answer looks r =
+      record { call = r.call; made = sound.makes_on old mid new r.call looks r.made; asked = r.asked; reads = r.reads; told = r.told }
+
+  pub lacks-from : (old mid new : P) (event : Event T) → w.looks old mid → Lacks w mid new event → Lacks w old new event
+  lacks-from old mid new event looks r = record { looks = sound.looks_on old mid new looks r.looks; line = r.line; ends = r.ends; may = r.may }
+
+  pub waited-from : (old mid new : P) (event : Event T) (outcome : Outcome T) → w.looks old mid → HasWaited w mid new event outcome → HasWaited w old new event outcome
+  waited-from old mid new event outcome looks h =
+      record {
+        ticket = h.ticket;
+        mid = h.mid;
+        waits = replied-from old mid h.mid event (λ reply. reply) _ looks h.waits;
+        learns = h.learns;
+        settled = h.settled;
+      }
+
+  pub answered-from : (old mid new : P) (event : Event T) (reply : Reply T) → w.looks old mid → IsAnswered w mid new event reply → IsAnswered w old new event reply
+  answered-from old mid new event reply looks (inl r) = inl (replied-from old mid new event (λ x. x) reply looks r)
+  answered-from old mid new event reply looks (inr r) = inr (lacks-from old mid new event looks r.0, r.1)
+
+  -- a call that was noted where the pass had looked
+  pub noted_from : {W : Type 0} (old mid new : P) (event : Event T) (made : Made T W) → w.looks old mid → IsNoted w mid new event made → IsNoted w old new event made
+  noted_from old mid new event made looks n =
+      record {
+        stands = λ clear. let s = n.stands clear in (sound.makes_on old mid new _ looks s.0, s.1);
+        lacks = λ lacking. let l = n.lacks lacking in (lacks-from old mid new event looks l.0, l.1, l.2);
+      }
+
+  -- a call for which there was no memory, and that the pass has seen must wait
+  pub lacks_wait : (old new : P) (event : Event T) → w.looks old new → SeesWait w new event → Lacks w old new event
+  lacks_wait old new event looks sees = record { looks = looks; line = sees.line; ends = sees.ends; may = inr sees.must }
+
+  begun-on : {H B S : Type 0} (old mid new : P) (event : Event T) (begun : Begun T H P B S) → w.looks old mid → HasBegun w mid new event begun → HasBegun w old new event begun
+  begun-on old mid new event (BegunReplied reply) looks c = (answered-from old mid new event reply looks c.0, c.1)
+  begun-on old mid new event (BegunWaits ticket waiting) looks c = replied-from old mid new event (λ reply. reply) _ looks c
+  begun-on old mid new event (BegunLacking back) looks c = (c.0, lacks-from old mid new event looks c.1)
+
+  -- what the start of a wait came to that began where the pass had looked
+  pub begun_from : {H B S : Type 0} (old mid new : P) (event back : Event T) (begun : Begun T H P B S) → back ≡ event → w.looks old mid → HasBegun w mid new back begun → HasBegun w old new event begun
+  begun_from old mid new event back begun same looks c = subst (λ e. HasBegun w old new e begun) same (begun-on old mid new back begun looks c)
+
+module _ {T P : Type 0} (w : Words T P) where
+  -- what shows each settlement that a pass has seen shows all
+  pub all_shown : {S : Type 0} (shows : S → ℕ × Outcome T → Type 0) (a : P) (s : S) → ((pair : ℕ × Outcome T) → w.settled a pair → shows s pair) → (pairs : List (ℕ × Outcome T)) → HaveSettled w a pairs → HaveShown shows s pairs
+  all_shown shows a s on [] have = tt
+  all_shown shows a s on (pair ∷ pairs) have = (on pair have.0, all_shown shows a s on pairs have.1)
+
+  pub noted_answered : {W : Type 0} (old new : P) (event : Event T) (made : Made T W) → IsNoted w old new event made → IsAnswered w old new event (reply_of made)
+  noted_answered old new event made n =
+      elim (cases_Bool (is_no_memory (reply_of made))) [
+        | inl lacking ↦ let l = n.lacks lacking in inr (l.0, l.1)
+        | inr clear ↦ inl (record { call = _; made = (n.stands clear).0; asked = refl; reads = refl; told = (n.stands clear).1 })
+      ]
+
+  -- a call that was noted and doesn't wait, once those are told whose waits it settled
+  pub noted_replied : {W : Type 0} (old mid new : P) (event : Event T) (made : Made T W) (reply : Reply T)
+      → IsNoted w old mid event made → (IsWait (reply_of made) → ⊥) → new ≡ mid → reply ≡ reply_of made → HasReplied w old new event reply
+  noted_replied old mid new event made reply n clear same is =
+      let here : HasReplied w old mid event (reply_of made) = (noted_answered old mid event made n, clear) in
+      subst (λ pass. HasReplied w old pass event reply) (sym same) (subst (λ x. HasReplied w old mid event x) (sym is) here)
+
+  -- a call that was noted, and waits
+  pub noted_waits : {W : Type 0} (old new : P) (event : Event T) (made : Made T W) (ticket : ℕ)
+      → IsNoted w old new event made → reply_of made ≡ Waits ticket → IsReplied w old new event (λ reply. reply) (Waits ticket)
+  noted_waits old new event made ticket n is = let stands = n.stands (ap is_no_memory is) in record { call = _; made = stands.0; asked = refl; reads = sym is; told = stands.1 }
+
+  pub has_waited : (old mid new : P) (event : Event T) (ticket : ℕ) (outcome : Outcome T)
+      → IsReplied w old mid event (λ reply. reply) (Waits ticket) → w.looks mid new → w.settled new (ticket, outcome) → HasWaited w old new event outcome
+  has_waited old mid new event ticket outcome waits looks settled =
+      record { ticket = ticket; mid = mid; waits = waits; learns = looks; settled = settled }
+
+  -- the answer of a call that waits where it must, as its replies and outcomes read
+  pub finishes_replied : {R : Type 0} (old new : P) (event : Event T) (read : Reply T → R) (ended : Outcome T → R) (refused answer : R) (reply : Reply T)
+      → HasReplied w old new event reply → read (no_memory event) ≡ refused → answer ≡ read reply → Finishes w old new event read ended refused answer
+  finishes_replied old new event read ended refused answer reply (inl r, clear) none is =
+      inl (record { replied = record { call = r.call; made = r.made; asked = r.asked; reads = is ∙ ap read r.reads; told = r.told }; clear = subst (λ x. IsWait x → ⊥) r.reads clear })
+  finishes_replied old new event read ended refused answer reply (inr r, clear) none is = inr (inr (r.0, is ∙ (ap read r.1 ∙ none)))
+
+  -- and of one that never waits
+  pub comes_replied : {R : Type 0} (old new : P) (event : Event T) (read : Reply T → R) (refused answer : R) (reply : Reply T)
+      → IsAnswered w old new event reply → read (no_memory event) ≡ refused → answer ≡ read reply → Comes w old new event read refused answer
+  comes_replied old new event read refused answer reply (inl r) none is = inl (record { call = r.call; made = r.made; asked = r.asked; reads = is ∙ ap read r.reads; told = r.told })
+  comes_replied old new event read refused answer reply (inr r) none is = inr (r.0, is ∙ (ap read r.1 ∙ none))
+
+  -- the message entered
+  pub sent_at_once : (old new : P) (m : T) → w.makes old new (entry m) → IsTold (entry m) → Finishes w old new (Send m) sent_by sent_after (Err SendNoMemory) (Ok tt)
+  sent_at_once old new m made told = inl (record { replied = record { call = entry m; made = made; asked = refl; reads = refl; told = told }; clear = λ waits. waits })
+
+  -- the message was got
+  pub received_at_once : (old new : P) (m : T) → w.makes old new (receipt m) → IsTold (receipt m) → Finishes w old new Recv received_by received_after (Err ReceiveNoMemory) (Ok m)
+  received_at_once old new m made told = inl (record { replied = record { call = receipt m; made = made; asked = refl; reads = refl; told = told }; clear = λ waits. waits })
+
+  -- a send that goes on with what came back, and with the pass as it was
+  pub sent_from : (old mid new : P) (m back : T) (answer : Result (Unit {0}) SendError) → back ≡ m → mid ≡ old → Finishes w mid new (Send back) sent_by sent_after (Err SendNoMemory) answer → Finishes w old new (Send m) sent_by sent_after (Err SendNoMemory) answer
+  sent_from old mid new m back answer same stays f =
+      subst (λ (k : P). Finishes w k new (Send m) sent_by sent_after (Err SendNoMemory) answer) stays (subst (λ x. Finishes w mid new (Send x) sent_by sent_after (Err SendNoMemory) answer) same f)
+
+  -- the same of a receive
+  pub received_from : (old mid new : P) (answer : Result T ReceiveError) → mid ≡ old → Finishes w mid new Recv received_by received_after (Err ReceiveNoMemory) answer → Finishes w old new Recv received_by received_after (Err ReceiveNoMemory) answer
+  received_from old mid new answer stays f = subst (λ (k : P). Finishes w k new Recv received_by received_after (Err ReceiveNoMemory) answer) stays f
+
+  -- the same of a send and of a receive that don't wait
+  pub tried_at_once : (old new : P) (m : T) → w.makes old new (tried_entry m) → IsTold (tried_entry m) → TriesToSend w old new m (Ok true)
+  tried_at_once old new m made told = inl (record { call = tried_entry m; made = made; asked = refl; reads = refl; told = told })
+
+  pub asked_at_once : (old new : P) (m : T) → w.makes old new (tried_receipt m) → IsTold (tried_receipt m) → TriesToReceive w old new (Ok (Some m))
+  asked_at_once old new m made told = record { call = tried_receipt m; made = made; asked = refl; reads = refl; told = told }
+
+off : false ≡ true → ⊥
+off e = true≢false (sym e)
+
+module _ {T : Type 0} where
+  -- memory is never refused to a call of this event
+  abbrev pub is_free : Event T → Bool
+  is_free (Send m) = false
+  is_free (TrySend m) = false
+  is_free Recv = false
+  is_free Drain = false
+  is_free event = true
+
+  free-never : (l : Line T) (event : Event T) → is_free event ≡ true → MayLack l event → ⊥
+  free-never l (Send m) free may = off free
+  free-never l (TrySend m) free may = off free
+  free-never l Recv free may = off free
+  free-never l Drain free may = off free
+  free-never l RecvLate free (inl may) = may
+  free-never l RecvLate free (inr may) = may
+  free-never l TryRecv free (inl may) = may
+  free-never l TryRecv free (inr may) = may
+  free-never l (Withdraw t) free (inl may) = may
+  free-never l (Withdraw t) free (inr may) = may
+  free-never l CloneTx free (inl may) = may
+  free-never l CloneTx free (inr may) = may
+  free-never l CloneRx free (inl may) = may
+  free-never l CloneRx free (inr may) = may
+  free-never l DropTx free (inl may) = may
+  free-never l DropTx free (inr may) = may
+  free-never l DropRx free (inl may) = may
+  free-never l DropRx free (inr may) = may
+  free-never l Seal free (inl may) = may
+  free-never l Seal free (inr may) = may
+  free-never l Close free (inl may) = may
+  free-never l Close free (inr may) = may
+  free-never l (Asks side ask) free (inl may) = may
+  free-never l (Asks side ask) free (inr may) = may
+  free-never l Terminated free (inl may) = may
+  free-never l Terminated free (inr may) = may
+
+  -- the answer of a call to which memory is never refused
+  pub free_replied : {P R : Type 0} (w : Words T P) (old new : P) (event : Event T) (read : Reply T → R) (answer : R) (reply : Reply T)
+      → IsAnswered w old new event reply → is_free event ≡ true → answer ≡ read reply → IsReplied w old new event read answer
+  free_replied w old new event read answer reply (inl r) free is = record { call = r.call; made = r.made; asked = r.asked; reads = is ∙ ap read r.reads; told = r.told }
+  free_replied w old new event read answer reply (inr r) free is = absurd (free-never r.0.line event free r.0.may)

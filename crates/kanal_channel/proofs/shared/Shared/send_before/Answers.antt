@@ -1,0 +1,22 @@
+use Rattle.std.proofs.Common.{◌<◌, ◌^◌, refl, inl, subst}
+use Rattle.kanal_events.specs.declared.event.Event.TheVariants.{Send}
+use Rattle.kanal_history.specs.Results.{send_in_time}
+use Rattle.kanal_history.specs.Timed.{FinishesBy}
+use Rattle.kanal_channel.proofs.Ending.{finishes_by}
+use Rattle.kanal_channel.proofs.shared.Shared.send_before.Goals as goal
+
+-- the deadline is so long after the moment that the clock answered at first
+pub returns-clause-sent : goal.returns-clause-sent
+returns-clause-sent g c =
+    let w = g.H.History.words in
+    let answered = g.C.Clock.answers c.args.clock.now in
+    let old = c.args.pass.now in
+    let new = c.send_until.new.pass in
+    let event = Send c.args.message in
+    let result = c.sent_in_time.result in
+    let finishes = finishes_by w answered c.in-Some.deadline old new event send_in_time c.send_until.result result c.send_until.ensures.passed refl c.sent_in_time.ensures.answer in
+    let sum = c.in-Some.ensures.sum in (
+      c.now-moment.result,
+      c.now-moment.ensures.answered,
+      inl (subst (λ n. n < 2 ^ 64) sum.0 sum.1, subst (λ n. FinishesBy w answered n old new event send_in_time result) sum.0 finishes),
+    )

@@ -1,0 +1,12 @@
+use Rattle.std.proofs.Common.{Err, refl}
+use Rattle.kanal_core.specs.declared.error.SendError.TheVariants.{NoMemory}
+use Rattle.kanal_events.specs.declared.event.Event.TheVariants.{Send}
+use Rattle.kanal_history.specs.Results.{sent_after, sent_by}
+use Rattle.kanal_channel.proofs.Settling.{finishes_replied}
+use Rattle.kanal_channel.proofs.shared.Shared.send_held.Goals as goal
+
+pub returns-in-Replied : goal.returns-in-Replied
+returns-in-Replied g c =
+    record {
+      sent = finishes_replied g.H.History.words c.args.pass.now c.blocking.new.pass (Send c.args.message) sent_by sent_after (Err NoMemory) c.sent_by.result c.in-Replied.reply c.in-Replied.ensures.come refl c.sent_by.ensures;
+    }

@@ -1,0 +1,6 @@
+use Rattle.std.proofs.Common.{◌≤◌, length}
+use Rattle.kanal_channel.proofs.state.State.withdraw_left.Given as goal
+
+-- at most one is kept a round
+abbrev pub invariant-loop-count : goal.invariant-loop-count
+invariant-loop-count g l = length l.leavers ≤ l._count

@@ -1,0 +1,45 @@
+-- That a handle is counted, and that a future waits.
+use Rattle.std.specs.Prelude.{Bool, true, false, ℕ, Result, Ok, Err}
+use Rattle.logbook.specs.Pages.{Right, no_right, may_write, may_make, may_make_home}
+use Rattle.kanal_channel.specs.declared.counted.CountedReceiver.{CountedReceiver}
+use Rattle.kanal_channel.specs.declared.counted.CountedSender.{CountedSender}
+use Rattle.kanal_core.specs.declared.internal.outcome.Ticket.{Ticket}
+use Rattle.kanal_channel.specs.declared.counted.CountedWait.{CountedWait}
+use Rattle.kanal_channel.specs.declared.counted.GoneReceivers.{GoneReceivers}
+use Rattle.kanal_channel.specs.declared.counted.GoneSenders.{GoneSenders}
+
+-- the pen of which a token is made has a right
+abbrev pub has_right : Right → Bool
+has_right no_right = false
+has_right may_write = true
+has_right may_make = true
+has_right may_make_home = true
+
+-- whether the sender still has to be counted out
+abbrev pub has_sender : CountedSender → Bool
+has_sender counted = has_right counted.stands.nib.right
+
+-- whether the receiver still has to be counted out
+abbrev pub has_receiver : CountedReceiver → Bool
+has_receiver counted = has_right counted.stands.nib.right
+
+-- whether the wait still has to be counted out
+abbrev pub has_wait : CountedWait → Bool
+has_wait counted = has_right counted.stands.nib.right
+
+-- the ticket of the wait
+abbrev pub ticket_of : CountedWait → Ticket
+ticket_of counted = counted.ticket
+
+-- how many senders still have to be counted out
+abbrev pub gone_senders : GoneSenders → ℕ
+gone_senders gone = gone.count
+
+-- how many receivers still have to be counted out
+abbrev pub gone_receivers : GoneReceivers → ℕ
+gone_receivers gone = gone.count
+
+-- whether one more was counted, and why not
+abbrev pub whether_counted : {A E : Type 0} → Result A E → Result (Unit {0}) E
+whether_counted (Ok counted) = Ok tt
+whether_counted (Err error) = Err error

@@ -1,0 +1,275 @@
+//! What all calls on the line have in common: one step under the lock, and the wait of a call that must.
+//!
+//! Stands on the lock as a token, on what settles a wait and on how a blocked call waits. A call takes the
+//! lock, makes one step on the state, gives the lock back, and only then tells those whose waits it settled,
+//! and drops what it cleared.
+ghost use Rattle.std.specs.Prelude.{◌≡◌, true};
+ghost use Rattle.kanal_events.specs.Made.{is_plain, may_wait, reply_of, settled_of};
+ghost use Rattle.kanal_history.specs.Makes.{IsAnswered};
+ghost use Rattle.kanal_history.specs.Words.{HaveSettled, HaveShown};
+ghost use Rattle.kanal_channel.specs.Locks.{IsQuiet};
+ghost use Rattle.kanal_channel.specs.Starts.{HasBegun, HasCome, HasLooked};
+
+use crate::delivered::Delivered;
+use crate::seat::Seat;
+use crate::shared::{Left, Locked, Shared};
+use crate::state::Starting;
+use kanal_core::internal::{Outcome, Ticket};
+use kanal_events::event::{Event, Reply};
+use kanal_events::made::{Made, Tried};
+use kanal_history::History;
+use kanal_waits::{Waiting, pause_once};
+use std::sync::Wait;
+use std::thread;
+
+/// What a call came to that waits where it must.
+#[derive(Drop)]
+pub(crate) enum Came<T> {
+    /// It was answered at once.
+    Replied(Reply<T>),
+    /// It waited, and this became of the wait.
+    Settled(Outcome<T>),
+    /// It had to wait, and there was no memory for that. It comes back.
+    Lacking(Event<T>),
+}
+
+/// What one look came to, before a wait is begun.
+#[derive(Drop)]
+pub(crate) enum Looked<T> {
+    /// The call was answered at once.
+    Replied(Reply<T>),
+    /// It must wait, and comes back.
+    MustWait(Event<T>),
+}
+
+/// What the start of a wait came to.
+#[derive(Drop)]
+pub(crate) enum Begun<T, H: History<T>> {
+    /// The call was answered at once.
+    Replied(Reply<T>),
+    /// It waits, under this ticket.
+    Waits(Ticket, Waiting<Delivered<T, H>>),
+    /// There was no memory for the wait. The call comes back.
+    Lacking(Event<T>),
+}
+
+impl<T: Drop, H: History<T>> Shared<T, H> {
+    /// Tells those whose waits the call settled, and drops what it cleared. The lock is released.
+    ///
+    /// # Examples
+    /// ```text
+    /// locked.release();
+    /// let reply = shared.settle(&mut pass, made);
+    /// shared.look();
+    /// ```
+    pub fn settle(&self, pass: &mut H::Pass, made: Made<T, Seat<T, H>>) -> Reply<T>
+        requires seen { HaveSettled H.words pass.old (settled_of made) }
+        ensures reply { result ≡ reply_of made }
+        ensures same { pass.new ≡ pass.old }
+    {
+        let prefix = H::prefix(&self.board, pass);
+        self.hand_out(prefix, made)
+    }
+
+    /// Tells those whose waits a call settled, with what was seen of it, and drops what it cleared. The lock
+    /// is released.
+    pub(crate) fn hand_out(&self, prefix: H::Prefix, made: Made<T, Seat<T, H>>) -> Reply<T>
+        requires seen { HaveShown H.shows prefix (settled_of made) }
+        ensures reply { result ≡ reply_of made }
+    {
+        let mut prefix = prefix;
+        let mut made = made;
+        while let Some(owed) = made.next() {
+            owed.tell(H::again(&self.board, &mut prefix));
+        }
+        drop(prefix);
+        let (reply, cleared) = made.into_parts();
+        drop(cleared);
+        reply
+    }
+
+    /// Gives the lock back after a step of the caller's, tells those whose waits it settled, and looks for new
+    /// notices.
+    pub(crate) fn give_back(
+        &self,
+        locked: Locked<'_, T, H>,
+        pass: &mut H::Pass,
+        made: Made<T, Seat<T, H>>,
+    ) -> Reply<T>
+        requires quiet { IsQuiet locked }
+        requires seen { HaveSettled H.words pass.old (settled_of made) }
+        ensures reply { result ≡ reply_of made }
+        ensures same { pass.new ≡ pass.old }
+    {
+        locked.release();
+        let reply = self.settle(pass, made);
+        self.look();
+        reply
+    }
+
+    /// The same, of a lock that one try got: what the notices took out is told first.
+    ///
+    /// # Examples
+    /// ```text
+    /// let (mut locked, left) = shared.try_hold()?;
+    /// let made = locked.state.start(shared.board(), &mut pass, Event::Recv);
+    /// shared.give_back_left(locked, left, &mut pass, made)   answers  the reply
+    /// ```
+    pub fn give_back_left(
+        &self,
+        locked: Locked<'_, T, H>,
+        left: Left<T, H>,
+        pass: &mut H::Pass,
+        made: Made<T, Seat<T, H>>,
+    ) -> Reply<T>
+        requires quiet { IsQuiet locked }
+        requires seen { HaveSettled H.words pass.old (settled_of made) }
+        ensures reply { result ≡ reply_of made }
+        ensures same { pass.new ≡ pass.old }
+    {
+        locked.release();
+        self.tell_left(left);
+        let reply = self.settle(pass, made);
+        self.look();
+        reply
+    }
+
+    /// Makes a call that never waits for the other side.
+    pub(crate) fn call<R: Wait>(&self, rt: &R, pass: &mut H::Pass, event: Event<T>) -> Reply<T>
+        requires plain { is_plain event ≡ true }
+        ensures answered { IsAnswered H.words pass.old pass.new event result }
+    {
+        self.call_held(self.hold(rt), pass, event)
+    }
+
+    /// The same, under the lock that was got.
+    pub(crate) fn call_held(
+        &self,
+        locked: Locked<'_, T, H>,
+        pass: &mut H::Pass,
+        event: Event<T>,
+    ) -> Reply<T>
+        requires plain { is_plain event ≡ true }
+        requires quiet { IsQuiet locked }
+        ensures answered { IsAnswered H.words pass.old pass.new event result }
+    {
+        let mut locked = locked;
+        let made = locked.state.call(&self.board, pass, event);
+        self.give_back(locked, pass, made)
+    }
+
+    /// Makes a call that waits where it must, under the lock that was got, and gives the lock back.
+    #[cold]
+    pub(crate) fn blocking<R: Wait>(
+        &self,
+        rt: &R,
+        locked: Locked<'_, T, H>,
+        pass: &mut H::Pass,
+        event: Event<T>,
+    ) -> Came<T>
+        requires waits { may_wait event ≡ true }
+        requires quiet { IsQuiet locked }
+        ensures come { HasCome H.words pass.old pass.new event result }
+    {
+        match self.begin(rt, locked, pass, event) {
+            Begun::Replied(reply) => Came::Replied(reply),
+            Begun::Waits(ticket, waiting) => {
+                let delivered = waiting.outcome(rt, &self.policy);
+                Came::Settled(self.learn_of(rt, pass, delivered, ticket.number()))
+            },
+            Begun::Lacking(event) => Came::Lacking(event),
+        }
+    }
+
+    /// Makes a call under the lock that was got, starts its wait where it must, and gives the lock back. A
+    /// channel with a buffer looks once more after a pause before that, since the other side is often about
+    /// to make a place, or to bring a message.
+    pub(crate) fn begin<R: Wait>(
+        &self,
+        rt: &R,
+        locked: Locked<'_, T, H>,
+        pass: &mut H::Pass,
+        event: Event<T>,
+    ) -> Begun<T, H>
+        requires waits { may_wait event ≡ true }
+        requires quiet { IsQuiet locked }
+        ensures begun { HasBegun H.words pass.old pass.new event result }
+    {
+        if !self.has_buffer {
+            return self.begin_held(locked, pass, event);
+        }
+        match self.look_once(locked, pass, event) {
+            Looked::Replied(reply) => Begun::Replied(reply),
+            Looked::MustWait(event) => {
+                pause_once();
+                self.begin_held(self.hold(rt), pass, event)
+            },
+        }
+    }
+
+    /// Makes a call under the lock that was got, unless it must wait, and gives the lock back.
+    fn look_once(&self, locked: Locked<'_, T, H>, pass: &mut H::Pass, event: Event<T>) -> Looked<T>
+        requires waits { may_wait event ≡ true }
+        requires quiet { IsQuiet locked }
+        ensures looked { HasLooked H.words pass.old pass.new event result }
+    {
+        let mut locked = locked;
+        match locked.state.start(&self.board, pass, event) {
+            Tried::Told(made) => Looked::Replied(self.give_back(locked, pass, made)),
+            Tried::MustWait(event) => {
+                locked.give_back_quiet();
+                Looked::MustWait(event)
+            },
+        }
+    }
+
+    /// Makes a call under the lock that was got, starts its wait where it must, and gives the lock back.
+    fn begin_held(
+        &self,
+        locked: Locked<'_, T, H>,
+        pass: &mut H::Pass,
+        event: Event<T>,
+    ) -> Begun<T, H>
+        requires waits { may_wait event ≡ true }
+        requires quiet { IsQuiet locked }
+        ensures begun { HasBegun H.words pass.old pass.new event result }
+    {
+        let mut locked = locked;
+        match locked.state.begin(&self.board, pass, event, self.alloc) {
+            Starting::Made(made) => Begun::Replied(self.give_back(locked, pass, made)),
+            Starting::Waits(made, ticket, end) => {
+                let _reply = self.give_back(locked, pass, made);
+                Begun::Waits(ticket, Waiting::new(end))
+            },
+            Starting::Lacking(event) => {
+                locked.give_back_quiet();
+                Begun::Lacking(event)
+            },
+        }
+    }
+
+    /// Learns what became of the wait with the ticket.
+    ///
+    /// A cell is settled for its own ticket. No type ties the cell to the ticket, so the two are compared;
+    /// the call would never return if they differed, which no run has shown.
+    pub(crate) fn learn_of<R: Wait>(
+        &self,
+        rt: &R,
+        pass: &mut H::Pass,
+        delivered: Delivered<T, H>,
+        ticket: u64,
+    ) -> Outcome<T>
+        ensures looks { H.words.looks pass.old pass.new }
+        ensures settled { H.words.settled pass.new (ticket, result) }
+    {
+        if delivered.ticket() == ticket {
+            let (outcome, prefix) = delivered.into_parts();
+            H::learn(&self.board, pass, prefix);
+            return outcome;
+        }
+        for _ in rt.forever() {
+            thread::yield_now();
+        }
+        unreachable!()
+    }
+}

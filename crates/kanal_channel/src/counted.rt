@@ -1,0 +1,424 @@
+//! That a handle is counted, and that a future waits: tokens of no bytes, each of which has to be counted out.
+//!
+//! Stands on the kit's pen. The prover refuses to let one go. A sender's is counted out by evidence that its
+//! drop was made as a call of the cleanup pass, or into the notices of its own kind. Who takes the notices
+//! has the tokens again: each of those that left by notice is counted out by a call, or put back. Nothing
+//! else makes a token but a new channel and a call that counts one more.
+ghost use Rattle.std.specs.Prelude.{◌≡◌, ◌<◌, true, false, IfNone, IfSome};
+ghost use Rattle.kanal_core.specs.Tickets.{number_of};
+ghost use Rattle.kanal_core.specs.Channel.{line_of};
+ghost use Rattle.kanal_core.specs.Waiters.{IsPlaced};
+ghost use Rattle.kanal_events.specs.Made.{not_waiting};
+ghost use Rattle.kanal_events.specs.Steps.{Tells};
+ghost use Rattle.kanal_history.specs.Entries.{withdrawal};
+ghost use Rattle.kanal_history.specs.Makes.{IsNoted};
+ghost use Rattle.kanal_channel.specs.Counts.{gone_receivers, gone_senders, has_receiver, has_sender, has_wait, ticket_of};
+
+use crate::delivered::Delivered;
+use crate::seat::Core;
+use kanal_core::internal::{Ticket, Waiter};
+use kanal_events::event::Event;
+use kanal_events::made::Made;
+use kanal_history::History;
+use logbook::{Pen, Rule, Seen, Start};
+use std::snapshot::Snapshot;
+use std::sync::atomic::AtomicU64;
+use std::sync::atomic::Ordering::SeqCst;
+
+/// A rule that asks nothing.
+pub struct Any;
+
+impl Rule<u64, ()> for Any {
+    ghost use Rattle.std.specs.Prelude.{[]};
+    ghost use base.Fml.{ftrue};
+
+    ghost holds = { λ cells log. Unit {0} };
+
+    ghost first = { [] };
+
+    ghost hinted = { λ n log. Unit {0} };
+
+    ghost shows = { λ log. [] };
+
+    ghost keeps = { λ names log. ftrue };
+
+    ghost moves = { λ ask before after answer. Unit {0} };
+}
+
+/// What a token is made of: the kit's pen, which has no bytes and goes to other threads, and of which
+/// nothing is known here.
+type Stands = Pen;
+
+/// One more token.
+fn stands() -> Stands {
+    let (_seen, pen, _other) = Seen::<u64, (), Any>::open(Start::alone(), 0, 0);
+    pen
+}
+
+/// A sender that is counted.
+pub struct CountedSender {
+    stands: Stands,
+}
+
+/// A receiver that is counted.
+pub struct CountedReceiver {
+    stands: Stands,
+}
+
+impl Drop for CountedSender {
+    fn drop(self)
+        requires counted_out { has_sender self ≡ false }
+    {
+        let CountedSender { stands } = self;
+        drop(stands);
+    }
+}
+
+impl Drop for CountedReceiver {
+    fn drop(self)
+        requires counted_out { has_receiver self ≡ false }
+    {
+        let CountedReceiver { stands } = self;
+        drop(stands);
+    }
+}
+
+impl CountedSender {
+    /// One sender more.
+    pub(crate) fn new() -> Self {
+        CountedSender { stands: stands() }
+    }
+
+    /// Counts the sender out into the notices of its kind, which alone call this.
+    fn notice(self) {
+        let CountedSender { stands } = self;
+        drop(stands);
+    }
+
+    /// Counts the sender out: its drop was made by the cleanup pass.
+    pub(crate) fn count_out<T, W, H: History<T>>(
+        self,
+        before: &Snapshot<H::Pass>,
+        after: &H::Pass,
+        made: &Made<T, W>,
+    )
+        requires noted { IsNoted H.words before.now.value after.now Event.DropTx made.now }
+    {
+        let CountedSender { stands } = self;
+        let _ = before;
+        let _ = after;
+        let _ = made;
+        drop(stands);
+    }
+}
+
+impl CountedReceiver {
+    /// One receiver more.
+    pub(crate) fn new() -> Self {
+        CountedReceiver { stands: stands() }
+    }
+
+    /// Counts the receiver out into the notices of its kind, which alone call this.
+    fn notice(self) {
+        let CountedReceiver { stands } = self;
+        drop(stands);
+    }
+
+    /// Counts the receiver out: its drop was made by the cleanup pass.
+    pub(crate) fn count_out<T, W, H: History<T>>(
+        self,
+        before: &Snapshot<H::Pass>,
+        after: &H::Pass,
+        made: &Made<T, W>,
+    )
+        requires noted { IsNoted H.words before.now.value after.now Event.DropRx made.now }
+    {
+        let CountedReceiver { stands } = self;
+        let _ = before;
+        let _ = after;
+        let _ = made;
+        drop(stands);
+    }
+}
+
+/// That a future waits with this ticket. It is counted out by evidence that the cleanup pass took the wait
+/// back, that nobody waits with the ticket, or that the future was told what became of the wait; or into the
+/// notices of its kind.
+pub struct CountedWait {
+    ticket: Ticket,
+    stands: Stands,
+}
+
+impl Drop for CountedWait {
+    fn drop(self)
+        requires counted_out { has_wait self ≡ false }
+    {
+        let CountedWait { ticket: _, stands } = self;
+        drop(stands);
+    }
+}
+
+impl CountedWait {
+    /// One wait more.
+    pub fn new(ticket: Ticket) -> Self
+        ensures ticket { ticket_of result ≡ ticket }
+    {
+        CountedWait {
+            ticket,
+            stands: stands(),
+        }
+    }
+
+    /// The ticket.
+    pub fn ticket(&self) -> Ticket
+        ensures { result ≡ ticket_of self.now }
+    {
+        self.ticket
+    }
+
+    /// Counts the wait out into the notices of its kind, which alone call this.
+    fn notice(self) {
+        let CountedWait { ticket: _, stands } = self;
+        drop(stands);
+    }
+
+    /// Counts the wait out: the cleanup pass took it back.
+    pub(crate) fn taken_back<T, W, H: History<T>>(
+        self,
+        before: &Snapshot<H::Pass>,
+        after: &H::Pass,
+        waiter: &Waiter<T, W>,
+    )
+        requires made { H.words.makes before.now.value after.now
+            (withdrawal (number_of (ticket_of self)) waiter.now.message) }
+    {
+        let CountedWait { ticket: _, stands } = self;
+        let _ = before;
+        let _ = after;
+        let _ = waiter;
+        drop(stands);
+    }
+
+    /// Counts the wait out: a withdrawal of its ticket finds nobody.
+    pub(crate) fn missing<T, H: History<T>>(self, core: &Core<T, H>)
+        requires nobody { IsPlaced (ticket_of self) core.now.waiters → Tells (line_of core.now)
+            (Event.Withdraw (number_of (ticket_of self))) (not_waiting (line_of core.now)) }
+    {
+        let CountedWait { ticket: _, stands } = self;
+        let _ = core;
+        drop(stands);
+    }
+
+    /// Counts the wait out: this became of it, and the future was told.
+    pub fn told<T, H: History<T>>(self, delivered: &Delivered<T, H>)
+        requires told { delivered.now.0 ≡ number_of (ticket_of self) }
+    {
+        let CountedWait { ticket: _, stands } = self;
+        let _ = delivered;
+        drop(stands);
+    }
+}
+
+/// Senders that went away while the lock was held: each has to be counted out.
+pub(crate) struct GoneSenders {
+    count: u64,
+}
+
+impl Drop for GoneSenders {
+    fn drop(self)
+        requires none { gone_senders self ≡ 0 }
+    {
+        let GoneSenders { count: _count } = self;
+    }
+}
+
+impl GoneSenders {
+    /// The next of them, if there is one.
+    pub(crate) fn next(&mut self) -> Option<CountedSender>
+        ensures none { IfNone result (gone_senders self.new ≡ 0) }
+        ensures fewer { IfSome result (λ _. gone_senders self.new < gone_senders self.old) }
+    {
+        if self.count == 0 {
+            return None;
+        }
+        self.count -= 1;
+        Some(CountedSender::new())
+    }
+
+    /// How many there are.
+    fn into_count(self) -> u64 {
+        let GoneSenders { count } = self;
+        count
+    }
+}
+
+/// Receivers that went away while the lock was held: each has to be counted out.
+pub(crate) struct GoneReceivers {
+    count: u64,
+}
+
+impl Drop for GoneReceivers {
+    fn drop(self)
+        requires none { gone_receivers self ≡ 0 }
+    {
+        let GoneReceivers { count: _count } = self;
+    }
+}
+
+impl GoneReceivers {
+    /// The next of them, if there is one.
+    pub(crate) fn next(&mut self) -> Option<CountedReceiver>
+        ensures none { IfNone result (gone_receivers self.new ≡ 0) }
+        ensures fewer { IfSome result (λ _. gone_receivers self.new < gone_receivers self.old) }
+    {
+        if self.count == 0 {
+            return None;
+        }
+        self.count -= 1;
+        Some(CountedReceiver::new())
+    }
+
+    /// How many there are.
+    fn into_count(self) -> u64 {
+        let GoneReceivers { count } = self;
+        count
+    }
+}
+
+/// Waits that were left while the lock was held: they have to be sought and withdrawn.
+pub(crate) struct GoneWaits {
+    are_sought: bool,
+}
+
+impl Drop for GoneWaits {
+    fn drop(self)
+        requires sought { self.are_sought ≡ true }
+    {
+        let GoneWaits {
+            are_sought: _are_sought,
+        } = self;
+    }
+}
+
+impl GoneWaits {
+    /// They are sought, by who alone calls this.
+    pub(crate) fn seek(self) {
+        let GoneWaits {
+            are_sought: _are_sought,
+        } = self;
+    }
+}
+
+/// How many waits were left while the lock was held.
+#[derive(Drop)]
+pub(crate) struct WaitNotices {
+    count: AtomicU64,
+}
+
+impl WaitNotices {
+    /// None.
+    pub(crate) fn new() -> Self {
+        WaitNotices {
+            count: AtomicU64::new(0),
+        }
+    }
+
+    /// Counts the wait out into the notices.
+    pub(crate) fn add(&self, counted: CountedWait) {
+        counted.notice();
+        self.count.fetch_add(1, SeqCst);
+    }
+
+    /// How many there are.
+    pub(crate) fn count(&self) -> u64 {
+        self.count.load(SeqCst)
+    }
+
+    /// Takes all of them, if there are some.
+    pub(crate) fn take(&self) -> Option<GoneWaits> {
+        if emptied(&self.count) == 0 {
+            return None;
+        }
+        Some(GoneWaits { are_sought: false })
+    }
+}
+
+/// How many senders went away while the lock was held.
+#[derive(Drop)]
+pub(crate) struct SenderNotices {
+    count: AtomicU64,
+}
+
+/// How many receivers went away while the lock was held.
+#[derive(Drop)]
+pub(crate) struct ReceiverNotices {
+    count: AtomicU64,
+}
+
+/// Empties the counter, which is only written where it is not empty.
+pub(crate) fn emptied(counter: &AtomicU64) -> u64 {
+    if counter.load(SeqCst) == 0 {
+        return 0;
+    }
+    counter.swap(0, SeqCst)
+}
+
+impl SenderNotices {
+    /// None.
+    pub(crate) fn new() -> Self {
+        SenderNotices {
+            count: AtomicU64::new(0),
+        }
+    }
+
+    /// Counts the sender out into the notices.
+    pub(crate) fn add(&self, counted: CountedSender) {
+        counted.notice();
+        self.count.fetch_add(1, SeqCst);
+    }
+
+    /// Takes all of them.
+    pub(crate) fn take(&self) -> GoneSenders {
+        GoneSenders {
+            count: emptied(&self.count),
+        }
+    }
+
+    /// Puts back those that were not counted out.
+    pub(crate) fn put_back(&self, gone: GoneSenders) {
+        let count = gone.into_count();
+        if count > 0 {
+            self.count.fetch_add(count, SeqCst);
+        }
+    }
+}
+
+impl ReceiverNotices {
+    /// None.
+    pub(crate) fn new() -> Self {
+        ReceiverNotices {
+            count: AtomicU64::new(0),
+        }
+    }
+
+    /// Counts the receiver out into the notices.
+    pub(crate) fn add(&self, counted: CountedReceiver) {
+        counted.notice();
+        self.count.fetch_add(1, SeqCst);
+    }
+
+    /// Takes all of them.
+    pub(crate) fn take(&self) -> GoneReceivers {
+        GoneReceivers {
+            count: emptied(&self.count),
+        }
+    }
+
+    /// Puts back those that were not counted out.
+    pub(crate) fn put_back(&self, gone: GoneReceivers) {
+        let count = gone.into_count();
+        if count > 0 {
+            self.count.fetch_add(count, SeqCst);
+        }
+    }
+}

@@ -1,0 +1,223 @@
+//! Receiving: the calls of a pass by which a message leaves the line.
+//!
+//! Stands on `blocking` and `timed`. Each call here is one event, and its answer is what the reply reads as. A
+//! message leaves by itself where it can; only where it can't the longer ways are gone.
+ghost use Rattle.std.specs.Prelude.{◌≡◌, Err, IfErr, IsErrOf, OnErr};
+ghost use Rattle.std.specs.Duration.{as_nanos};
+ghost use Rattle.std.specs.Vec.{vec_capacity, vec_len};
+ghost use Rattle.kanal_history.specs.Handles.{Drains, Receives, ReceivesInTime, TriesToReceive, TriesToReceiveNow};
+ghost use Rattle.kanal_history.specs.Makes.{HasTooLittleRoom};
+ghost use Rattle.kanal_channel.specs.Deadlines.{HasPassed};
+ghost use Rattle.kanal_channel.specs.Locks.{IsQuiet};
+
+use crate::answers::{
+    asked_by, drained_by, received_after, received_by, received_in_time, timed_received_by,
+};
+use crate::blocking::Came;
+use crate::shared::{Locked, Shared};
+use crate::timed::Timed;
+use kanal_core::error::{ReceiveError, ReceiveErrorTimeout};
+use kanal_events::event::{Event, Reply};
+use kanal_history::History;
+use kanal_waits::{Clock, later};
+use std::sync::Wait;
+use std::time;
+use std::time::Duration;
+
+impl<T: Drop, H: History<T>> Shared<T, H> {
+    /// Receives a message, and waits where there is none.
+    ///
+    /// `Ok(message)` where it got the front of the line at once, or it waited and was given the message, of
+    /// which the pass has learnt then.
+    ///
+    /// # Errors
+    /// `Closed` where no receiver is left or the channel was closed while it waited, `SendClosed` where
+    /// there is no message and no sender is left, or the last was dropped while it waited, and `TooMany`
+    /// where the tickets are used up. `NoMemory` where memory was refused: the call is in no history then,
+    /// and the pass has seen that it had to wait.
+    ///
+    /// # Examples
+    /// ```text
+    /// shared.recv(&rt, &mut pass)   answers  Ok(7)   where 7 was sent
+    /// ```
+    #[inline]
+    pub fn recv<R: Wait>(&self, rt: &R, pass: &mut H::Pass) -> Result<T, ReceiveError>
+        ensures received { Receives H.words pass.old pass.new result }
+    {
+        let mut locked = self.hold(rt);
+        match locked.state.pop(&self.board, pass) {
+            Some(message) => {
+                locked.give_back_quiet();
+                Ok(message)
+            },
+            None => self.recv_held(rt, locked, pass),
+        }
+    }
+
+    /// The same, under the lock that was got, where no message left the buffer by itself.
+    #[cold]
+    fn recv_held<R: Wait>(
+        &self,
+        rt: &R,
+        locked: Locked<'_, T, H>,
+        pass: &mut H::Pass,
+    ) -> Result<T, ReceiveError>
+        requires quiet { IsQuiet locked }
+        ensures received { Receives H.words pass.old pass.new result }
+    {
+        match self.blocking(rt, locked, pass, Event::Recv) {
+            Came::Replied(reply) => received_by(reply),
+            Came::Settled(outcome) => received_after(outcome),
+            Came::Lacking(_event) => Err(ReceiveError::NoMemory),
+        }
+    }
+
+    /// Receives the front message, if there is one; `Ok(None)` says that there is none. It waits for the
+    /// lock alone.
+    ///
+    /// # Errors
+    /// `Closed` where no receiver is left, and `SendClosed` where there is no message and no sender.
+    ///
+    /// # Examples
+    /// ```text
+    /// shared.try_recv(&rt, &mut pass)   answers  Ok(None)   in a new channel
+    /// ```
+    #[inline]
+    pub fn try_recv<R: Wait>(&self, rt: &R, pass: &mut H::Pass) -> Result<Option<T>, ReceiveError>
+        ensures received { TriesToReceive H.words pass.old pass.new result }
+    {
+        let mut locked = self.hold(rt);
+        match locked.state.try_pop(&self.board, pass) {
+            Some(message) => {
+                locked.give_back_quiet();
+                Ok(Some(message))
+            },
+            None => self.try_recv_held(locked, pass),
+        }
+    }
+
+    /// The same, under the lock that was got, where no message left the buffer by itself.
+    #[cold]
+    #[tactic(auto, using(crate::proofs::Settling::free_replied))]
+    fn try_recv_held(
+        &self,
+        locked: Locked<'_, T, H>,
+        pass: &mut H::Pass,
+    ) -> Result<Option<T>, ReceiveError>
+        requires quiet { IsQuiet locked }
+        ensures received { TriesToReceive H.words pass.old pass.new result }
+    {
+        asked_by(self.call_held(locked, pass, Event::TryRecv))
+    }
+
+    /// Receives the front message, if there is one and the lock is free: it waits for nobody. `Ok(None)` says
+    /// that there is none, or that the lock was held and no call was made.
+    ///
+    /// # Errors
+    /// As `try_recv`.
+    ///
+    /// # Examples
+    /// ```text
+    /// shared.try_recv_realtime(&mut pass)   answers  Ok(Some(1))   where 1 was sent
+    /// ```
+    #[tactic(auto, using(crate::proofs::Settling::free_replied))]
+    pub fn try_recv_realtime(&self, pass: &mut H::Pass) -> Result<Option<T>, ReceiveError>
+        ensures received { TriesToReceiveNow H.words pass.old pass.new result }
+    {
+        let Some((mut locked, left)) = self.try_hold() else {
+            return Ok(None);
+        };
+        let made = locked.state.call(&self.board, pass, Event::TryRecv);
+        asked_by(self.give_back_left(locked, left, pass, made))
+    }
+
+    /// Receives a message, and waits where there is none, until the deadline, which is the clock's moment
+    /// now and the duration together. Where the clock stands past it when it is read again, only what is
+    /// there is received.
+    ///
+    /// `Ok(message)` where it got the front of the line at once, or it waited and was given the message, of
+    /// which the pass has learnt then.
+    ///
+    /// # Errors
+    /// As `recv`, and `Timeout` where it waited, the deadline came, and the wait was taken back: that is a
+    /// second call of the pass; or where the deadline had passed and no message was there, whoever sends.
+    /// `DeadlineOutOfRange` where the deadline is past the largest moment: the call is in no history then,
+    /// and the pass is as it was.
+    ///
+    /// # Examples
+    /// ```text
+    /// shared.recv_timeout(&rt, &mut pass, Duration::from_nanos(1), &clock)
+    ///     answers  Err(Timeout)   where nobody sends
+    /// ```
+    #[tactic(auto, using(crate::proofs::Settling::free_replied))]
+    pub fn recv_timeout<R: Wait + time::Clock, C: Clock>(
+        &self,
+        rt: &R,
+        pass: &mut H::Pass,
+        duration: Duration,
+        clock: &C,
+    ) -> Result<T, ReceiveErrorTimeout>
+        ensures received { ReceivesInTime H.words pass.old pass.new (C.answers clock.now)
+            (as_nanos duration) result }
+    {
+        let moment = clock.now();
+        let Some(deadline) = later(moment, duration) else {
+            return Err(ReceiveErrorTimeout::DeadlineOutOfRange);
+        };
+        let now = clock.now();
+        if now > deadline {
+            return timed_received_by(self.call(rt, pass, Event::RecvLate));
+        }
+        received_in_time(self.recv_until(rt, pass, clock, deadline))
+    }
+
+    /// Receives a message, and waits until the deadline where there is none.
+    fn recv_until<R: Wait + time::Clock, C: Clock>(
+        &self,
+        rt: &R,
+        pass: &mut H::Pass,
+        clock: &C,
+        deadline: u64,
+    ) -> Timed<T>
+        ensures passed { HasPassed H.words (C.answers clock.now) deadline pass.old pass.new
+            Event.Recv result }
+    {
+        let mut locked = self.hold(rt);
+        match locked.state.pop(&self.board, pass) {
+            Some(message) => {
+                locked.give_back_quiet();
+                Timed::Replied(Reply::Got(message))
+            },
+            None => self.timed(rt, locked, pass, Event::Recv, clock, deadline),
+        }
+    }
+
+    /// Moves all messages to the vector's end, those of waiting senders too, and answers how many they
+    /// were. What the vector had stays its beginning. It waits for the lock alone.
+    ///
+    /// # Errors
+    /// `Closed` where no receiver is left. `NoMemory` where the vector had too little room and there was no
+    /// memory for more: the call is in no history then, and the pass has seen that a line may refuse it so.
+    /// The vector holds what it held, and has the room that it had.
+    ///
+    /// # Examples
+    /// ```text
+    /// shared.drain_into(&rt, &mut pass, &mut messages)   answers  Ok(2)   where two messages were there
+    /// ```
+    pub fn drain_into<R: Wait>(
+        &self,
+        rt: &R,
+        pass: &mut H::Pass,
+        into: &mut Vec<T>,
+    ) -> Result<usize, ReceiveError>
+        ensures drained { Drains H.words pass.old pass.new into.old.items into.new.items result }
+        ensures refused { IfErr result (λ _. into.new.items ≡ into.old.items) }
+        ensures memory { IsErrOf result ReceiveError.NoMemory
+            → HasTooLittleRoom H.words pass.new (vec_len into.old) (vec_capacity into.old) }
+        ensures no_growth { OnErr result (vec_capacity into.new ≡ vec_capacity into.old) }
+    {
+        let mut locked = self.hold(rt);
+        let made = locked.state.drain(&self.board, pass, into);
+        drained_by(self.give_back(locked, pass, made))
+    }
+}

@@ -1,0 +1,129 @@
+//! What a waiter brings to the core: the end that settles its wait, and, for a task, a room of its own, in
+//! which its entry is kept when it leaves by notice.
+//!
+//! Stands on the settling end and on the kit's linked list. What leaves the core is told or let go only after
+//! the lock was released.
+ghost use Rattle.std.specs.Prelude.{◌≡◌, ◌<◌, ◌^◌, suc, length};
+ghost use Rattle.kanal_cell.specs.CellRule.{HasNotSettled};
+ghost use Rattle.kanal_cell.specs.CellEnds.{settle_view};
+ghost use Rattle.kanal_channel.specs.Renewing.{Swaps};
+
+mod room;
+
+use crate::delivered::{Delivered, Settler};
+use futures::task::Waker;
+use kanal_cell::signal::SettleEnd;
+use kanal_core::internal::{ChannelInternal, Outcome, Waiter};
+use kanal_events::made::Waits;
+use kanal_history::History;
+pub use room::{Leaver, Leavers, Room};
+use std::alloc::Global;
+use std::collections::LinkedList;
+
+/// The core of a channel whose waiters bring seats.
+pub type Core<T, H> = ChannelInternal<T, Seat<T, H>>;
+
+/// A waiter's end of its cell, with the room that keeps its entry when it leaves by notice.
+///
+/// A blocked call never leaves by notice, so the seat that it brings has no room, and asks for no memory.
+#[derive(Drop)]
+pub struct Seat<T, H: History<T>> {
+    settler: Settler<T, H>,
+    room: Option<Room<T, H>>,
+}
+
+impl<T: Drop, H: History<T>> Waits<T> for Seat<T, H> {
+    type Seen = H::Prefix;
+
+    ghost shows = { H.shows };
+
+    fn tell(self, ticket: u64, outcome: Outcome<T>, seen: H::Prefix)
+        requires seen { H.shows seen (ticket, outcome) }
+    {
+        let Seat { settler, room } = self;
+        settler.settle(Delivered::new(ticket, outcome, seen));
+        drop(room);
+    }
+}
+
+impl<T: Drop, H: History<T>> Room<T, H> {
+    /// Keeps the entry that left, in front of those that left before.
+    pub(crate) fn keep(self, waiter: Waiter<T, Seat<T, H>>, before: Leavers<T, H>) -> Leavers<T, H>
+        requires few { length before < 2 ^ 62 }
+        ensures one { length result ≡ suc (length before) }
+    {
+        let Room { mut place } = self;
+        let Waiter {
+            ticket: _,
+            message,
+            w,
+        } = waiter;
+        let Seat {
+            settler,
+            room: _room,
+        } = w;
+        let Some(free) = place.front_mut() else {
+            unreachable!()
+        };
+        *free = Some(Leaver { settler, message });
+        let mut before = before;
+        let Ok(()) = place.append(&mut before) else {
+            unreachable!()
+        };
+        place
+    }
+}
+
+impl<T: Drop, H: History<T>> Seat<T, H> {
+    /// The seat of a blocked call, over an end that has not settled.
+    pub(crate) fn of_call(end: SettleEnd<Delivered<T, H>>) -> Self
+        requires { HasNotSettled (settle_view end) }
+    {
+        Seat {
+            settler: Settler::new(end),
+            room: None,
+        }
+    }
+
+    /// The seat of a task, with the room for its entry; `None` where there is no memory for that.
+    ///
+    /// # Examples
+    /// ```text
+    /// let (waiting, settling) = signal::new(alloc).ok()?;
+    /// let seat = Seat::of_task(alloc, settling)?;
+    /// ```
+    pub fn of_task(alloc: Global, end: SettleEnd<Delivered<T, H>>) -> Option<Self>
+        requires { HasNotSettled (settle_view end) }
+    {
+        let mut place = LinkedList::new(alloc);
+        place.push_back(None).ok()?;
+        Some(Seat {
+            settler: Settler::new(end),
+            room: Some(Room { place }),
+        })
+    }
+
+    /// Swaps the waker that settling wakes for the spare one, if there is a spare.
+    ///
+    /// # Examples
+    /// ```text
+    /// seat.renew(&mut spare)   leaves in `spare` the waker that the seat had
+    /// ```
+    pub fn renew(&mut self, spare: &mut Option<Waker>)
+        ensures swapped { Swaps spare.old self.old self.new spare.new }
+    {
+        if let Some(waker) = spare.take() {
+            *spare = self.settler.set_waker(waker);
+        }
+    }
+
+    /// Takes the room, if it has one.
+    pub(crate) fn take_room(&mut self) -> Option<Room<T, H>> {
+        self.room.take()
+    }
+
+    /// Whether the waiter has left, and its entry has a room to be kept in.
+    pub(crate) fn is_left(&self) -> bool {
+        self.room.is_some() && self.settler.is_left()
+    }
+}

@@ -1,0 +1,25 @@
+//! Where the entry of a wait is kept that was left by notice, until the lock is released.
+//!
+//! Stands on the settling end and on the kit's linked list.
+ghost use Rattle.std.specs.Prelude.{◌≡◌, length};
+
+use crate::delivered::Settler;
+use kanal_history::History;
+use std::collections::LinkedList;
+
+/// Who left by notice: the end of its cell, and the message of its entry.
+#[derive(Drop)]
+pub struct Leaver<T, H: History<T>> {
+    pub(super) settler: Settler<T, H>,
+    pub(super) message: Option<T>,
+}
+
+/// Those who left by notice, the last of them first, each in the room that it brought.
+pub type Leavers<T, H> = LinkedList<Option<Leaver<T, H>>>;
+
+/// A list of one place, so that those who left are strung together with no memory asked for.
+#[derive(Drop)]
+pub struct Room<T, H: History<T>> {
+    pub(super) place: Leavers<T, H>,
+    ghost one_place: { length place ≡ 1 },
+}

@@ -1,0 +1,359 @@
+//! Sending: the calls of a pass by which a message enters the line.
+//!
+//! Stands on `blocking` and `timed`. Each call here is one event, and its answer is what the reply reads as. A
+//! message enters by itself where it can; only where it can't the longer ways are gone.
+ghost use Rattle.std.specs.Prelude.{◌≡◌, ◌≢◌, IfErr, IfSome, IsSome, None, Ok, true};
+ghost use Rattle.std.specs.Duration.{as_nanos};
+ghost use Rattle.kanal_history.specs.Handles.{Sends, SendsInTime, TriesToSend, TriesToSendNow};
+ghost use Rattle.kanal_history.specs.Makes.{Comes};
+ghost use Rattle.kanal_history.specs.Refusals.{StartedNoWait};
+ghost use Rattle.kanal_history.specs.Results.{entered_by};
+ghost use Rattle.kanal_channel.specs.Deadlines.{HasPassed};
+ghost use Rattle.kanal_channel.specs.Locks.{IsQuiet};
+
+use crate::answers::{restored, sent_after, sent_by, sent_in_time};
+use crate::blocking::Came;
+use crate::shared::{Locked, Shared};
+use crate::timed::Timed;
+use kanal_core::error::{SendError, SendErrorTimeout};
+use kanal_events::event::{Event, Reply};
+use kanal_history::History;
+use kanal_waits::{Clock, later};
+use std::sync::Wait;
+use std::time;
+use std::time::Duration;
+
+/// Takes the option's message, which the caller knows to be there.
+fn taken<T: Drop>(option: &mut Option<T>) -> T
+    requires { IsSome option.old }
+    ensures was { option.old ≡ Some result }
+    ensures emptied { option.new ≡ None }
+{
+    match option.take() {
+        Some(message) => message,
+        None => unreachable!(),
+    }
+}
+
+impl<T: Drop, H: History<T>> Shared<T, H> {
+    /// Sends the message, and waits where there is no place for it.
+    ///
+    /// `Ok(())` where it entered: at once, or it waited and was taken, of which the pass has learnt then.
+    ///
+    /// # Errors
+    /// `ReceiveClosed` where no receiver is left or the last was dropped while it waited, `Closed` where
+    /// no side is left or the channel was closed while it waited, `Sealed` where only no sender is left,
+    /// and `TooMany` where the tickets are used up. `NoMemory` where memory was refused: the call is in no
+    /// history then, and the pass has seen that a line may refuse it so, or that it had to wait. The
+    /// message is dropped.
+    ///
+    /// # Examples
+    /// ```text
+    /// shared.send(&rt, &mut pass, 7)   answers  Ok(())   in a channel with a place
+    /// ```
+    #[inline]
+    pub fn send<R: Wait>(&self, rt: &R, pass: &mut H::Pass, message: T) -> Result<(), SendError>
+        ensures sent { Sends H.words pass.old pass.new message result }
+    {
+        let mut locked = self.hold(rt);
+        match locked.state.push(&self.board, pass, message) {
+            Ok(()) => {
+                locked.give_back_quiet();
+                Ok(())
+            },
+            Err(message) => self.send_held(rt, locked, pass, message),
+        }
+    }
+
+    /// The same, under the lock that was got, where the message did not enter by itself.
+    #[cold]
+    fn send_held<R: Wait>(
+        &self,
+        rt: &R,
+        locked: Locked<'_, T, H>,
+        pass: &mut H::Pass,
+        message: T,
+    ) -> Result<(), SendError>
+        requires quiet { IsQuiet locked }
+        ensures sent { Sends H.words pass.old pass.new message result }
+    {
+        match self.blocking(rt, locked, pass, Event::Send(message)) {
+            Came::Replied(reply) => sent_by(reply),
+            Came::Settled(outcome) => sent_after(outcome),
+            Came::Lacking(_event) => Err(SendError::NoMemory),
+        }
+    }
+
+    /// Sends the message if it can enter at once; `Ok(false)` says that there is no place for it, and the
+    /// message is dropped. It waits for the lock alone.
+    ///
+    /// # Errors
+    /// `ReceiveClosed` where no receiver is left, `Closed` where no side is, `Sealed` where only no sender
+    /// is, and `NoMemory` where a buffer without limit can't grow: the call is in no history then, and the
+    /// pass has seen that a line may refuse it so. The message is dropped.
+    ///
+    /// # Examples
+    /// ```text
+    /// shared.try_send(&rt, &mut pass, 7)   answers  Ok(true)    in a new bounded channel for one
+    /// shared.try_send(&rt, &mut pass, 8)   answers  Ok(false)   after that
+    /// ```
+    pub fn try_send<R: Wait>(
+        &self,
+        rt: &R,
+        pass: &mut H::Pass,
+        message: T,
+    ) -> Result<bool, SendError>
+        ensures sent { TriesToSend H.words pass.old pass.new message result }
+    {
+        let mut back = None;
+        self.offer(rt, pass, message, &mut back)
+    }
+
+    /// Offers the message; one that comes back goes into the option.
+    #[inline]
+    fn offer<R: Wait>(
+        &self,
+        rt: &R,
+        pass: &mut H::Pass,
+        message: T,
+        back: &mut Option<T>,
+    ) -> Result<bool, SendError>
+        requires empty { back.old ≡ None }
+        ensures sent { TriesToSend H.words pass.old pass.new message result }
+        ensures entered { result ≡ Ok true → back.new ≡ None }
+        ensures kept { result ≢ Ok true → back.new ≡ Some message }
+    {
+        let mut locked = self.hold(rt);
+        match locked.state.try_push(&self.board, pass, message) {
+            Ok(()) => {
+                locked.give_back_quiet();
+                Ok(true)
+            },
+            Err(message) => self.offer_held(locked, pass, message, back),
+        }
+    }
+
+    /// The same, under the lock that was got, where the message did not enter by itself.
+    #[cold]
+    #[tactic(auto, using(crate::proofs::Settling::comes_replied, crate::proofs::Backs::sent_leaves, crate::proofs::Backs::refused_stays))]
+    fn offer_held(
+        &self,
+        locked: Locked<'_, T, H>,
+        pass: &mut H::Pass,
+        message: T,
+        back: &mut Option<T>,
+    ) -> Result<bool, SendError>
+        requires empty { back.old ≡ None }
+        requires quiet { IsQuiet locked }
+        ensures sent { TriesToSend H.words pass.old pass.new message result }
+        ensures entered { result ≡ Ok true → back.new ≡ None }
+        ensures kept { result ≢ Ok true → back.new ≡ Some message }
+    {
+        restored(self.call_held(locked, pass, Event::TrySend(message)), back)
+    }
+
+    /// Sends the option's message if it can enter at once, and empties the option exactly then. It waits
+    /// for the lock alone.
+    ///
+    /// The caller knows that the option holds a message.
+    ///
+    /// # Errors
+    /// As `try_send`. The option holds the same message then.
+    ///
+    /// # Examples
+    /// ```text
+    /// let mut option = Some(7);
+    /// shared.try_send_option(&rt, &mut pass, &mut option)   answers  Ok(false)   at capacity 0
+    /// option   is  Some(7)
+    /// ```
+    pub fn try_send_option<R: Wait>(
+        &self,
+        rt: &R,
+        pass: &mut H::Pass,
+        option: &mut Option<T>,
+    ) -> Result<bool, SendError>
+        requires { IsSome option.old }
+        ensures sends { IfSome option.old (λ m. TriesToSend H.words pass.old pass.new m result) }
+        ensures sent { result ≡ Ok true → option.new ≡ None }
+        ensures kept { result ≢ Ok true → option.new ≡ option.old }
+    {
+        let message = taken(option);
+        self.offer(rt, pass, message, option)
+    }
+
+    /// Sends the message if it can enter at once and the lock is free: it waits for nobody. `Ok(false)` says
+    /// that there is no place for it, or that the lock was held and no call was made; the message is dropped.
+    ///
+    /// # Errors
+    /// As `try_send`.
+    ///
+    /// # Examples
+    /// ```text
+    /// shared.try_send_realtime(&mut pass, 1)   answers  Ok(true)   in a new bounded channel for one
+    /// ```
+    pub fn try_send_realtime(&self, pass: &mut H::Pass, message: T) -> Result<bool, SendError>
+        ensures sent { TriesToSendNow H.words pass.old pass.new message result }
+    {
+        let mut back = None;
+        self.offer_now(pass, message, &mut back)
+    }
+
+    /// Offers the message where the lock is free; one that comes back goes into the option.
+    #[tactic(auto, using(crate::proofs::Settling::comes_replied, crate::proofs::Backs::sent_leaves, crate::proofs::Backs::refused_stays))]
+    fn offer_now(
+        &self,
+        pass: &mut H::Pass,
+        message: T,
+        back: &mut Option<T>,
+    ) -> Result<bool, SendError>
+        requires empty { back.old ≡ None }
+        ensures sent { TriesToSendNow H.words pass.old pass.new message result }
+        ensures entered { result ≡ Ok true → back.new ≡ None }
+        ensures kept { result ≢ Ok true → back.new ≡ Some message }
+    {
+        let Some((mut locked, left)) = self.try_hold() else {
+            *back = Some(message);
+            return Ok(false);
+        };
+        let made = locked
+            .state
+            .call(&self.board, pass, Event::TrySend(message));
+        restored(self.give_back_left(locked, left, pass, made), back)
+    }
+
+    /// Sends the option's message if it can enter at once and the lock is free, and empties the option exactly
+    /// then: it waits for nobody.
+    ///
+    /// The caller knows that the option holds a message.
+    ///
+    /// # Errors
+    /// As `try_send`. The option holds the same message then.
+    ///
+    /// # Examples
+    /// ```text
+    /// let mut option = Some(1);
+    /// shared.try_send_option_realtime(&mut pass, &mut option)   answers  Ok(true)   in a new bounded channel
+    /// option   is  None
+    /// ```
+    pub fn try_send_option_realtime(
+        &self,
+        pass: &mut H::Pass,
+        option: &mut Option<T>,
+    ) -> Result<bool, SendError>
+        requires { IsSome option.old }
+        ensures sends { IfSome option.old (λ m. TriesToSendNow H.words pass.old pass.new m result) }
+        ensures sent { result ≡ Ok true → option.new ≡ None }
+        ensures kept { result ≢ Ok true → option.new ≡ option.old }
+    {
+        let message = taken(option);
+        self.offer_now(pass, message, option)
+    }
+
+    /// Sends the message, and waits where there is no place for it, until the deadline, which is the
+    /// clock's moment now and the duration together.
+    ///
+    /// `Ok(())` where it entered: at once, or it waited and was taken, of which the pass has learnt then.
+    ///
+    /// # Errors
+    /// As `send`, and `Timeout` where it waited, the deadline came, and the wait was taken back: that is a
+    /// second call of the pass. `DeadlineOutOfRange` where the deadline is past the largest moment: the
+    /// call is in no history then, and the pass is as it was. The message is dropped.
+    ///
+    /// # Examples
+    /// ```text
+    /// shared.send_timeout(&rt, &mut pass, 7, Duration::from_nanos(1), &clock)
+    ///     answers  Err(Timeout)   where nobody receives at capacity 0
+    /// ```
+    pub fn send_timeout<R: Wait + time::Clock, C: Clock>(
+        &self,
+        rt: &R,
+        pass: &mut H::Pass,
+        message: T,
+        duration: Duration,
+        clock: &C,
+    ) -> Result<(), SendErrorTimeout>
+        ensures sent { SendsInTime H.words pass.old pass.new (C.answers clock.now)
+            (as_nanos duration) message result }
+    {
+        let mut back = None;
+        self.send_before(rt, pass, message, &mut back, duration, clock)
+    }
+
+    /// Sends the option's message as `send_timeout`, and empties the option exactly where it was sent.
+    ///
+    /// The caller knows that the option holds a message.
+    ///
+    /// # Errors
+    /// As `send_timeout`. The option holds the message then, but for a wait whose end kept it.
+    ///
+    /// # Examples
+    /// ```text
+    /// let mut option = Some(7);
+    /// shared.send_option_timeout(&rt, &mut pass, &mut option, Duration::from_nanos(1), &clock)
+    ///     answers  Err(Timeout)   in a full channel
+    /// option   is  Some(7)
+    /// ```
+    pub fn send_option_timeout<R: Wait + time::Clock, C: Clock>(
+        &self,
+        rt: &R,
+        pass: &mut H::Pass,
+        option: &mut Option<T>,
+        duration: Duration,
+        clock: &C,
+    ) -> Result<(), SendErrorTimeout>
+        requires { IsSome option.old }
+        ensures sends { IfSome option.old (λ m. SendsInTime H.words pass.old pass.new
+            (C.answers clock.now) (as_nanos duration) m result) }
+        ensures sent { result ≡ Ok tt → option.new ≡ None }
+        ensures kept { IfErr result (λ e. StartedNoWait e → option.new ≡ option.old) }
+    {
+        let message = taken(option);
+        self.send_before(rt, pass, message, option, duration, clock)
+    }
+
+    /// Sends the message until the deadline; one that comes back goes into the option.
+    fn send_before<R: Wait + time::Clock, C: Clock>(
+        &self,
+        rt: &R,
+        pass: &mut H::Pass,
+        message: T,
+        back: &mut Option<T>,
+        duration: Duration,
+        clock: &C,
+    ) -> Result<(), SendErrorTimeout>
+        requires empty { back.old ≡ None }
+        ensures sent { SendsInTime H.words pass.old pass.new (C.answers clock.now)
+            (as_nanos duration) message result }
+        ensures entered { result ≡ Ok tt → back.new ≡ None }
+        ensures kept { IfErr result (λ e. StartedNoWait e → back.new ≡ Some message) }
+    {
+        let moment = clock.now();
+        let Some(deadline) = later(moment, duration) else {
+            *back = Some(message);
+            return Err(SendErrorTimeout::DeadlineOutOfRange);
+        };
+        sent_in_time(self.send_until(rt, pass, message, clock, deadline), back)
+    }
+
+    /// Sends the message, and waits until the deadline where there is no place for it.
+    fn send_until<R: Wait + time::Clock, C: Clock>(
+        &self,
+        rt: &R,
+        pass: &mut H::Pass,
+        message: T,
+        clock: &C,
+        deadline: u64,
+    ) -> Timed<T>
+        ensures passed { HasPassed H.words (C.answers clock.now) deadline pass.old pass.new
+            (Event.Send message) result }
+    {
+        let mut locked = self.hold(rt);
+        match locked.state.push(&self.board, pass, message) {
+            Ok(()) => {
+                locked.give_back_quiet();
+                Timed::Replied(Reply::Sent)
+            },
+            Err(message) => self.timed(rt, locked, pass, Event::Send(message), clock, deadline),
+        }
+    }
+}

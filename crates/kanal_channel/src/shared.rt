@@ -1,0 +1,222 @@
+//! What the handles of a channel share: the lock round the core and its history, and the notices of those
+//! that may not wait for the lock.
+//!
+//! Stands on the lock and the state. A call takes the lock, makes one step, and gives the lock back; only then
+//! it tells those whose waits the step settled. A call that may not wait leaves a notice where the lock is
+//! held, which whoever gets the lock next applies. `locked` alone reads a notice's counter, and alone
+//! releases the lock.
+ghost use Rattle.std.specs.Prelude.{◌≡◌, IsErrOf};
+ghost use Rattle.kanal_core.specs.Channel.{line_of};
+
+mod locked;
+
+use crate::counted::{
+    CountedReceiver, CountedSender, CountedWait, ReceiverNotices, SenderNotices, WaitNotices,
+};
+use crate::seat::Core;
+use crate::state::State;
+use kanal_core::error::NewError;
+use kanal_core::mutex::Mutex;
+use kanal_history::History;
+use kanal_waits::WaitPolicy;
+pub use locked::{Left, Locked};
+use std::alloc::Global;
+use std::sync::Arc;
+use std::sync::atomic::AtomicU64;
+use std::sync::atomic::Ordering::SeqCst;
+
+/// A channel, as its handles share it: the lock round the core and its history, what the memory of a wait is
+/// asked of, whether a message may lie in a buffer, how blocked calls wait, and the notices.
+#[derive(Drop)]
+pub struct Shared<T, H: History<T>> {
+    pub(crate) board: H::Board,
+    pub(crate) state: Mutex<State<T, H>>,
+    pub(crate) alloc: Global,
+    pub(crate) has_buffer: bool,
+    pub(crate) policy: WaitPolicy,
+    notices: AtomicU64,
+    left: WaitNotices,
+    senders: SenderNotices,
+    receivers: ReceiverNotices,
+}
+
+/// A channel held twice, by its first sender and its first receiver, each of which is counted.
+pub type Halves<T, H> = (
+    (Arc<Shared<T, H>>, CountedSender),
+    (Arc<Shared<T, H>>, CountedReceiver),
+);
+
+impl<T: Drop, H: History<T>> Shared<T, H> {
+    /// A free lock round the core and what is kept of the calls that led to its line, with a pass for the
+    /// calls that are nobody's, and no notices. The memory of waits is asked of `alloc`.
+    ///
+    /// # Examples
+    /// ```text
+    /// let core = ChannelInternal::new(alloc, 1)?;
+    /// let shared = Shared::new(core, NoHistory, (), (), alloc);
+    /// ```
+    pub fn new(
+        core: Core<T, H>,
+        history: H,
+        cleanup: H::Pass,
+        board: H::Board,
+        alloc: Global,
+    ) -> Self
+        requires core { H.stands history (line_of core) }
+    {
+        let places = core.capacity();
+        Shared {
+            board,
+            state: Mutex::new(State::new(core, history, cleanup)),
+            alloc,
+            has_buffer: places > 0,
+            policy: WaitPolicy::new(places),
+            notices: AtomicU64::new(0),
+            left: WaitNotices::new(),
+            senders: SenderNotices::new(),
+            receivers: ReceiverNotices::new(),
+        }
+    }
+
+    /// The same, for handles: this alone makes the tokens of a channel's first sender and first receiver.
+    ///
+    /// # Errors
+    /// `NoMemory` where there is no memory for the channel.
+    ///
+    /// # Examples
+    /// ```text
+    /// let (one, other) = Shared::halves(core, NoHistory, (), (), alloc)?;
+    /// ```
+    pub fn halves(
+        core: Core<T, H>,
+        history: H,
+        cleanup: H::Pass,
+        board: H::Board,
+        alloc: Global,
+    ) -> Result<Halves<T, H>, NewError>
+        requires core { H.stands history (line_of core) }
+        ensures large { IsErrOf result NewError.TooLarge → ⊥ }
+    {
+        let shared = Shared::new(core, history, cleanup, board, alloc);
+        let Ok(one) = Arc::new(alloc, shared) else {
+            return Err(NewError::NoMemory);
+        };
+        let Ok(other) = Arc::try_clone(&one) else {
+            return Err(NewError::NoMemory);
+        };
+        Ok(((one, CountedSender::new()), (other, CountedReceiver::new())))
+    }
+
+    /// What all who share the channel share of what is kept of its calls.
+    ///
+    /// # Examples
+    /// ```text
+    /// let other = pass.again(shared.board());
+    /// ```
+    pub fn board(&self) -> &H::Board {
+        &self.board
+    }
+
+    /// What the memory of waits is asked of.
+    ///
+    /// # Examples
+    /// ```text
+    /// signal::new(shared.alloc())
+    /// ```
+    pub fn alloc(&self) -> Global {
+        self.alloc
+    }
+
+    /// Whether a message may lie in a buffer: at every capacity but 0.
+    ///
+    /// # Examples
+    /// ```text
+    /// shared.has_buffer()   answers  false   at capacity 0
+    /// ```
+    pub fn has_buffer(&self) -> bool {
+        self.has_buffer
+    }
+
+    /// How many waits were left while the lock was held, and not withdrawn yet. It waits for nobody.
+    ///
+    /// # Examples
+    /// ```text
+    /// shared.left_waits()   answers  1   after a future that waited was dropped while the lock was held
+    /// ```
+    #[doc(hidden)] // For tests of what stays in the line while the lock is held.
+    pub fn left_waits(&self) -> u64 {
+        self.left.count()
+    }
+
+    /// A sender goes away: it waits for nobody.
+    ///
+    /// # Examples
+    /// ```text
+    /// shared.drop_sender(counted);   the last one ends the receivers that wait
+    /// ```
+    pub fn drop_sender(&self, counted: CountedSender) {
+        match self.try_hold() {
+            Some((mut locked, left)) => {
+                let gone = locked.state.drop_sender(&self.board, counted);
+                locked.release_after();
+                self.tell_left(left);
+                self.tell(Some(gone));
+                self.look();
+            },
+            None => {
+                self.senders.add(counted);
+                self.notify();
+            },
+        }
+    }
+
+    /// A receiver goes away: it waits for nobody.
+    ///
+    /// # Examples
+    /// ```text
+    /// shared.drop_receiver(counted);   the last one ends the senders that wait
+    /// ```
+    pub fn drop_receiver(&self, counted: CountedReceiver) {
+        match self.try_hold() {
+            Some((mut locked, left)) => {
+                let gone = locked.state.drop_receiver(&self.board, counted);
+                locked.release_after();
+                self.tell_left(left);
+                self.tell(Some(gone));
+                self.look();
+            },
+            None => {
+                self.receivers.add(counted);
+                self.notify();
+            },
+        }
+    }
+
+    /// A future that waits goes away: it waits for nobody.
+    ///
+    /// # Examples
+    /// ```text
+    /// shared.leave(counted);   withdraws the wait, or leaves a notice where the lock is held
+    /// ```
+    pub fn leave(&self, counted: CountedWait) {
+        match self.try_hold() {
+            Some((mut locked, left)) => {
+                let found = locked.state.leave(&self.board, counted);
+                locked.release_after();
+                self.tell_left(left);
+                drop(found);
+                self.look();
+            },
+            None => {
+                self.left.add(counted);
+                self.notify();
+            },
+        }
+    }
+
+    /// Says that there is a notice, and looks whether the lock was released meanwhile.
+    fn notify(&self) {
+        self.notices.fetch_add(1, SeqCst);
+        self.look();
+    }
+}

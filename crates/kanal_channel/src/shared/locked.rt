@@ -1,0 +1,395 @@
+//! The lock of a channel as a token that has to be given back, and the notices that are applied under it.
+//!
+//! Stands on the lock, the state and the notices. Whoever gets the lock has all notices applied before its
+//! own step. A call that may wait for the lock then releases it where they took something out, tells that,
+//! and waits for the lock anew; one that may not makes its step at once. The way out releases the lock, tells
+//! what the notices took out and then who has to be told of the step, and looks for new notices. No other
+//! module releases the lock.
+ghost use Rattle.std.specs.Prelude.{◌≡◌, false, IfSome};
+ghost use Rattle.kanal_channel.specs.Locks.{IsQuiet, is_held, takes_nothing};
+
+use super::Shared;
+use crate::counted::emptied;
+use crate::seat::Leavers;
+use crate::state::{Gone, State};
+use kanal_history::History;
+use kanal_waits::pause;
+use std::snapshot::Snapshot;
+use std::sync::atomic::Ordering::SeqCst;
+use std::sync::{MutexGuard, Wait};
+use std::thread::Parker;
+use std::time::Duration;
+
+/// How often a call looks for notices after it released the lock.
+const LOOKS: u32 = 64;
+
+/// The first pause before a lock that is held is tried again, as a power of two of spins.
+const FIRST_PAUSE: u32 = 6;
+
+/// The last one before a nap, as a power of two of spins: each is twice as long as the one before.
+const LAST_PAUSE: u32 = 10;
+
+/// How often a call naps for the lock before it sleeps until the lock is released.
+const NAPS: u32 = 16;
+
+/// How long it naps at first, in nanoseconds; the system makes that some fifty thousand.
+const FIRST_NAP: u64 = 1_000;
+
+/// How long it naps each further time, in nanoseconds.
+const LATER_NAP: u64 = 20_000;
+
+/// The lock of a channel, which has to be given back: the prover refuses a call that lets it go.
+///
+/// While it is held no other call makes a step, and a drop leaves a notice.
+pub struct Locked<'a, T, H: History<T>> {
+    shared: &'a Shared<T, H>,
+    /// What the lock lends.
+    pub state: MutexGuard<'a, State<T, H>>,
+    cleanup: Snapshot<H::Pass>,
+    held: bool,
+}
+
+/// What applying the notices took out of the core. It has to be told.
+struct Taken<T, H: History<T>> {
+    gone: Option<Leavers<T, H>>,
+    senders: Option<Gone<T, H>>,
+    receivers: Option<Gone<T, H>>,
+}
+
+/// What the notices took out under a lock that one try got, if there were some. It goes back with
+/// that lock.
+pub struct Left<T, H: History<T>> {
+    taken: Option<Taken<T, H>>,
+}
+
+impl<T: Drop, H: History<T>> Drop for Left<T, H> {
+    fn drop(self)
+        requires nobody { takes_nothing self }
+    {
+        let Left { taken } = self;
+        match taken {
+            None => {},
+            Some(_taken) => unreachable!(),
+        }
+    }
+}
+
+impl<T: Drop, H: History<T>> Left<T, H> {
+    /// Of a lock under which there was no notice.
+    ///
+    /// # Examples
+    /// ```text
+    /// shared.tell_left(Left::nothing())   tells nobody
+    /// ```
+    pub fn nothing() -> Self
+        ensures nobody { takes_nothing result }
+    {
+        Left { taken: None }
+    }
+}
+
+impl<T: Drop, H: History<T>> Drop for Locked<'_, T, H> {
+    fn drop(self)
+        requires given_back { is_held self ≡ false }
+    {
+        self.release_after();
+    }
+}
+
+impl<T: Drop, H: History<T>> Locked<'_, T, H> {
+    /// Releases the lock after a step that settled no wait, and looks for new notices.
+    ///
+    /// # Examples
+    /// ```text
+    /// let mut locked = shared.hold(&rt);
+    /// locked.give_back_quiet();
+    /// ```
+    #[inline]
+    pub fn give_back_quiet(self)
+        requires quiet { IsQuiet self }
+    {
+        let shared = self.shared;
+        self.release();
+        if !shared.is_quiet() {
+            shared.look();
+        }
+    }
+
+    /// Releases the lock after a call of a caller's pass: the cleanup pass made none.
+    ///
+    /// # Examples
+    /// ```text
+    /// locked.release();
+    /// shared.look();
+    /// ```
+    #[inline]
+    pub fn release(self)
+        requires quiet { IsQuiet self }
+    {
+        self.release_after();
+    }
+
+    /// Releases the lock after a call of the cleanup pass.
+    #[inline]
+    pub(crate) fn release_after(self) {
+        let Locked {
+            shared: _,
+            state,
+            cleanup,
+            held: _,
+        } = self;
+        drop(cleanup);
+        drop(state);
+    }
+
+    /// Applies the notices under a lock that one try got. What they take out goes back with the lock.
+    ///
+    /// # Examples
+    /// ```text
+    /// let left = locked.take_left();
+    /// locked.release();
+    /// shared.tell_left(left);
+    /// ```
+    #[cold]
+    pub fn take_left(&mut self) -> Left<T, H>
+        ensures quiet { IsQuiet self.new }
+    {
+        let taken = self.shared.apply(&mut self.state);
+        self.cleanup = self.state.cleanup();
+        Left { taken }
+    }
+}
+
+impl<T: Drop, H: History<T>> Shared<T, H> {
+    /// Waits for the lock, with no notice left to apply.
+    ///
+    /// # Examples
+    /// ```text
+    /// let mut locked = shared.hold(&rt);
+    /// locked.give_back_quiet();
+    /// ```
+    #[inline]
+    pub fn hold<R: Wait>(&self, rt: &R) -> Locked<'_, T, H>
+        ensures quiet { IsQuiet result }
+    {
+        let state = self.guard(rt);
+        self.locked(state)
+    }
+
+    /// The guard of the lock, with no notice left to apply.
+    #[inline]
+    fn guard<R: Wait>(&self, rt: &R) -> MutexGuard<'_, State<T, H>> {
+        if let Some(state) = self.state.try_lock() {
+            if self.is_quiet() {
+                return state;
+            }
+            drop(state);
+        }
+        self.guard_anew(rt)
+    }
+
+    /// The same, where the lock was held or there are notices.
+    #[cold]
+    fn guard_anew<R: Wait>(&self, rt: &R) -> MutexGuard<'_, State<T, H>> {
+        for _ in rt.forever() {
+            let state = match self.state.try_lock() {
+                Some(state) => state,
+                None => self.contend(rt),
+            };
+            if self.is_quiet() {
+                return state;
+            }
+            if let Some(state) = self.catch_up(state) {
+                return state;
+            }
+        }
+        unreachable!()
+    }
+
+    /// Applies the notices. Where they take something out, the lock is released, and that is told.
+    #[cold]
+    fn catch_up<'a>(
+        &'a self,
+        state: MutexGuard<'a, State<T, H>>,
+    ) -> Option<MutexGuard<'a, State<T, H>>> {
+        let mut state = state;
+        let Some(taken) = self.apply(&mut state) else {
+            return Some(state);
+        };
+        drop(state);
+        self.tell_taken(taken);
+        None
+    }
+
+    /// Tries once to get the lock, and applies no notice; `None` where it is held.
+    ///
+    /// # Examples
+    /// ```text
+    /// shared.try_lock()   answers  None   while another has the lock
+    /// ```
+    #[inline]
+    pub fn try_lock(&self) -> Option<Locked<'_, T, H>>
+        ensures quiet { IfSome result IsQuiet }
+    {
+        let state = self.state.try_lock()?;
+        Some(self.locked(state))
+    }
+
+    /// The token of the lock that was got.
+    #[inline]
+    fn locked<'a>(&'a self, state: MutexGuard<'a, State<T, H>>) -> Locked<'a, T, H>
+        ensures quiet { IsQuiet result }
+    {
+        let cleanup = state.cleanup();
+        Locked {
+            shared: self,
+            state,
+            cleanup,
+            held: true,
+        }
+    }
+
+    /// Tries once to get the lock, and applies the notices; `None` where it is held.
+    ///
+    /// # Examples
+    /// ```text
+    /// let (mut locked, left) = shared.try_hold()?;
+    /// locked.release();
+    /// shared.tell_left(left);
+    /// ```
+    pub fn try_hold(&self) -> Option<(Locked<'_, T, H>, Left<T, H>)>
+        ensures quiet { IfSome result (λ held. IsQuiet held.0) }
+    {
+        let mut locked = self.try_lock()?;
+        let left = if self.is_quiet() {
+            Left::nothing()
+        } else {
+            locked.take_left()
+        };
+        Some((locked, left))
+    }
+
+    /// Waits for a lock that was held: with pauses between the tries, then with naps, and then asleep.
+    #[cold]
+    fn contend<R: Wait>(&self, rt: &R) -> MutexGuard<'_, State<T, H>> {
+        let napper = Parker::new();
+        let mut nap = FIRST_NAP;
+        for _ in 0..NAPS {
+            if let Some(state) = self.try_often() {
+                return state;
+            }
+            napper.park_timeout(rt, Duration::from_nanos(nap));
+            nap = LATER_NAP;
+        }
+        self.state.lock(rt)
+    }
+
+    /// Tries to get the lock, with growing pauses between.
+    fn try_often(&self) -> Option<MutexGuard<'_, State<T, H>>> {
+        for power in FIRST_PAUSE..=LAST_PAUSE {
+            pause(power);
+            if let Some(state) = self.state.try_lock() {
+                return Some(state);
+            }
+        }
+        None
+    }
+
+    /// Applies all notices: first those of left waits, then the senders', then the receivers'. That
+    /// there are some is forgotten before they are read: one that comes later is found later.
+    #[cold]
+    fn apply(&self, state: &mut State<T, H>) -> Option<Taken<T, H>> {
+        emptied(&self.notices);
+        let gone = match self.left.take() {
+            Some(waits) => Some(state.withdraw_left(&self.board, self.alloc, waits)),
+            None => None,
+        };
+        let (senders, rest) = state.drop_senders(&self.board, self.senders.take());
+        self.senders.put_back(rest);
+        let (receivers, rest) = state.drop_receivers(&self.board, self.receivers.take());
+        self.receivers.put_back(rest);
+        match (gone, senders, receivers) {
+            (None, None, None) => None,
+            (gone, senders, receivers) => Some(Taken {
+                gone,
+                senders,
+                receivers,
+            }),
+        }
+    }
+
+    /// Lets go of what left, and tells those whose waits ended. The lock is released.
+    ///
+    /// # Examples
+    /// ```text
+    /// shared.tell_left(left);   after `locked.release()`
+    /// ```
+    #[inline]
+    pub fn tell_left(&self, left: Left<T, H>) {
+        if let Some(taken) = left.into_taken() {
+            self.tell_taken(taken);
+        }
+    }
+
+    /// The same, where the notices took something out.
+    #[cold]
+    fn tell_taken(&self, taken: Taken<T, H>) {
+        let Taken {
+            gone,
+            senders,
+            receivers,
+        } = taken;
+        drop(gone);
+        self.tell(senders);
+        self.tell(receivers);
+    }
+
+    /// Tells those whose waits the drop of a last handle ended. The lock is released.
+    pub(crate) fn tell(&self, gone: Option<Gone<T, H>>) {
+        if let Some(gone) = gone {
+            let (made, prefix) = gone.into_parts();
+            let _reply = self.hand_out(prefix, made);
+        }
+    }
+
+    /// Whether there are no notices.
+    ///
+    /// # Examples
+    /// ```text
+    /// shared.is_quiet()   answers  false   after a handle was dropped while the lock was held
+    /// ```
+    #[inline]
+    pub fn is_quiet(&self) -> bool {
+        self.notices.load(SeqCst) == 0
+    }
+
+    /// Applies notices while there are some and the lock is free, and looks at most 64 times.
+    ///
+    /// # Examples
+    /// ```text
+    /// locked.release();
+    /// shared.look();
+    /// ```
+    #[cold]
+    pub fn look(&self) {
+        for _ in 0..LOOKS {
+            if self.is_quiet() {
+                return;
+            }
+            let Some((locked, left)) = self.try_hold() else {
+                return;
+            };
+            locked.release();
+            self.tell_left(left);
+        }
+    }
+}
+
+impl<T: Drop, H: History<T>> Left<T, H> {
+    /// What the notices took out, if they did.
+    #[inline]
+    fn into_taken(self) -> Option<Taken<T, H>> {
+        let Left { taken } = self;
+        taken
+    }
+}

@@ -1,0 +1,475 @@
+//! What lies under the lock: the core, and the history of the calls on its line.
+//!
+//! Stands on the one set of steps. Each call lends the core to one step and has the call that was made kept,
+//! before the lock is given back; a call that is refused for memory is not kept. Nothing else changes a core.
+ghost use Rattle.std.specs.Prelude.{◌≡◌, ◌↔◌, ◌==◌, ◌++◌, true, false, not, IsSome, IfErr, IfNone, IfSome, OnOk};
+ghost use Rattle.std.specs.Vec.{vec_capacity, vec_len};
+ghost use Rattle.kanal_core.specs.Channel.{line_of};
+ghost use Rattle.kanal_core.specs.Line.{Line, last_word};
+ghost use Rattle.kanal_core.specs.Tickets.{number_of};
+ghost use Rattle.kanal_events.specs.Steps.{Tells, is_no_memory};
+ghost use Rattle.kanal_events.specs.Made.{Keeps, MustWait, Tries, drained_of, entered, got, is_drained, is_plain, may_wait, reply_of, told_of, withdrawn};
+ghost use Rattle.kanal_history.specs.Calls.{IsTold};
+ghost use Rattle.kanal_history.specs.Entries.{entry, receipt, tried_entry, tried_receipt, withdrawal};
+ghost use Rattle.kanal_history.specs.Makes.{HasTooLittleRoom, IsNoted, IsTried};
+ghost use Rattle.kanal_cell.specs.CellRule.{MaySleep};
+ghost use Rattle.kanal_cell.specs.CellEnds.{wait_view};
+ghost use Rattle.kanal_core.specs.Waiters.{waiter_of};
+ghost use Rattle.kanal_events.specs.Steps.{IsWait};
+ghost use Rattle.kanal_channel.specs.Renewing.{Renews};
+ghost use Rattle.kanal_channel.specs.Starts.{HasStarted};
+
+mod leaving;
+
+use crate::delivered::Delivered;
+use crate::seat::{Core, Seat};
+use futures::task::Waker;
+use kanal_board::EntryOf;
+use kanal_cell::signal;
+use kanal_cell::signal::WaitEnd;
+use kanal_core::internal::{Ticket, Waiter};
+use kanal_events::event::{Event, Refusal};
+use kanal_events::made::{Kept, Made, Tried};
+use kanal_events::steps;
+use kanal_history::{Call, History};
+pub(crate) use leaving::Gone;
+use std::alloc::Global;
+use std::marker::Model;
+use std::snapshot::Snapshot;
+
+/// An event, as it was before it was made.
+type Asked<T> = Snapshot<Event<T>>;
+
+/// The entry of a call: what was asked, and what the step told.
+struct OfCall;
+
+impl<T, W> EntryOf<Asked<T>, Made<T, W>, Call<T>> for OfCall {
+    ghost use Rattle.kanal_history.specs.Entries.{call_from};
+
+    ghost entry = { λ event made. call_from event.value made };
+}
+
+/// The entry of a send that entered and settled nobody, by its message.
+struct OfEntry;
+
+impl<T> EntryOf<Snapshot<T>, (), Call<T>> for OfEntry {
+    ghost use Rattle.kanal_history.specs.Entries.{entry};
+
+    ghost entry = { λ message _. entry message.value };
+}
+
+/// The entry of a receive that got a message and settled nobody, by the message.
+struct OfReceipt;
+
+impl<T> EntryOf<T, (), Call<T>> for OfReceipt {
+    ghost use Rattle.kanal_history.specs.Entries.{receipt};
+
+    ghost entry = { λ message _. receipt message };
+}
+
+/// The entry of a send that doesn't wait, and that entered and settled nobody, by its message.
+struct OfTriedEntry;
+
+impl<T> EntryOf<Snapshot<T>, (), Call<T>> for OfTriedEntry {
+    ghost use Rattle.kanal_history.specs.Entries.{tried_entry};
+
+    ghost entry = { λ message _. tried_entry message.value };
+}
+
+/// The entry of a receive that doesn't wait, and that got a message and settled nobody, by the message.
+struct OfTriedReceipt;
+
+impl<T> EntryOf<T, (), Call<T>> for OfTriedReceipt {
+    ghost use Rattle.kanal_history.specs.Entries.{tried_receipt};
+
+    ghost entry = { λ message _. tried_receipt message };
+}
+
+/// The entry of a withdrawal: the ticket that was asked for, and the wait that left.
+struct OfWithdrawal;
+
+impl<T, W> EntryOf<Ticket, Waiter<T, W>, Call<T>> for OfWithdrawal {
+    ghost use Rattle.kanal_core.specs.Tickets.{number_of};
+    ghost use Rattle.kanal_history.specs.Entries.{withdrawal};
+
+    ghost entry = { λ ticket waiter. withdrawal (number_of ticket) waiter.message };
+}
+
+/// The core, the history of the calls on its line, and the pass by which the calls are made that are
+/// nobody's: of a handle that is gone, or of a wait that was left. Contracts see that pass, and the line.
+///
+/// Its type keeps that what is kept led to that line.
+#[derive(Drop)]
+pub struct State<T, H: History<T>> {
+    core: Core<T, H>,
+    history: H,
+    cleanup: H::Pass,
+}
+
+impl<T, H: History<T>> Model for State<T, H> {
+    ghost use Rattle.kanal_core.specs.Channel.{line_of};
+    ghost use Rattle.kanal_core.specs.Line.{Line};
+
+    ghost Value = { H.Pass × Line T };
+
+    ghost view = { λ s. (s.cleanup, line_of s.core) };
+
+    ghost invariant = { λ s. H.stands s.history (line_of s.core) };
+}
+
+/// What the start of a wait came to.
+pub(crate) enum Starting<T, H: History<T>> {
+    /// The call was made, and doesn't wait.
+    Made(Made<T, Seat<T, H>>),
+    /// The call was made, and waits under this ticket, at this end of its cell.
+    Waits(Made<T, Seat<T, H>>, Ticket, WaitEnd<Delivered<T, H>>),
+    /// There was no memory for the wait. The call comes back.
+    Lacking(Event<T>),
+}
+
+/// What a blocked call waits with: the end at which it is told, and the seat for the core. `None` where
+/// there is no memory for them.
+fn ends<T: Drop, H: History<T>>(alloc: Global) -> Option<(WaitEnd<Delivered<T, H>>, Seat<T, H>)>
+    ensures fresh { IfSome result (λ ends. MaySleep (wait_view ends.0)) }
+{
+    let (end, settling) = signal::new(alloc).ok()?;
+    Some((end, Seat::of_call(settling)))
+}
+
+/// The reply to a call that must wait, where the tickets are used up.
+fn too_many<T: Drop, H: History<T>>(core: &Core<T, H>, event: Event<T>) -> Made<T, Seat<T, H>>
+    requires waits { may_wait event ≡ true }
+    requires must { MustWait (line_of core.now) event }
+    requires used_up { core.now.next ≡ last_word }
+    ensures told { Tells (line_of core.now) event (told_of (line_of core.now) result) }
+    ensures clear { IsWait (reply_of result) → ⊥ }
+{
+    let _ = core;
+    Made::One(event.refused(Refusal::TooMany), None)
+}
+
+/// Swaps the waker of the wait with the ticket for the spare one, if there is a spare, and answers whether
+/// the ticket waits. The line stays.
+fn renew<T: Drop, H: History<T>>(
+    core: &mut Core<T, H>,
+    ticket: Ticket,
+    spare: &mut Option<Waker>,
+) -> bool
+    ensures line { line_of core.new ≡ line_of core.old }
+    ensures waits { (result ≡ true) ↔ IsSome (waiter_of ticket core.old.waiters) }
+    ensures renewed { Renews ticket spare.old core.old.waiters core.new.waiters spare.new }
+{
+    let Some(seat) = core.waiting(ticket) else {
+        return false;
+    };
+    seat.renew(spare);
+    true
+}
+
+/// Has the call that was made kept, and shows it to the pass; or shows what is kept, where there was no
+/// memory for the call.
+fn note<T: Drop, W: Drop, H: History<T>>(
+    history: &mut H,
+    board: &H::Board,
+    pass: &mut H::Pass,
+    asked: &Asked<T>,
+    made: &Made<T, W>,
+)
+    requires told { (old new : Line _) × H.stands history.old old
+        × Tells old asked.now.value (told_of new made.now) }
+    ensures stands { (old new : Line _) → H.stands history.old old
+        → Tells old asked.now.value (told_of new made.now) → H.stands history.new new }
+    ensures noted { IsNoted H.words pass.old pass.new asked.now.value made.now }
+    ensures ends { is_no_memory (reply_of made.now) ≡ true
+        → (l : Line _) → H.stands history.old l → H.words.ends pass.new l }
+{
+    if made.lacks_memory() {
+        history.show(board, pass);
+    } else {
+        history.append::<Asked<T>, Made<T, W>, OfCall>(board, pass, asked, made);
+    }
+}
+
+impl<T: Drop, H: History<T>> State<T, H> {
+    /// A core, and what is kept of the calls that led to its line.
+    pub(crate) fn new(core: Core<T, H>, history: H, cleanup: H::Pass) -> State<T, H>
+        requires core { H.stands history (line_of core) }
+    {
+        State {
+            core,
+            history,
+            cleanup,
+        }
+    }
+
+    /// Makes a call that never waits.
+    pub(crate) fn call(
+        &mut self,
+        board: &H::Board,
+        pass: &mut H::Pass,
+        event: Event<T>,
+    ) -> Made<T, Seat<T, H>>
+        requires plain { is_plain event ≡ true }
+        ensures noted { IsNoted H.words pass.old pass.new event result }
+        ensures step { Tells self.old.1 event (told_of self.new.1 result) }
+        ensures cleanup { self.new.0 ≡ self.old.0 }
+    {
+        let asked = Snapshot::of(&event);
+        let made = steps::make(&mut self.core, event);
+        note(&mut self.history, board, pass, &asked, &made);
+        made
+    }
+
+    /// Makes a send whose message enters where nobody waits; where it doesn't enter so nothing changes.
+    #[inline(always)]
+    pub fn push(&mut self, board: &H::Board, pass: &mut H::Pass, message: T) -> Result<(), T>
+        ensures made { OnOk result (H.words.makes pass.old pass.new (entry message)) }
+        ensures told { OnOk result (IsTold (entry message)) }
+        ensures refused { IfErr result (λ back. (back ≡ message) × (pass.new ≡ pass.old)) }
+        ensures step { OnOk result (Tells self.old.1 (Event.Send message) (entered self.new.1)) }
+        ensures same { IfErr result (λ _. self.new.1 ≡ self.old.1) }
+        ensures cleanup { self.new.0 ≡ self.old.0 }
+    {
+        let asked = Snapshot::of(&message);
+        steps::push(&mut self.core, message)?;
+        let history = &mut self.history;
+        history.append::<Snapshot<T>, (), OfEntry>(board, pass, &asked, &());
+        Ok(())
+    }
+
+    /// Makes a receive that gets its message where nobody waits; where it gets none so nothing changes.
+    #[inline(always)]
+    pub fn pop(&mut self, board: &H::Board, pass: &mut H::Pass) -> Option<T>
+        ensures made { IfSome result (λ m. H.words.makes pass.old pass.new (receipt m)) }
+        ensures told { IfSome result (λ m. IsTold (receipt m)) }
+        ensures refused { IfNone result (pass.new ≡ pass.old) }
+        ensures step { IfSome result (λ m. Tells self.old.1 Event.Recv (got m self.new.1)) }
+        ensures same { IfNone result (self.new.1 ≡ self.old.1) }
+        ensures cleanup { self.new.0 ≡ self.old.0 }
+    {
+        let message = steps::pop(&mut self.core)?;
+        let history = &mut self.history;
+        history.append::<T, (), OfReceipt>(board, pass, &message, &());
+        Some(message)
+    }
+
+    /// Makes the send of a call that doesn't wait, where the message enters and nobody waits; where it doesn't
+    /// enter so nothing changes.
+    #[inline(always)]
+    pub(crate) fn try_push(
+        &mut self,
+        board: &H::Board,
+        pass: &mut H::Pass,
+        message: T,
+    ) -> Result<(), T>
+        ensures made { OnOk result (H.words.makes pass.old pass.new (tried_entry message)) }
+        ensures told { OnOk result (IsTold (tried_entry message)) }
+        ensures refused { IfErr result (λ back. (back ≡ message) × (pass.new ≡ pass.old)) }
+        ensures cleanup { self.new.0 ≡ self.old.0 }
+    {
+        let asked = Snapshot::of(&message);
+        steps::push(&mut self.core, message)?;
+        let history = &mut self.history;
+        history.append::<Snapshot<T>, (), OfTriedEntry>(board, pass, &asked, &());
+        Ok(())
+    }
+
+    /// Makes the receive of a call that doesn't wait, where it gets its message and nobody waits; where it
+    /// gets none so nothing changes.
+    #[inline(always)]
+    pub(crate) fn try_pop(&mut self, board: &H::Board, pass: &mut H::Pass) -> Option<T>
+        ensures made { IfSome result (λ m. H.words.makes pass.old pass.new (tried_receipt m)) }
+        ensures told { IfSome result (λ m. IsTold (tried_receipt m)) }
+        ensures refused { IfNone result (pass.new ≡ pass.old) }
+        ensures cleanup { self.new.0 ≡ self.old.0 }
+    {
+        let message = steps::pop(&mut self.core)?;
+        let history = &mut self.history;
+        history.append::<T, (), OfTriedReceipt>(board, pass, &message, &());
+        Some(message)
+    }
+
+    /// Makes a send or a receive, unless it must wait: the pass has seen that it must then.
+    pub fn start(
+        &mut self,
+        board: &H::Board,
+        pass: &mut H::Pass,
+        event: Event<T>,
+    ) -> Tried<T, Seat<T, H>>
+        requires waits { may_wait event ≡ true }
+        ensures tried { IsTried H.words pass.old pass.new event result }
+        ensures step { Tries self.old.1 event result self.new.1 }
+        ensures cleanup { self.new.0 ≡ self.old.0 }
+    {
+        let asked = Snapshot::of(&event);
+        let tried = steps::start(&mut self.core, event);
+        match &tried {
+            Tried::Told(made) => note(&mut self.history, board, pass, &asked, made),
+            Tried::MustWait(_back) => self.history.show(board, pass),
+        }
+        tried
+    }
+
+    /// Whether there is a ticket for one more wait.
+    pub fn has_ticket(&self) -> bool
+        ensures { result ≡ not (self.now.1.next == last_word) }
+    {
+        self.core.has_ticket()
+    }
+
+    /// Refuses a call that must wait, since the tickets are used up. That is a call, too.
+    pub fn refuse(
+        &mut self,
+        board: &H::Board,
+        pass: &mut H::Pass,
+        event: Event<T>,
+    ) -> Made<T, Seat<T, H>>
+        requires waits { may_wait event ≡ true }
+        requires must { MustWait self.old.1 event }
+        requires used_up { self.old.1.next ≡ last_word }
+        ensures noted { IsNoted H.words pass.old pass.new event result }
+        ensures clear { IsWait (reply_of result) → ⊥ }
+        ensures step { Tells self.old.1 event (told_of self.new.1 result) }
+        ensures cleanup { self.new.0 ≡ self.old.0 }
+    {
+        let asked = Snapshot::of(&event);
+        let made = too_many(&self.core, event);
+        note(&mut self.history, board, pass, &asked, &made);
+        made
+    }
+
+    /// Makes a send or a receive, and starts its wait with the seat where it must.
+    pub fn wait(
+        &mut self,
+        board: &H::Board,
+        pass: &mut H::Pass,
+        event: Event<T>,
+        seat: Seat<T, H>,
+    ) -> (Made<T, Seat<T, H>>, Kept<Seat<T, H>>)
+        requires waits { may_wait event ≡ true }
+        ensures noted { IsNoted H.words pass.old pass.new event result.0 }
+        ensures kept { Keeps (reply_of result.0) result.1 }
+        ensures step { Tells self.old.1 event (told_of self.new.1 result.0) }
+        ensures cleanup { self.new.0 ≡ self.old.0 }
+    {
+        let asked = Snapshot::of(&event);
+        let (made, kept) = steps::make_waiting(&mut self.core, event, seat);
+        note(&mut self.history, board, pass, &asked, &made);
+        (made, kept)
+    }
+
+    /// Makes a send or a receive, and starts its wait where it must. The memory of a wait is asked for only
+    /// then, and after the ticket.
+    pub(crate) fn begin(
+        &mut self,
+        board: &H::Board,
+        pass: &mut H::Pass,
+        event: Event<T>,
+        alloc: Global,
+    ) -> Starting<T, H>
+        requires waits { may_wait event ≡ true }
+        ensures started { HasStarted H.words pass.old pass.new event result }
+        ensures cleanup { self.new.0 ≡ self.old.0 }
+    {
+        let event = match self.start(board, pass, event) {
+            Tried::Told(made) => return Starting::Made(made),
+            Tried::MustWait(event) => event,
+        };
+        if !self.has_ticket() {
+            return Starting::Made(self.refuse(board, pass, event));
+        }
+        let Some((end, seat)) = ends(alloc) else {
+            return Starting::Lacking(event);
+        };
+        let (made, kept) = self.wait(board, pass, event, seat);
+        match kept {
+            Kept::Ticket(ticket) => Starting::Waits(made, ticket, end),
+            Kept::Back(seat) => {
+                drop(seat);
+                Starting::Made(made)
+            },
+        }
+    }
+
+    /// Takes the wait with this ticket back, if it waits; where it doesn't, nothing changes.
+    pub(crate) fn withdraw(
+        &mut self,
+        board: &H::Board,
+        pass: &mut H::Pass,
+        ticket: Ticket,
+    ) -> Option<Waiter<T, Seat<T, H>>>
+        ensures made { IfSome result (λ w. H.words.makes pass.old pass.new
+            (withdrawal (number_of ticket) w.message)) }
+        ensures told { IfSome result (λ w. IsTold (withdrawal (number_of ticket) w.message)) }
+        ensures refused { IfNone result (pass.new ≡ pass.old) }
+        ensures step { IfSome result (λ w. Tells self.old.1 (Event.Withdraw (number_of ticket))
+            (withdrawn self.new.1 w.message)) }
+        ensures same { IfNone result (self.new.1 ≡ self.old.1) }
+        ensures cleanup { self.new.0 ≡ self.old.0 }
+    {
+        let waiter = steps::withdraw(&mut self.core, ticket)?;
+        let history = &mut self.history;
+        history.append::<Ticket, Waiter<T, Seat<T, H>>, OfWithdrawal>(
+            board, pass, &ticket, &waiter,
+        );
+        Some(waiter)
+    }
+
+    /// Moves the whole line to the vector's end.
+    pub(crate) fn drain(
+        &mut self,
+        board: &H::Board,
+        pass: &mut H::Pass,
+        into: &mut Vec<T>,
+    ) -> Made<T, Seat<T, H>>
+        ensures noted { IsNoted H.words pass.old pass.new Event.Drain result }
+        ensures moved { into.new.items ≡ into.old.items ++ drained_of result }
+        ensures memory { is_no_memory (reply_of result) ≡ true
+            → HasTooLittleRoom H.words pass.new (vec_len into.old) (vec_capacity into.old) }
+        ensures no_growth { is_drained result ≡ false
+            → vec_capacity into.new ≡ vec_capacity into.old }
+        ensures step { Tells self.old.1 Event.Drain (told_of self.new.1 result) }
+        ensures cleanup { self.new.0 ≡ self.old.0 }
+    {
+        let asked = Snapshot::of(&Event::Drain);
+        let made = steps::drain(&mut self.core, into);
+        note(&mut self.history, board, pass, &asked, &made);
+        made
+    }
+
+    /// How many senders and how many receivers there are.
+    ///
+    /// # Examples
+    /// ```text
+    /// locked.state.counts()   answers  (1, 1)   for a new channel
+    /// ```
+    #[doc(hidden)] // The tests of the held lock look at the core.
+    pub fn counts(&self) -> (u32, u32) {
+        (self.core.sender_count(), self.core.receiver_count())
+    }
+
+    /// Whether a call waits, or a future.
+    ///
+    /// # Examples
+    /// ```text
+    /// locked.state.somebody_waits()   answers  false   in a new channel
+    /// ```
+    #[doc(hidden)] // The tests of the held lock wait until a call has begun to wait.
+    pub fn somebody_waits(&self) -> bool {
+        self.core.first_waiter(|_| true).is_some()
+    }
+
+    /// Swaps the waker of the wait with the ticket for the spare one, if there is a spare; whether the
+    /// ticket waits.
+    ///
+    /// # Examples
+    /// ```text
+    /// locked.state.renew(ticket, &mut spare)   answers  true   while the ticket waits
+    /// ```
+    pub fn renew(&mut self, ticket: Ticket, spare: &mut Option<Waker>) -> bool
+        ensures line { self.new.1 ≡ self.old.1 }
+        ensures cleanup { self.new.0 ≡ self.old.0 }
+    {
+        renew(&mut self.core, ticket, spare)
+    }
+}

@@ -1,0 +1,242 @@
+//! The calls that are nobody's: of a handle that is gone, and of a wait that was left.
+//!
+//! Stands on the state and on the tokens of `counted`. They are made by the cleanup pass, and only here: what
+//! a handle's drop or a notice counts out, it counts out by such a call.
+ghost use Rattle.std.specs.Prelude.{◌≡◌, IfNone, IfSome, true};
+ghost use Rattle.kanal_core.specs.Channel.{line_of};
+ghost use Rattle.kanal_core.specs.Tickets.{number_of};
+ghost use Rattle.kanal_events.specs.Steps.{Tells};
+ghost use Rattle.kanal_events.specs.Made.{is_plain, settled_of, told_of, withdrawn};
+ghost use Rattle.kanal_history.specs.Makes.{IsNoted};
+ghost use Rattle.kanal_history.specs.Words.{HaveShown};
+
+use super::{Asked, OfCall, OfWithdrawal, State, note};
+use crate::counted::{
+    CountedReceiver, CountedSender, CountedWait, GoneReceivers, GoneSenders, GoneWaits,
+};
+use crate::seat::{Core, Leavers, Room, Seat};
+use kanal_core::internal::{Ticket, Waiter};
+use kanal_events::event::Event;
+use kanal_events::made::Made;
+use kanal_events::steps;
+use kanal_history::History;
+use std::alloc::Global;
+use std::collections::LinkedList;
+use std::marker::Model;
+use std::snapshot::Snapshot;
+
+/// How many waits that were left are withdrawn at most at once: more are never there.
+const MOST: u64 = 1 << 62;
+
+/// What the drop of a last handle ended, with what the cleanup pass has seen of it. It has to be told.
+pub(crate) struct Gone<T, H: History<T>> {
+    made: Made<T, Seat<T, H>>,
+    prefix: H::Prefix,
+}
+
+impl<T, H: History<T>> Model for Gone<T, H> {
+    ghost use Rattle.kanal_events.specs.Made.{settled_of};
+    ghost use Rattle.kanal_history.specs.Words.{HaveShown};
+
+    ghost Value = { Unit {0} };
+
+    ghost view = { λ _. tt };
+
+    ghost invariant = { λ g. HaveShown H.shows g.prefix (settled_of g.made) };
+}
+
+impl<T: Drop, H: History<T>> Gone<T, H> {
+    /// What was made, and what was seen of it.
+    pub(crate) fn into_parts(self) -> (Made<T, Seat<T, H>>, H::Prefix)
+        ensures seen { HaveShown H.shows result.1 (settled_of result.0) }
+    {
+        let Gone { made, prefix } = self;
+        (made, prefix)
+    }
+}
+
+/// Takes the room out of the seat that waits with the ticket. The line stays.
+fn take_room<T: Drop, H: History<T>>(core: &mut Core<T, H>, ticket: Ticket) -> Option<Room<T, H>>
+    ensures line { line_of core.new ≡ line_of core.old }
+{
+    core.waiting(ticket)?.take_room()
+}
+
+impl<T: Drop, H: History<T>> State<T, H> {
+    /// Makes a call of nobody's that never waits, and answers what the cleanup pass has seen then.
+    fn by_cleanup(&mut self, board: &H::Board, event: Event<T>) -> (Made<T, Seat<T, H>>, H::Prefix)
+        requires plain { is_plain event ≡ true }
+        ensures noted { IsNoted H.words self.old.0 self.new.0 event result.0 }
+        ensures told { Tells self.old.1 event (told_of self.new.1 result.0) }
+        ensures seen { HaveShown H.shows result.1 (settled_of result.0) }
+    {
+        let asked = Snapshot::of(&event);
+        let made = steps::make(&mut self.core, event);
+        note(&mut self.history, board, &mut self.cleanup, &asked, &made);
+        let prefix = H::prefix(board, &mut self.cleanup);
+        (made, prefix)
+    }
+
+    /// Takes the wait with this ticket back, if it waits, as a call of nobody's.
+    fn withdraw_by_cleanup(
+        &mut self,
+        board: &H::Board,
+        ticket: Ticket,
+    ) -> Option<Waiter<T, Seat<T, H>>>
+        ensures step { IfSome result (λ w. Tells self.old.1 (Event.Withdraw (number_of ticket))
+            (withdrawn self.new.1 w.message)) }
+        ensures same { IfNone result (self.new ≡ self.old) }
+    {
+        let waiter = steps::withdraw(&mut self.core, ticket)?;
+        let history = &mut self.history;
+        history.append::<Ticket, Waiter<T, Seat<T, H>>, OfWithdrawal>(
+            board,
+            &mut self.cleanup,
+            &ticket,
+            &waiter,
+        );
+        Some(waiter)
+    }
+
+    /// Takes this wait back, if it still waits, as a call of nobody's.
+    pub(crate) fn leave(
+        &mut self,
+        board: &H::Board,
+        counted: CountedWait,
+    ) -> Option<Waiter<T, Seat<T, H>>> {
+        let ticket = counted.ticket();
+        let Some(waiter) = steps::withdraw(&mut self.core, ticket) else {
+            counted.missing::<T, H>(&self.core);
+            return None;
+        };
+        let before = Snapshot::of(&self.cleanup);
+        let history = &mut self.history;
+        history.append::<Ticket, Waiter<T, Seat<T, H>>, OfWithdrawal>(
+            board,
+            &mut self.cleanup,
+            &ticket,
+            &waiter,
+        );
+        counted.taken_back::<T, Seat<T, H>, H>(&before, &self.cleanup, &waiter);
+        Some(waiter)
+    }
+
+    /// Makes the drop of this sender as a call of nobody's, and answers what the cleanup pass has seen then.
+    fn sender_out(
+        &mut self,
+        board: &H::Board,
+        counted: CountedSender,
+    ) -> (Made<T, Seat<T, H>>, H::Prefix)
+        ensures told { Tells self.old.1 Event.DropTx (told_of self.new.1 result.0) }
+        ensures seen { HaveShown H.shows result.1 (settled_of result.0) }
+    {
+        let before = Snapshot::of(&self.cleanup);
+        let (made, prefix) = self.by_cleanup(board, Event::DropTx);
+        counted.count_out::<T, Seat<T, H>, H>(&before, &self.cleanup, &made);
+        (made, prefix)
+    }
+
+    /// Makes the drop of this receiver as a call of nobody's, and answers what the cleanup pass has seen then.
+    fn receiver_out(
+        &mut self,
+        board: &H::Board,
+        counted: CountedReceiver,
+    ) -> (Made<T, Seat<T, H>>, H::Prefix)
+        ensures told { Tells self.old.1 Event.DropRx (told_of self.new.1 result.0) }
+        ensures seen { HaveShown H.shows result.1 (settled_of result.0) }
+    {
+        let before = Snapshot::of(&self.cleanup);
+        let (made, prefix) = self.by_cleanup(board, Event::DropRx);
+        counted.count_out::<T, Seat<T, H>, H>(&before, &self.cleanup, &made);
+        (made, prefix)
+    }
+
+    /// Makes the drop of this sender; what that ended, with what was seen of it.
+    pub(crate) fn drop_sender(&mut self, board: &H::Board, counted: CountedSender) -> Gone<T, H> {
+        let (made, prefix) = self.sender_out(board, counted);
+        Gone { made, prefix }
+    }
+
+    /// Makes the drop of this receiver; what that ended, with what was seen of it.
+    pub(crate) fn drop_receiver(
+        &mut self,
+        board: &H::Board,
+        counted: CountedReceiver,
+    ) -> Gone<T, H> {
+        let (made, prefix) = self.receiver_out(board, counted);
+        Gone { made, prefix }
+    }
+
+    /// What the cleanup pass is now, for proofs alone.
+    pub(crate) fn cleanup(&self) -> Snapshot<H::Pass>
+        ensures { result.value ≡ self.now.0 }
+    {
+        Snapshot::of(&self.cleanup)
+    }
+
+    /// Makes the drops of these senders until the last one's; what that ended, with what was seen of it, and
+    /// those that are left.
+    pub(crate) fn drop_senders(
+        &mut self,
+        board: &H::Board,
+        gone: GoneSenders,
+    ) -> (Option<Gone<T, H>>, GoneSenders) {
+        let mut gone = gone;
+        while let Some(counted) = gone.next() {
+            let is_last = self.core.sender_count() == 1;
+            let (made, prefix) = self.sender_out(board, counted);
+            if is_last {
+                return (Some(Gone { made, prefix }), gone);
+            }
+            drop(made);
+        }
+        (None, gone)
+    }
+
+    /// Makes the drops of these receivers until the last one's; what that ended, with what was seen of it, and
+    /// those that are left.
+    pub(crate) fn drop_receivers(
+        &mut self,
+        board: &H::Board,
+        gone: GoneReceivers,
+    ) -> (Option<Gone<T, H>>, GoneReceivers) {
+        let mut gone = gone;
+        while let Some(counted) = gone.next() {
+            let is_last = self.core.receiver_count() == 1;
+            let (made, prefix) = self.receiver_out(board, counted);
+            if is_last {
+                return (Some(Gone { made, prefix }), gone);
+            }
+            drop(made);
+        }
+        (None, gone)
+    }
+
+    /// Withdraws all waits that were left, and hands out their entries, the last that left first. It asks for
+    /// no memory: each is kept in the room that its seat brought.
+    pub(crate) fn withdraw_left(
+        &mut self,
+        board: &H::Board,
+        alloc: Global,
+        waits: GoneWaits,
+    ) -> Leavers<T, H> {
+        waits.seek();
+        let mut leavers = LinkedList::new(alloc);
+        let mut found = self.core.first_waiter(|seat| seat.is_left());
+        for _count in 0..MOST {
+            let Some(ticket) = found else {
+                return leavers;
+            };
+            found = self.core.next_waiter(ticket, |seat| seat.is_left());
+            let Some(room) = take_room(&mut self.core, ticket) else {
+                return leavers;
+            };
+            let Some(waiter) = self.withdraw_by_cleanup(board, ticket) else {
+                drop(room);
+                return leavers;
+            };
+            leavers = room.keep(waiter, leavers);
+        }
+        leavers
+    }
+}

@@ -35,7 +35,7 @@ fn bounded<J: Naming, R: Wait>(
     requires name { table_of opened ≡ J.table }
     requires capacity { J.capacity ≡ Some capacity }
 {
-    let (channel, mut pass) = Channel::<u64, J>::bounded(alloc, capacity, opened)?;
+    let (channel, mut pass) = kanal_one_history::bounded::<u64, J>(alloc, capacity, opened)?;
     add_up(rt, &channel, &mut pass, count)
 }
 
@@ -49,7 +49,7 @@ fn unbounded<J: Naming, R: Wait>(
     requires name { table_of opened ≡ J.table }
     requires capacity { J.capacity ≡ None }
 {
-    let (channel, mut pass) = Channel::<u64, J>::unbounded(alloc, opened);
+    let (channel, mut pass) = kanal_one_history::unbounded::<u64, J>(alloc, opened);
     add_up(rt, &channel, &mut pass, count)
 }
 

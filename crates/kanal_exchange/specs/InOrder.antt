@@ -2,7 +2,7 @@
 use Rattle.std.specs.Prelude.{◌≡◌, ℕ, List, Some}
 use Rattle.std.specs.List.{slice_get}
 use Rattle.kanal_journal.specs.Paired.{kept, receipts}
-use Rattle.kanal_one_history.specs.declared.call.Call.{Call}
+use Rattle.kanal_history.specs.declared.call.Call.{Call}
 use Rattle.kanal_one_history.specs.Calls.{history_of}
 
 -- the i-th message received is the i-th message sent, of those that were kept

@@ -59,7 +59,7 @@ fn overseen<T: Drop, J: Naming>(
     ensures in_order { IsReceivedAsSent result.log }
 {
     let mut all = sender;
-    channel.learn(&mut all, receiver);
+    all.learn(channel.board(), receiver);
     all.holds();
     all
 }
@@ -75,9 +75,9 @@ pub fn run<J: Naming + Send + Sync, R: Threads + Wait + Sync>(
     requires name { table_of opened ≡ J.table }
     requires capacity { J.capacity ≡ Some capacity }
 {
-    let (channel, mut one) = Channel::<u64, J>::bounded(alloc, capacity, opened)?;
+    let (channel, mut one) = kanal_one_history::bounded::<u64, J>(alloc, capacity, opened)?;
     let channel = &channel;
-    let other = channel.again(&mut one);
+    let other = one.again(channel.board());
     let ((sent, sender), (received, receiver)) = thread::join(
         rt,
         move || -> (u64, Pass<u64, J>) { send_all(rt, channel, one) },

@@ -1,15 +1,15 @@
-//! The passes by which threads call a channel with one history.
+//! The passes by which threads call a channel with one history, and what of a pass goes to waiters.
 //!
-//! Stands on the fronts of a board. A pass's type keeps that what it has seen is legal. A pass makes no
-//! call by itself: the calls are the channel's, which has the board and the lock.
+//! Stands on the fronts of a board. Its types keep that what was seen is legal. A pass makes no call by
+//! itself: the calls are the channel's, which has the board and the lock.
 ghost use Rattle.std.specs.Prelude.{◌≡◌, ◌++◌, ℕ, [], take};
 ghost use mathlib.Core.List.{IsPrefix};
 ghost use Rattle.kanal_board.specs.Views.{AreApart, AreDistinct, OneBegins, known};
 ghost use Rattle.kanal_journal.specs.Paired.{Paired};
 ghost use Rattle.kanal_one_history.specs.Calls.{IsLegal, history_of};
 
-use crate::call::Call;
 use kanal_board::{Board, Front, Naming};
+use kanal_history::Call;
 use std::marker::Model;
 
 /// What a caller has seen of a channel's history, and which calls of it are its own. It takes no bytes.
@@ -23,7 +23,7 @@ pub struct Pass<T, J: Naming> {
 
 impl<T, J: Naming> Model for Pass<T, J> {
     ghost use Rattle.kanal_board.specs.Views.{Known};
-    ghost use Rattle.kanal_one_history.specs.declared.call.Call.{Call};
+    ghost use Rattle.kanal_history.specs.declared.call.Call.{Call};
     ghost use Rattle.kanal_one_history.specs.Calls.{IsLegal};
 
     ghost Value = { Known (Call T) };
@@ -51,8 +51,14 @@ impl<T, J: Naming> Pass<T, J> {
         let _ = &self.front;
     }
 
-    /// Another pass that has seen as much, and owns nothing.
-    pub(crate) fn again(&mut self, board: &Board<Call<T>, J>) -> Self
+    /// A pass for another thread, which has seen as much and owns no call. It is no call itself, counts no
+    /// sender and no receiver, and waits for nobody.
+    ///
+    /// # Examples
+    /// ```text
+    /// let other = pass.again(&board);   goes to another thread
+    /// ```
+    pub fn again(&mut self, board: &Board<Call<T>, J>) -> Self
         ensures copy { result ≡ known self.old.log [] }
         ensures same { self.new ≡ self.old }
     {
@@ -61,18 +67,16 @@ impl<T, J: Naming> Pass<T, J> {
         }
     }
 
-    /// Two passes have seen beginnings of one history, and no call is own to both, or twice to one.
-    pub(crate) fn compare(&mut self, board: &Board<Call<T>, J>, other: &mut Self)
-        ensures same { (self.new ≡ self.old) × (other.new ≡ other.old) }
-        ensures one { OneBegins self.old.log other.old.log }
-        ensures apart { AreApart self.old.own other.old.own }
-        ensures each { AreDistinct self.old.own × AreDistinct other.old.own }
-    {
-        self.front.compare(board, &mut other.front);
-    }
-
-    /// Goes on to what the other pass has seen, where that is more, and owns what both did.
-    pub(crate) fn learn(&mut self, board: &Board<Call<T>, J>, other: Self)
+    /// Hands on what another pass has seen: this one has seen it, too, and owns the calls of both. It
+    /// waits for nobody.
+    ///
+    /// Each later call of this pass stands in the history after all that it has learnt of.
+    ///
+    /// # Examples
+    /// ```text
+    /// pass.learn(&board, other);   where `other` comes back from another thread
+    /// ```
+    pub fn learn(&mut self, board: &Board<Call<T>, J>, other: Self)
         ensures this { IsPrefix self.old.log self.new.log }
         ensures that { IsPrefix other.log self.new.log }
         ensures one { OneBegins self.old.log other.log }
@@ -80,5 +84,85 @@ impl<T, J: Naming> Pass<T, J> {
     {
         let Pass { front } = other;
         self.front.learn(board, front);
+    }
+
+    /// Two passes have seen beginnings of one history: one of the two begins with the other. It changes
+    /// neither, and waits for nobody.
+    ///
+    /// # Examples
+    /// ```text
+    /// one.compare(&board, &mut other);   and the caller's proof has it
+    /// ```
+    pub fn compare(&mut self, board: &Board<Call<T>, J>, other: &mut Self)
+        ensures same { (self.new ≡ self.old) × (other.new ≡ other.old) }
+        ensures one { OneBegins self.old.log other.old.log }
+    {
+        self.front.compare(board, &mut other.front);
+    }
+
+    /// No entry of the history answers for two calls: no place is own to both passes, and none stands
+    /// twice among the places of one. So a pass has made as many calls as it has places. It changes
+    /// neither, and waits for nobody.
+    ///
+    /// # Examples
+    /// ```text
+    /// one.owns_once(&board, &mut other);   and the caller's proof has it
+    /// ```
+    pub fn owns_once(&mut self, board: &Board<Call<T>, J>, other: &mut Self)
+        ensures same { (self.new ≡ self.old) × (other.new ≡ other.old) }
+        ensures apart { AreApart self.old.own other.old.own }
+        ensures each { AreDistinct self.old.own × AreDistinct other.old.own }
+    {
+        self.front.compare(board, &mut other.front);
+    }
+}
+
+/// What a pass has seen of a channel's history, by which no call can be made. It takes no bytes, and contracts
+/// see the calls.
+#[derive(Drop)]
+pub struct Prefix<T, J: Naming> {
+    pass: Pass<T, J>,
+}
+
+impl<T, J: Naming> Model for Prefix<T, J> {
+    ghost use Rattle.std.specs.Prelude.{◌≡◌, List, []};
+    ghost use Rattle.kanal_history.specs.declared.call.Call.{Call};
+
+    ghost Value = { List (Call T) };
+
+    ghost view = { λ p. p.pass.log };
+
+    ghost invariant = { λ p. p.pass.own ≡ [] };
+}
+
+impl<T, J: Naming> Prefix<T, J> {
+    /// What the pass has seen.
+    pub(crate) fn of(board: &Board<Call<T>, J>, pass: &mut Pass<T, J>) -> Self
+        ensures seen { result ≡ pass.old.log }
+        ensures same { pass.new ≡ pass.old }
+    {
+        Prefix {
+            pass: pass.again(board),
+        }
+    }
+
+    /// The same once more.
+    pub(crate) fn again(&mut self, board: &Board<Call<T>, J>) -> Self
+        ensures seen { result ≡ self.old }
+        ensures same { self.new ≡ self.old }
+    {
+        Prefix {
+            pass: self.pass.again(board),
+        }
+    }
+
+    /// The pass learns it, and makes no call.
+    pub(crate) fn teach(self, board: &Board<Call<T>, J>, pass: &mut Pass<T, J>)
+        ensures this { IsPrefix pass.old.log pass.new.log }
+        ensures that { IsPrefix self pass.new.log }
+        ensures own { pass.new.own ≡ pass.old.own }
+    {
+        let Prefix { pass: seen } = self;
+        pass.learn(board, seen);
     }
 }

@@ -103,7 +103,7 @@ fn one_thread<J: Naming, R: Wait + Abort>(
     requires name { table_of opened ≡ J.table }
     requires capacity { J.capacity ≡ Some capacity }
 {
-    let (channel, mut pass) = Channel::<u64, J>::bounded(alloc, capacity, opened)?;
+    let (channel, mut pass) = kanal_one_history::bounded::<u64, J>(alloc, capacity, opened)?;
     filled(rt, alloc, &channel, &mut pass);
     Ok(())
 }
@@ -118,8 +118,8 @@ fn two_threads<J: Naming + Send + Sync, R: Threads + Wait + Sync>(
     requires name { table_of opened ≡ J.table }
     requires capacity { J.capacity ≡ Some capacity }
 {
-    let (channel, mut one) = Channel::<u64, J>::bounded(alloc, capacity, opened)?;
-    let other = channel.again(&mut one);
+    let (channel, mut one) = kanal_one_history::bounded::<u64, J>(alloc, capacity, opened)?;
+    let other = one.again(channel.board());
     let shared = &channel;
     Ok(thread::join(
         rt,

@@ -90,7 +90,7 @@ impl Calls {
         channel: &Channel<u64, J>,
         mut one: Pass<u64, J>,
     ) -> (u64, u64) {
-        let other = channel.again(&mut one);
+        let other = one.again(channel.board());
         thread::join(
             rt,
             move || -> u64 { self.send_all(rt, channel, one) },
@@ -109,7 +109,7 @@ impl Calls {
         requires name { table_of opened ≡ J.table }
         requires capacity { J.capacity ≡ Some capacity }
     {
-        let (channel, pass) = Channel::<u64, J>::bounded(alloc, capacity, opened)?;
+        let (channel, pass) = kanal_one_history::bounded::<u64, J>(alloc, capacity, opened)?;
         Ok(self.exchange(rt, &channel, pass))
     }
 
@@ -121,7 +121,7 @@ impl Calls {
         requires name { table_of opened ≡ J.table }
         requires capacity { J.capacity ≡ None }
     {
-        let (channel, pass) = Channel::<u64, J>::unbounded(alloc, opened);
+        let (channel, pass) = kanal_one_history::unbounded::<u64, J>(alloc, opened);
         self.exchange(rt, &channel, pass)
     }
 }

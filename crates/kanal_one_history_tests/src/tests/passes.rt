@@ -26,14 +26,14 @@ fn two_passes<J: Naming, R: Wait>(
     requires name { table_of opened ≡ J.table }
     requires capacity { J.capacity ≡ Some capacity }
 {
-    let (channel, mut one) = Channel::<u64, J>::bounded(alloc, capacity, opened)?;
-    let mut other = channel.again(&mut one);
+    let (channel, mut one) = kanal_one_history::bounded::<u64, J>(alloc, capacity, opened)?;
+    let mut other = one.again(channel.board());
     let sent = channel.try_send(rt, &mut one, 7);
     let got = channel.try_recv(rt, &mut other);
     one.holds();
-    channel.compare(&mut one, &mut other);
-    channel.owns_once(&mut one, &mut other);
-    channel.learn(&mut one, other);
+    one.compare(channel.board(), &mut other);
+    one.owns_once(channel.board(), &mut other);
+    one.learn(channel.board(), other);
     Ok(sent == Ok(true) && got == Ok(Some(7)))
 }
 

@@ -18,7 +18,7 @@ fn dropped_sender<J: Naming, R: Wait + Abort>(
     pass: &mut Pass<u64, J>,
 ) {
     equal(rt, channel.send(rt, pass, 1), Ok(()));
-    channel.drop_sender(rt, pass);
+    channel.drop_sender_by(rt, pass);
     equal(rt, channel.is_terminated(rt, pass), false);
     equal(rt, channel.recv(rt, pass), Ok(1));
     equal(rt, channel.recv(rt, pass), Err(ReceiveError::SendClosed));
@@ -45,10 +45,10 @@ fn dropped_receiver<J: Naming, R: Wait + Abort>(
 ) {
     equal(rt, channel.try_send(rt, pass, 1), Ok(true));
     equal(rt, channel.add_receiver(rt, pass).is_ok(), true);
-    channel.drop_receiver(rt, pass);
+    channel.drop_receiver_by(rt, pass);
     let receivers = channel.ask(rt, pass, Side::Rx, Ask::ReceiverCount);
     equal(rt, receivers, Reply::Number(1));
-    channel.drop_receiver(rt, pass);
+    channel.drop_receiver_by(rt, pass);
     equal(rt, channel.send(rt, pass, 2), Err(SendError::ReceiveClosed));
     equal(
         rt,
@@ -96,7 +96,7 @@ fn unlimited<J: Naming, R: Wait + Abort>(
     let capacity = channel.ask(rt, pass, Side::Tx, Ask::Capacity);
     equal(rt, capacity, Reply::Number(u64::MAX));
     equal(rt, channel.send(rt, pass, 1), Ok(()));
-    channel.drop_sender(rt, pass);
+    channel.drop_sender_by(rt, pass);
     equal(
         rt,
         channel.ask(rt, pass, Side::Rx, Ask::IsDisconnected),
@@ -146,7 +146,7 @@ fn bounded<J: Naming, R: Wait + Abort>(
     requires name { table_of opened ≡ J.table }
     requires capacity { J.capacity ≡ Some capacity }
 {
-    let (channel, mut pass) = Channel::<u64, J>::bounded(alloc, capacity, opened)?;
+    let (channel, mut pass) = kanal_one_history::bounded::<u64, J>(alloc, capacity, opened)?;
     match row {
         0 => kept(rt, &channel, &mut pass),
         1 => dropped_sender(rt, &channel, &mut pass),
@@ -162,7 +162,7 @@ fn unbounded<J: Naming, R: Wait + Abort>(rt: &R, alloc: Global, opened: Opened<C
     requires name { table_of opened ≡ J.table }
     requires capacity { J.capacity ≡ None }
 {
-    let (channel, mut pass) = Channel::<u64, J>::unbounded(alloc, opened);
+    let (channel, mut pass) = kanal_one_history::unbounded::<u64, J>(alloc, opened);
     unlimited(rt, &channel, &mut pass);
 }
 

@@ -43,7 +43,7 @@ fn left<J: Naming, R: Wait + time::Clock + Abort>(
 ) {
     let none = Duration::from_nanos(0);
     let rising = TestClock::rising();
-    channel.drop_sender(rt, pass);
+    channel.drop_sender_by(rt, pass);
     equal(
         rt,
         channel.recv_timeout(rt, pass, none, &TestClock::still(0)),
@@ -104,7 +104,7 @@ fn bounded<J: Naming, R: Wait + time::Clock + Abort>(
     requires name { table_of opened ≡ J.table }
     requires capacity { J.capacity ≡ Some capacity }
 {
-    let (channel, mut pass) = Channel::<u64, J>::bounded(alloc, capacity, opened)?;
+    let (channel, mut pass) = kanal_one_history::bounded::<u64, J>(alloc, capacity, opened)?;
     match row {
         0 => full(rt, &channel, &mut pass),
         1 => left(rt, &channel, &mut pass),

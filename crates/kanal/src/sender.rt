@@ -1,20 +1,16 @@
 //! The sender of a channel for threads.
 //!
-//! Stands on the sender for tasks and its channel; nothing is done here but handing on. Where a call is
-//! refused its message is dropped, but for the calls that are lent an option.
-ghost use Rattle.std.specs.Prelude.{◌≡◌, ◌≢◌, IfErr, IfSome, IsSome, None, OnOk, Ok, Some, true, codes};
+//! Stands on the sender for tasks; nothing is done here but handing on. Where a call is refused its
+//! message is dropped, but for the calls that are lent an option.
+ghost use Rattle.std.specs.Prelude.{◌≡◌, ◌≢◌, IsSome, Some, None, Ok, true, codes, IfErr};
 ghost use Rattle.std.specs.Duration.{as_nanos};
-ghost use Rattle.kanal_events.specs.declared.event.Ask.{Ask};
-ghost use Rattle.kanal_events.specs.declared.event.Side.{Side};
-ghost use Rattle.kanal_history.specs.Handles.{Asks, Closes, CountsSender, Seals, Sends, SendsInTime, TriesToSend, TriesToSendNow};
-ghost use Rattle.kanal_history.specs.Refusals.{StartedNoWait};
-ghost use Rattle.kanal_history.specs.Results.{count_by, flag_by, number_by};
+ghost use Rattle.kanal_shared.specs.Deadlines.{SendsInTime};
+ghost use Rattle.kanal_shared.specs.Timed.{StartedNoWait};
 
 use crate::async_sender::AsyncSender;
-use kanal_channel::Clock;
+use crate::options::{restored_late, taken, timed_answer_of};
 use kanal_core::error::{CloseError, SendError, SendErrorTimeout, TooMany};
-use kanal_events::event::{Ask, Side};
-use kanal_history::{History, NoHistory};
+use kanal_shared::Clock;
 use std::sync::Wait;
 use std::time::Duration;
 use std::{fmt, time};
@@ -24,39 +20,16 @@ use std::{fmt, time};
 /// The channel's send side is gone when the last sender of either kind was dropped. A drop waits for
 /// nobody.
 #[derive(Drop)]
-pub struct Sender<T, H: History<T> = NoHistory> {
-    inner: AsyncSender<T, H>,
+pub struct Sender<T> {
+    inner: AsyncSender<T>,
 }
 
-impl<T: Drop, H: History<T>> Sender<T, H> {
+impl<T: Drop> Sender<T> {
     /// A sender for threads.
-    pub(crate) fn new(inner: AsyncSender<T, H>) -> Self {
+    pub(crate) fn new(inner: AsyncSender<T>) -> Self {
         Sender { inner }
     }
 
-    /// The same sender for tasks: the counts stay. It waits for nobody.
-    ///
-    /// # Examples
-    /// ```text
-    /// sender.to_async().sender_count(&rt)   answers  1   for a new channel
-    /// ```
-    pub fn to_async(self) -> AsyncSender<T, H> {
-        let Sender { inner } = self;
-        inner
-    }
-
-    /// This sender as one for tasks: the counts stay. It waits for nobody.
-    ///
-    /// # Examples
-    /// ```text
-    /// sender.as_async().send(7)   answers  a future that sends 7
-    /// ```
-    pub fn as_async(&self) -> &AsyncSender<T, H> {
-        &self.inner
-    }
-}
-
-impl<T: Drop, H: History<T, Pass = ()>> Sender<T, H> {
     /// Sends the message. Where the buffer is full it waits until a receiver takes the message, or
     /// the channel ends; and it waits for the lock.
     ///
@@ -70,10 +43,8 @@ impl<T: Drop, H: History<T, Pass = ()>> Sender<T, H> {
     /// sender.send(&rt, 7)   answers  Ok(())                      in a channel with a place
     /// sender.send(&rt, 7)   answers  Err(SendError::Closed)      after a close
     /// ```
-    pub fn send<R: Wait>(&self, rt: &R, message: T) -> Result<(), SendError>
-        ensures sent { Sends H.words tt tt message result }
-    {
-        self.inner.channel().send(rt, &mut (), message)
+    pub fn send<R: Wait>(&self, rt: &R, message: T) -> Result<(), SendError> {
+        self.inner.shared().send_blocking(rt, message)
     }
 
     /// Sends the message. Where the buffer is full it waits until a receiver takes the message, the
@@ -96,12 +67,10 @@ impl<T: Drop, H: History<T, Pass = ()>> Sender<T, H> {
         duration: Duration,
         clock: &C,
     ) -> Result<(), SendErrorTimeout>
-        ensures sent { SendsInTime H.words tt tt (C.answers clock.now) (as_nanos duration)
-            message result }
+        ensures time { SendsInTime (C.answers clock.now) (as_nanos duration) result }
     {
-        self.inner
-            .channel()
-            .send_timeout(rt, &mut (), message, duration, clock)
+        let shared = self.inner.shared();
+        timed_answer_of(shared.send_before(rt, message, duration, clock))
     }
 
     /// Sends the option's message as `send_timeout`, and empties the option exactly where it was sent.
@@ -126,14 +95,13 @@ impl<T: Drop, H: History<T, Pass = ()>> Sender<T, H> {
         clock: &C,
     ) -> Result<(), SendErrorTimeout>
         requires { IsSome option.old }
-        ensures sends { IfSome option.old (λ m. SendsInTime H.words tt tt (C.answers clock.now)
-            (as_nanos duration) m result) }
         ensures sent { result ≡ Ok tt → option.new ≡ None }
         ensures kept { IfErr result (λ e. StartedNoWait e → option.new ≡ option.old) }
+        ensures time { SendsInTime (C.answers clock.now) (as_nanos duration) result }
     {
-        self.inner
-            .channel()
-            .send_option_timeout(rt, &mut (), option, duration, clock)
+        let shared = self.inner.shared();
+        let message = taken(option);
+        restored_late(shared.send_before(rt, message, duration, clock), option)
     }
 
     /// Sends the message where there is a place for it. `Ok(false)` says that there is none, and the
@@ -148,10 +116,8 @@ impl<T: Drop, H: History<T, Pass = ()>> Sender<T, H> {
     /// sender.try_send(&rt, 1)   answers  Ok(true)    in a new bounded channel for one
     /// sender.try_send(&rt, 2)   answers  Ok(false)   after that
     /// ```
-    pub fn try_send<R: Wait>(&self, rt: &R, message: T) -> Result<bool, SendError>
-        ensures sent { TriesToSend H.words tt tt message result }
-    {
-        self.inner.channel().try_send(rt, &mut (), message)
+    pub fn try_send<R: Wait>(&self, rt: &R, message: T) -> Result<bool, SendError> {
+        self.inner.try_send(rt, message)
     }
 
     /// Sends the option's message where there is a place for it, and empties the option exactly
@@ -174,11 +140,10 @@ impl<T: Drop, H: History<T, Pass = ()>> Sender<T, H> {
         option: &mut Option<T>,
     ) -> Result<bool, SendError>
         requires { IsSome option.old }
-        ensures sends { IfSome option.old (λ m. TriesToSend H.words tt tt m result) }
         ensures sent { result ≡ Ok true → option.new ≡ None }
         ensures kept { result ≢ Ok true → option.new ≡ option.old }
     {
-        self.inner.channel().try_send_option(rt, &mut (), option)
+        self.inner.try_send_option(rt, option)
     }
 
     /// Sends the message where there is a place for it and the lock is free: it waits for nobody.
@@ -191,10 +156,8 @@ impl<T: Drop, H: History<T, Pass = ()>> Sender<T, H> {
     /// ```text
     /// sender.try_send_realtime(1)   answers  Ok(true)   in a new bounded channel for one
     /// ```
-    pub fn try_send_realtime(&self, message: T) -> Result<bool, SendError>
-        ensures sent { TriesToSendNow H.words tt tt message result }
-    {
-        self.inner.channel().try_send_realtime(&mut (), message)
+    pub fn try_send_realtime(&self, message: T) -> Result<bool, SendError> {
+        self.inner.try_send_realtime(message)
     }
 
     /// Sends the option's message where there is a place for it and the lock is free, and empties
@@ -213,13 +176,10 @@ impl<T: Drop, H: History<T, Pass = ()>> Sender<T, H> {
     /// ```
     pub fn try_send_option_realtime(&self, option: &mut Option<T>) -> Result<bool, SendError>
         requires { IsSome option.old }
-        ensures sends { IfSome option.old (λ m. TriesToSendNow H.words tt tt m result) }
         ensures sent { result ≡ Ok true → option.new ≡ None }
         ensures kept { result ≢ Ok true → option.new ≡ option.old }
     {
-        self.inner
-            .channel()
-            .try_send_option_realtime(&mut (), option)
+        self.inner.try_send_option_realtime(option)
     }
 
     /// One more sender of the channel. Where no sender is left it stays so, and the answer is still
@@ -233,9 +193,7 @@ impl<T: Drop, H: History<T, Pass = ()>> Sender<T, H> {
     /// let other = sender.clone(&rt)?;
     /// sender.sender_count(&rt)   answers  2   where it answered 1 before
     /// ```
-    pub fn clone<R: Wait>(&self, rt: &R) -> Result<Self, TooMany>
-        ensures counted { OnOk result (CountsSender H.words tt tt (Ok tt)) }
-    {
+    pub fn clone<R: Wait>(&self, rt: &R) -> Result<Self, TooMany> {
         self.inner.clone_sync(rt)
     }
 
@@ -249,10 +207,29 @@ impl<T: Drop, H: History<T, Pass = ()>> Sender<T, H> {
     /// let other = sender.clone_async(&rt)?;
     /// other.sender_count(&rt)   answers  2   where it answered 1 before
     /// ```
-    pub fn clone_async<R: Wait>(&self, rt: &R) -> Result<AsyncSender<T, H>, TooMany>
-        ensures counted { OnOk result (CountsSender H.words tt tt (Ok tt)) }
-    {
+    pub fn clone_async<R: Wait>(&self, rt: &R) -> Result<AsyncSender<T>, TooMany> {
         self.inner.clone(rt)
+    }
+
+    /// The same sender for tasks: the counts stay. It waits for nobody.
+    ///
+    /// # Examples
+    /// ```text
+    /// sender.to_async().sender_count(&rt)   answers  1   for a new channel
+    /// ```
+    pub fn to_async(self) -> AsyncSender<T> {
+        let Sender { inner } = self;
+        inner
+    }
+
+    /// This sender as one for tasks: the counts stay. It waits for nobody.
+    ///
+    /// # Examples
+    /// ```text
+    /// sender.as_async().send(7)   answers  a future that sends 7
+    /// ```
+    pub fn as_async(&self) -> &AsyncSender<T> {
+        &self.inner
     }
 
     /// Whether no receiver is left. It waits for the lock.
@@ -261,12 +238,8 @@ impl<T: Drop, H: History<T, Pass = ()>> Sender<T, H> {
     /// ```text
     /// sender.is_disconnected(&rt)   answers  true   after the last receiver was dropped
     /// ```
-    pub fn is_disconnected<R: Wait>(&self, rt: &R) -> bool
-        ensures asked { Asks H.words tt tt Side.Tx Ask.IsDisconnected flag_by result }
-    {
-        self.inner
-            .channel()
-            .ask_flag(rt, &mut (), Side::Tx, Ask::IsDisconnected)
+    pub fn is_disconnected<R: Wait>(&self, rt: &R) -> bool {
+        self.inner.is_disconnected(rt)
     }
 
     /// How many messages are in the buffer. It waits for the lock.
@@ -275,12 +248,8 @@ impl<T: Drop, H: History<T, Pass = ()>> Sender<T, H> {
     /// ```text
     /// sender.len(&rt)   answers  1   after one message entered a bounded channel for two
     /// ```
-    pub fn len<R: Wait>(&self, rt: &R) -> usize
-        ensures asked { Asks H.words tt tt Side.Tx Ask.Len number_by result }
-    {
-        self.inner
-            .channel()
-            .ask_number(rt, &mut (), Side::Tx, Ask::Len)
+    pub fn len<R: Wait>(&self, rt: &R) -> usize {
+        self.inner.len(rt)
     }
 
     /// Whether no message is in the buffer, whoever waits. It waits for the lock.
@@ -289,12 +258,8 @@ impl<T: Drop, H: History<T, Pass = ()>> Sender<T, H> {
     /// ```text
     /// sender.is_empty(&rt)   answers  false   after one message entered
     /// ```
-    pub fn is_empty<R: Wait>(&self, rt: &R) -> bool
-        ensures asked { Asks H.words tt tt Side.Tx Ask.IsEmpty flag_by result }
-    {
-        self.inner
-            .channel()
-            .ask_flag(rt, &mut (), Side::Tx, Ask::IsEmpty)
+    pub fn is_empty<R: Wait>(&self, rt: &R) -> bool {
+        self.inner.is_empty(rt)
     }
 
     /// Whether the buffer is at the capacity: always at capacity 0, and never without a limit. It
@@ -304,12 +269,8 @@ impl<T: Drop, H: History<T, Pass = ()>> Sender<T, H> {
     /// ```text
     /// sender.is_full(&rt)   answers  true   after one message entered a bounded channel for one
     /// ```
-    pub fn is_full<R: Wait>(&self, rt: &R) -> bool
-        ensures asked { Asks H.words tt tt Side.Tx Ask.IsFull flag_by result }
-    {
-        self.inner
-            .channel()
-            .ask_flag(rt, &mut (), Side::Tx, Ask::IsFull)
+    pub fn is_full<R: Wait>(&self, rt: &R) -> bool {
+        self.inner.is_full(rt)
     }
 
     /// Whether the channel has a limit. It waits for the lock.
@@ -318,12 +279,8 @@ impl<T: Drop, H: History<T, Pass = ()>> Sender<T, H> {
     /// ```text
     /// sender.is_bounded(&rt)   answers  true   for a channel that `bounded` made
     /// ```
-    pub fn is_bounded<R: Wait>(&self, rt: &R) -> bool
-        ensures asked { Asks H.words tt tt Side.Tx Ask.IsBounded flag_by result }
-    {
-        self.inner
-            .channel()
-            .ask_flag(rt, &mut (), Side::Tx, Ask::IsBounded)
+    pub fn is_bounded<R: Wait>(&self, rt: &R) -> bool {
+        self.inner.is_bounded(rt)
     }
 
     /// How many messages the buffer may hold, which is `usize::MAX` without a limit. It waits for the
@@ -333,12 +290,8 @@ impl<T: Drop, H: History<T, Pass = ()>> Sender<T, H> {
     /// ```text
     /// sender.capacity(&rt)   answers  2   for a bounded channel for two
     /// ```
-    pub fn capacity<R: Wait>(&self, rt: &R) -> usize
-        ensures asked { Asks H.words tt tt Side.Tx Ask.Capacity number_by result }
-    {
-        self.inner
-            .channel()
-            .ask_number(rt, &mut (), Side::Tx, Ask::Capacity)
+    pub fn capacity<R: Wait>(&self, rt: &R) -> usize {
+        self.inner.capacity(rt)
     }
 
     /// How many receivers there are. It waits for the lock.
@@ -347,12 +300,8 @@ impl<T: Drop, H: History<T, Pass = ()>> Sender<T, H> {
     /// ```text
     /// sender.receiver_count(&rt)   answers  1   for a new channel
     /// ```
-    pub fn receiver_count<R: Wait>(&self, rt: &R) -> u32
-        ensures asked { Asks H.words tt tt Side.Tx Ask.ReceiverCount count_by result }
-    {
-        self.inner
-            .channel()
-            .ask_count(rt, &mut (), Side::Tx, Ask::ReceiverCount)
+    pub fn receiver_count<R: Wait>(&self, rt: &R) -> u32 {
+        self.inner.receiver_count(rt)
     }
 
     /// How many senders there are. It waits for the lock.
@@ -361,12 +310,8 @@ impl<T: Drop, H: History<T, Pass = ()>> Sender<T, H> {
     /// ```text
     /// sender.sender_count(&rt)   answers  1   for a new channel
     /// ```
-    pub fn sender_count<R: Wait>(&self, rt: &R) -> u32
-        ensures asked { Asks H.words tt tt Side.Tx Ask.SenderCount count_by result }
-    {
-        self.inner
-            .channel()
-            .ask_count(rt, &mut (), Side::Tx, Ask::SenderCount)
+    pub fn sender_count<R: Wait>(&self, rt: &R) -> u32 {
+        self.inner.sender_count(rt)
     }
 
     /// Whether both sides are gone. It waits for the lock.
@@ -375,12 +320,8 @@ impl<T: Drop, H: History<T, Pass = ()>> Sender<T, H> {
     /// ```text
     /// sender.is_closed(&rt)   answers  true   after a close
     /// ```
-    pub fn is_closed<R: Wait>(&self, rt: &R) -> bool
-        ensures asked { Asks H.words tt tt Side.Tx Ask.IsClosed flag_by result }
-    {
-        self.inner
-            .channel()
-            .ask_flag(rt, &mut (), Side::Tx, Ask::IsClosed)
+    pub fn is_closed<R: Wait>(&self, rt: &R) -> bool {
+        self.inner.is_closed(rt)
     }
 
     /// Lets the senders be done: nothing more enters, and the receivers take what is left. A receive
@@ -397,10 +338,8 @@ impl<T: Drop, H: History<T, Pass = ()>> Sender<T, H> {
     /// sender.seal(&rt)   answers  Ok(())
     /// sender.seal(&rt)   answers  Err(CloseError())   after that
     /// ```
-    pub fn seal<R: Wait>(&self, rt: &R) -> Result<(), CloseError>
-        ensures sealed { Seals H.words tt tt result }
-    {
-        self.inner.channel().seal(rt, &mut ())
+    pub fn seal<R: Wait>(&self, rt: &R) -> Result<(), CloseError> {
+        self.inner.seal(rt)
     }
 
     /// Closes the channel for both sides: all waits end with `Closed`, and the buffer's messages are
@@ -414,14 +353,12 @@ impl<T: Drop, H: History<T, Pass = ()>> Sender<T, H> {
     /// sender.close(&rt)   answers  Ok(())
     /// sender.close(&rt)   answers  Err(CloseError())   after that
     /// ```
-    pub fn close<R: Wait>(&self, rt: &R) -> Result<(), CloseError>
-        ensures closed { Closes H.words tt tt result }
-    {
-        self.inner.channel().close(rt, &mut ())
+    pub fn close<R: Wait>(&self, rt: &R) -> Result<(), CloseError> {
+        self.inner.close(rt)
     }
 }
 
-impl<T: Drop, H: History<T>> fmt::Debug for Sender<T, H> {
+impl<T: Drop> fmt::Debug for Sender<T> {
     ghost debug_output = { λ _. Some (codes "Sender { .. }") };
 
     fn fmt<W: fmt::Write>(&self, f: &mut fmt::Formatter<W>) -> fmt::Result {

@@ -2,37 +2,33 @@
 //!
 //! Stands on the sender for tasks; nothing is done here but handing on. A view is not counted: it has
 //! no clone, no conversion and no drop of its own.
-ghost use Rattle.std.specs.Prelude.{◌≡◌, ◌≢◌, IfErr, IfSome, IsSome, None, Ok, true};
+ghost use Rattle.std.specs.Prelude.{◌≡◌, ◌≢◌, IsSome, None, Ok, true, IfErr};
 ghost use Rattle.std.specs.Duration.{as_nanos};
-ghost use Rattle.kanal_events.specs.declared.event.Ask.{Ask};
-ghost use Rattle.kanal_events.specs.declared.event.Side.{Side};
-ghost use Rattle.kanal_history.specs.Handles.{Asks, Closes, Seals, Sends, SendsInTime, TriesToSend, TriesToSendNow};
-ghost use Rattle.kanal_history.specs.Refusals.{StartedNoWait};
-ghost use Rattle.kanal_history.specs.Results.{count_by, flag_by, number_by};
+ghost use Rattle.kanal_shared.specs.Deadlines.{SendsInTime};
+ghost use Rattle.kanal_shared.specs.Timed.{StartedNoWait};
 
 use crate::async_sender::AsyncSender;
-use kanal_channel::Clock;
+use crate::options::{restored_late, taken, timed_answer_of};
 use kanal_core::error::{CloseError, SendError, SendErrorTimeout};
-use kanal_events::event::{Ask, Side};
-use kanal_history::{History, NoHistory};
+use kanal_shared::Clock;
 use std::sync::Wait;
 use std::time;
 use std::time::Duration;
 
 /// A sender for tasks, as a thread uses it.
 #[derive(Drop)]
-pub struct SenderView<'a, T, H: History<T> = NoHistory> {
-    sender: &'a AsyncSender<T, H>,
+pub struct SenderView<'a, T> {
+    sender: &'a AsyncSender<T>,
 }
 
-impl<'a, T: Drop, H: History<T>> SenderView<'a, T, H> {
+impl<'a, T: Drop> SenderView<'a, T> {
     /// A view of the sender.
-    pub(crate) fn new(sender: &'a AsyncSender<T, H>) -> Self {
+    pub(crate) fn new(sender: &'a AsyncSender<T>) -> Self {
         SenderView { sender }
     }
 }
 
-impl<T: Drop, H: History<T, Pass = ()>> SenderView<'_, T, H> {
+impl<T: Drop> SenderView<'_, T> {
     /// Sends the message. Where the buffer is full it waits until a receiver takes the message, or
     /// the channel ends; and it waits for the lock.
     ///
@@ -46,10 +42,8 @@ impl<T: Drop, H: History<T, Pass = ()>> SenderView<'_, T, H> {
     /// view.send(&rt, 7)   answers  Ok(())                      in a channel with a place
     /// view.send(&rt, 7)   answers  Err(SendError::Closed)      after a close
     /// ```
-    pub fn send<R: Wait>(&self, rt: &R, message: T) -> Result<(), SendError>
-        ensures sent { Sends H.words tt tt message result }
-    {
-        self.sender.channel().send(rt, &mut (), message)
+    pub fn send<R: Wait>(&self, rt: &R, message: T) -> Result<(), SendError> {
+        self.sender.shared().send_blocking(rt, message)
     }
 
     /// Sends the message. Where the buffer is full it waits until a receiver takes the message, the
@@ -72,12 +66,10 @@ impl<T: Drop, H: History<T, Pass = ()>> SenderView<'_, T, H> {
         duration: Duration,
         clock: &C,
     ) -> Result<(), SendErrorTimeout>
-        ensures sent { SendsInTime H.words tt tt (C.answers clock.now) (as_nanos duration)
-            message result }
+        ensures time { SendsInTime (C.answers clock.now) (as_nanos duration) result }
     {
-        self.sender
-            .channel()
-            .send_timeout(rt, &mut (), message, duration, clock)
+        let shared = self.sender.shared();
+        timed_answer_of(shared.send_before(rt, message, duration, clock))
     }
 
     /// Sends the option's message as `send_timeout`, and empties the option exactly where it was sent.
@@ -102,14 +94,13 @@ impl<T: Drop, H: History<T, Pass = ()>> SenderView<'_, T, H> {
         clock: &C,
     ) -> Result<(), SendErrorTimeout>
         requires { IsSome option.old }
-        ensures sends { IfSome option.old (λ m. SendsInTime H.words tt tt (C.answers clock.now)
-            (as_nanos duration) m result) }
         ensures sent { result ≡ Ok tt → option.new ≡ None }
         ensures kept { IfErr result (λ e. StartedNoWait e → option.new ≡ option.old) }
+        ensures time { SendsInTime (C.answers clock.now) (as_nanos duration) result }
     {
-        self.sender
-            .channel()
-            .send_option_timeout(rt, &mut (), option, duration, clock)
+        let shared = self.sender.shared();
+        let message = taken(option);
+        restored_late(shared.send_before(rt, message, duration, clock), option)
     }
 
     /// Sends the message where there is a place for it. `Ok(false)` says that there is none, and the
@@ -124,10 +115,8 @@ impl<T: Drop, H: History<T, Pass = ()>> SenderView<'_, T, H> {
     /// view.try_send(&rt, 1)   answers  Ok(true)    in a new bounded channel for one
     /// view.try_send(&rt, 2)   answers  Ok(false)   after that
     /// ```
-    pub fn try_send<R: Wait>(&self, rt: &R, message: T) -> Result<bool, SendError>
-        ensures sent { TriesToSend H.words tt tt message result }
-    {
-        self.sender.channel().try_send(rt, &mut (), message)
+    pub fn try_send<R: Wait>(&self, rt: &R, message: T) -> Result<bool, SendError> {
+        self.sender.try_send(rt, message)
     }
 
     /// Sends the option's message where there is a place for it, and empties the option exactly
@@ -150,11 +139,10 @@ impl<T: Drop, H: History<T, Pass = ()>> SenderView<'_, T, H> {
         option: &mut Option<T>,
     ) -> Result<bool, SendError>
         requires { IsSome option.old }
-        ensures sends { IfSome option.old (λ m. TriesToSend H.words tt tt m result) }
         ensures sent { result ≡ Ok true → option.new ≡ None }
         ensures kept { result ≢ Ok true → option.new ≡ option.old }
     {
-        self.sender.channel().try_send_option(rt, &mut (), option)
+        self.sender.try_send_option(rt, option)
     }
 
     /// Sends the message where there is a place for it and the lock is free: it waits for nobody.
@@ -167,10 +155,8 @@ impl<T: Drop, H: History<T, Pass = ()>> SenderView<'_, T, H> {
     /// ```text
     /// view.try_send_realtime(1)   answers  Ok(true)   in a new bounded channel for one
     /// ```
-    pub fn try_send_realtime(&self, message: T) -> Result<bool, SendError>
-        ensures sent { TriesToSendNow H.words tt tt message result }
-    {
-        self.sender.channel().try_send_realtime(&mut (), message)
+    pub fn try_send_realtime(&self, message: T) -> Result<bool, SendError> {
+        self.sender.try_send_realtime(message)
     }
 
     /// Sends the option's message where there is a place for it and the lock is free, and empties
@@ -189,13 +175,10 @@ impl<T: Drop, H: History<T, Pass = ()>> SenderView<'_, T, H> {
     /// ```
     pub fn try_send_option_realtime(&self, option: &mut Option<T>) -> Result<bool, SendError>
         requires { IsSome option.old }
-        ensures sends { IfSome option.old (λ m. TriesToSendNow H.words tt tt m result) }
         ensures sent { result ≡ Ok true → option.new ≡ None }
         ensures kept { result ≢ Ok true → option.new ≡ option.old }
     {
-        self.sender
-            .channel()
-            .try_send_option_realtime(&mut (), option)
+        self.sender.try_send_option_realtime(option)
     }
 
     /// Whether no receiver is left. It waits for the lock.
@@ -204,12 +187,8 @@ impl<T: Drop, H: History<T, Pass = ()>> SenderView<'_, T, H> {
     /// ```text
     /// view.is_disconnected(&rt)   answers  true   after the last receiver was dropped
     /// ```
-    pub fn is_disconnected<R: Wait>(&self, rt: &R) -> bool
-        ensures asked { Asks H.words tt tt Side.Tx Ask.IsDisconnected flag_by result }
-    {
-        self.sender
-            .channel()
-            .ask_flag(rt, &mut (), Side::Tx, Ask::IsDisconnected)
+    pub fn is_disconnected<R: Wait>(&self, rt: &R) -> bool {
+        self.sender.is_disconnected(rt)
     }
 
     /// How many messages are in the buffer. It waits for the lock.
@@ -218,12 +197,8 @@ impl<T: Drop, H: History<T, Pass = ()>> SenderView<'_, T, H> {
     /// ```text
     /// view.len(&rt)   answers  1   after one message entered a bounded channel for two
     /// ```
-    pub fn len<R: Wait>(&self, rt: &R) -> usize
-        ensures asked { Asks H.words tt tt Side.Tx Ask.Len number_by result }
-    {
-        self.sender
-            .channel()
-            .ask_number(rt, &mut (), Side::Tx, Ask::Len)
+    pub fn len<R: Wait>(&self, rt: &R) -> usize {
+        self.sender.len(rt)
     }
 
     /// Whether no message is in the buffer, whoever waits. It waits for the lock.
@@ -232,12 +207,8 @@ impl<T: Drop, H: History<T, Pass = ()>> SenderView<'_, T, H> {
     /// ```text
     /// view.is_empty(&rt)   answers  false   after one message entered
     /// ```
-    pub fn is_empty<R: Wait>(&self, rt: &R) -> bool
-        ensures asked { Asks H.words tt tt Side.Tx Ask.IsEmpty flag_by result }
-    {
-        self.sender
-            .channel()
-            .ask_flag(rt, &mut (), Side::Tx, Ask::IsEmpty)
+    pub fn is_empty<R: Wait>(&self, rt: &R) -> bool {
+        self.sender.is_empty(rt)
     }
 
     /// Whether the buffer is at the capacity: always at capacity 0, and never without a limit. It
@@ -247,12 +218,8 @@ impl<T: Drop, H: History<T, Pass = ()>> SenderView<'_, T, H> {
     /// ```text
     /// view.is_full(&rt)   answers  true   after one message entered a bounded channel for one
     /// ```
-    pub fn is_full<R: Wait>(&self, rt: &R) -> bool
-        ensures asked { Asks H.words tt tt Side.Tx Ask.IsFull flag_by result }
-    {
-        self.sender
-            .channel()
-            .ask_flag(rt, &mut (), Side::Tx, Ask::IsFull)
+    pub fn is_full<R: Wait>(&self, rt: &R) -> bool {
+        self.sender.is_full(rt)
     }
 
     /// Whether the channel has a limit. It waits for the lock.
@@ -261,12 +228,8 @@ impl<T: Drop, H: History<T, Pass = ()>> SenderView<'_, T, H> {
     /// ```text
     /// view.is_bounded(&rt)   answers  true   for a channel that `bounded` made
     /// ```
-    pub fn is_bounded<R: Wait>(&self, rt: &R) -> bool
-        ensures asked { Asks H.words tt tt Side.Tx Ask.IsBounded flag_by result }
-    {
-        self.sender
-            .channel()
-            .ask_flag(rt, &mut (), Side::Tx, Ask::IsBounded)
+    pub fn is_bounded<R: Wait>(&self, rt: &R) -> bool {
+        self.sender.is_bounded(rt)
     }
 
     /// How many messages the buffer may hold, which is `usize::MAX` without a limit. It waits for the
@@ -276,12 +239,8 @@ impl<T: Drop, H: History<T, Pass = ()>> SenderView<'_, T, H> {
     /// ```text
     /// view.capacity(&rt)   answers  2   for a bounded channel for two
     /// ```
-    pub fn capacity<R: Wait>(&self, rt: &R) -> usize
-        ensures asked { Asks H.words tt tt Side.Tx Ask.Capacity number_by result }
-    {
-        self.sender
-            .channel()
-            .ask_number(rt, &mut (), Side::Tx, Ask::Capacity)
+    pub fn capacity<R: Wait>(&self, rt: &R) -> usize {
+        self.sender.capacity(rt)
     }
 
     /// How many receivers there are. It waits for the lock.
@@ -290,12 +249,8 @@ impl<T: Drop, H: History<T, Pass = ()>> SenderView<'_, T, H> {
     /// ```text
     /// view.receiver_count(&rt)   answers  1   for a new channel
     /// ```
-    pub fn receiver_count<R: Wait>(&self, rt: &R) -> u32
-        ensures asked { Asks H.words tt tt Side.Tx Ask.ReceiverCount count_by result }
-    {
-        self.sender
-            .channel()
-            .ask_count(rt, &mut (), Side::Tx, Ask::ReceiverCount)
+    pub fn receiver_count<R: Wait>(&self, rt: &R) -> u32 {
+        self.sender.receiver_count(rt)
     }
 
     /// How many senders there are. It waits for the lock.
@@ -304,12 +259,8 @@ impl<T: Drop, H: History<T, Pass = ()>> SenderView<'_, T, H> {
     /// ```text
     /// view.sender_count(&rt)   answers  1   for a new channel
     /// ```
-    pub fn sender_count<R: Wait>(&self, rt: &R) -> u32
-        ensures asked { Asks H.words tt tt Side.Tx Ask.SenderCount count_by result }
-    {
-        self.sender
-            .channel()
-            .ask_count(rt, &mut (), Side::Tx, Ask::SenderCount)
+    pub fn sender_count<R: Wait>(&self, rt: &R) -> u32 {
+        self.sender.sender_count(rt)
     }
 
     /// Whether both sides are gone. It waits for the lock.
@@ -318,12 +269,8 @@ impl<T: Drop, H: History<T, Pass = ()>> SenderView<'_, T, H> {
     /// ```text
     /// view.is_closed(&rt)   answers  true   after a close
     /// ```
-    pub fn is_closed<R: Wait>(&self, rt: &R) -> bool
-        ensures asked { Asks H.words tt tt Side.Tx Ask.IsClosed flag_by result }
-    {
-        self.sender
-            .channel()
-            .ask_flag(rt, &mut (), Side::Tx, Ask::IsClosed)
+    pub fn is_closed<R: Wait>(&self, rt: &R) -> bool {
+        self.sender.is_closed(rt)
     }
 
     /// Lets the senders be done: nothing more enters, and the receivers take what is left. A receive
@@ -340,10 +287,8 @@ impl<T: Drop, H: History<T, Pass = ()>> SenderView<'_, T, H> {
     /// view.seal(&rt)   answers  Ok(())
     /// view.seal(&rt)   answers  Err(CloseError())   after that
     /// ```
-    pub fn seal<R: Wait>(&self, rt: &R) -> Result<(), CloseError>
-        ensures sealed { Seals H.words tt tt result }
-    {
-        self.sender.channel().seal(rt, &mut ())
+    pub fn seal<R: Wait>(&self, rt: &R) -> Result<(), CloseError> {
+        self.sender.seal(rt)
     }
 
     /// Closes the channel for both sides: all waits end with `Closed`, and the buffer's messages are
@@ -357,9 +302,7 @@ impl<T: Drop, H: History<T, Pass = ()>> SenderView<'_, T, H> {
     /// view.close(&rt)   answers  Ok(())
     /// view.close(&rt)   answers  Err(CloseError())   after that
     /// ```
-    pub fn close<R: Wait>(&self, rt: &R) -> Result<(), CloseError>
-        ensures closed { Closes H.words tt tt result }
-    {
-        self.sender.channel().close(rt, &mut ())
+    pub fn close<R: Wait>(&self, rt: &R) -> Result<(), CloseError> {
+        self.sender.close(rt)
     }
 }

@@ -1,0 +1,16 @@
+use Rattle.std.proofs.Common.{◌≡◌}
+use Rattle.kanal_core.specs.Channel.{line_of}
+use Rattle.kanal_core.specs.Moves.{drop_receiver}
+use Rattle.kanal_steps.specs.Steps.{times}
+use Rattle.kanal_steps.proofs.Drops.{Dropping}
+use Rattle.kanal_steps.proofs.steps.drop_receivers.Given as goal
+
+-- nobody has ended yet, and the drops that are left come to the same
+abbrev pub invariant-loop-left : goal.invariant-loop-left
+invariant-loop-left g l =
+    (times drop_receiver l.left (line_of l.core) ≡ times drop_receiver l.fn.count (line_of l.fn.core))
+    × (l.core ≡ record l.fn.core { receivers = l.core.receivers })
+    × Dropping l.fn.core.receivers l.fn.count l.left l.core.receivers
+
+abbrev pub decreases-loop-left : goal.decreases-loop-left
+decreases-loop-left g l = l.left

@@ -1,0 +1,15 @@
+use Rattle.std.proofs.Common.{rules, ap, sym, ◌∙◌}
+use Rattle.std.specs.Option.{option_copied_mut}
+use Rattle.kanal_steps.proofs.Renewing.{line-with, renews}
+use Rattle.kanal_steps.proofs.steps.renew.Goals as goal
+
+pub returns-clause-line : goal.returns-clause-line
+returns-clause-line g c = line-with c.args.core.now c.args.ticket _
+
+pub returns-clause-renewed : goal.returns-clause-renewed
+returns-clause-renewed g c =
+    let was = ap option_copied_mut (sym c.in-Some.is) ∙ c.waiting.ensures.value in
+    renews c.args.ticket c.args.spare.now c.renew.new.spare c.args.core.now.waiters c.in-Some.seat.now _ was c.renew.ensures.swapped
+
+pub returns-in_default-clause-waits : goal.returns-in_default-clause-waits
+returns-in_default-clause-waits g c = search rules

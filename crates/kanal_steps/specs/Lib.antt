@@ -1,0 +1,5 @@
+pub mod Leaving
+pub mod Owing
+pub mod Renewing
+pub mod Seats
+pub mod Steps

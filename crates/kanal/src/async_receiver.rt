@@ -1,16 +1,25 @@
 //! The receiver of a channel for tasks: the receiving handle that holds the channel.
 //!
 //! Stands on the shared channel; nothing is done here but handing on and counting. It alone has a
-//! receiver's drop; the receiver for threads and the view are made over it.
-ghost use Rattle.std.specs.Prelude.{◌≡◌, Some, IfOk, IfErr, OnErr, false, codes};
-ghost use Rattle.std.specs.Vec.{vec_capacity};
-ghost use Rattle.kanal_shared.specs.Drains.{GoesOnBy};
-ghost use Rattle.kanal_shared.specs.Futures.{receive_is_over, stream_is_over};
+//! receiver's drop; the receiver for threads and the view are made over it. A call without a pass is that of
+//! the channel with the pass of no content, and its clause holds in the words of every history whose pass is
+//! so.
+ghost use Rattle.std.specs.Prelude.{◌≡◌, Some, IfErr, IsErrOf, OnErr, OnOk, Ok, false, codes};
+ghost use Rattle.std.specs.Vec.{vec_capacity, vec_len};
+ghost use Rattle.kanal_events.specs.declared.event.Ask.{Ask};
+ghost use Rattle.kanal_events.specs.declared.event.Side.{Side};
+ghost use Rattle.kanal_futures.specs.Plain.{receive_is_over, stream_is_over};
+ghost use Rattle.kanal_history.specs.Handles.{Asks, AsksForTheEnd, Closes, CountsReceiver, Drains, Seals, TriesToReceive, TriesToReceiveNow};
+ghost use Rattle.kanal_history.specs.Makes.{HasTooLittleRoom};
+ghost use Rattle.kanal_history.specs.Results.{count_by, flag_by, number_by};
 
 use crate::receiver::Receiver;
 use crate::receiver_view::ReceiverView;
+use kanal_channel::{CountedReceiver, Shared};
 use kanal_core::error::{CloseError, ReceiveError, TooMany};
-use kanal_shared::{ReceiveFuture, ReceiveStream, Shared};
+use kanal_events::event::{Ask, Side};
+use kanal_futures::{ReceiveFuture, ReceiveStream, receive_future, receive_stream};
+use kanal_history::{History, NoHistory};
 use std::fmt;
 use std::sync::{Arc, Wait};
 
@@ -18,28 +27,77 @@ use std::sync::{Arc, Wait};
 ///
 /// The channel's receive side is gone when the last receiver of either kind was dropped. A drop waits
 /// for nobody.
-pub struct AsyncReceiver<T> {
-    shared: Arc<Shared<T>>,
+pub struct AsyncReceiver<T, H: History<T> = NoHistory> {
+    shared: Arc<Shared<T, H>>,
+    counted: CountedReceiver,
 }
 
-impl<T: Drop> Drop for AsyncReceiver<T> {
+impl<T: Drop, H: History<T>> Drop for AsyncReceiver<T, H> {
     fn drop(self) {
-        let AsyncReceiver { shared } = self;
-        shared.drop_receiver();
+        let AsyncReceiver { shared, counted } = self;
+        shared.drop_receiver(counted);
     }
 }
 
-impl<T: Drop> AsyncReceiver<T> {
-    /// The first receiver of the channel.
-    pub(crate) fn new(shared: Arc<Shared<T>>) -> Self {
-        AsyncReceiver { shared }
+impl<T: Drop, H: History<T>> AsyncReceiver<T, H> {
+    /// A receiver of the channel that is counted.
+    pub(crate) fn new(shared: Arc<Shared<T, H>>, counted: CountedReceiver) -> Self {
+        AsyncReceiver { shared, counted }
     }
 
-    /// What all handles share.
-    pub(crate) fn shared(&self) -> &Shared<T> {
+    /// The channel, each call of which takes a pass. It is for channels with a history: whoever has none
+    /// calls the handle.
+    ///
+    /// # Examples
+    /// ```text
+    /// receiver.channel().recv(&rt, &mut pass)   answers  Ok(7)   where 7 was sent
+    /// ```
+    pub fn channel(&self) -> &Shared<T, H> {
         &self.shared
     }
 
+    /// One more receiver of the channel, as a call of this pass. Where no receiver is left it stays so, and
+    /// the answer is still a receiver. It waits for the lock.
+    ///
+    /// # Errors
+    /// `TooMany` where there are `u32::MAX` receivers, or as many handles as may be; no call is made then.
+    ///
+    /// # Examples
+    /// ```text
+    /// let other = receiver.clone_by(&rt, &mut pass)?;
+    /// ```
+    pub fn clone_by<R: Wait>(&self, rt: &R, pass: &mut H::Pass) -> Result<Self, TooMany>
+        ensures counted { OnOk result (CountsReceiver H.words pass.old pass.new (Ok tt)) }
+    {
+        let Ok(shared) = Arc::try_clone(&self.shared) else {
+            return Err(TooMany);
+        };
+        let counted = self.shared.count_receiver(rt, pass)?;
+        Ok(AsyncReceiver { shared, counted })
+    }
+
+    /// The same receiver for threads: the counts stay. It waits for nobody.
+    ///
+    /// # Examples
+    /// ```text
+    /// receiver.to_sync().receiver_count(&rt)   answers  1   for a new channel
+    /// ```
+    pub fn to_sync(self) -> Receiver<T, H> {
+        Receiver::new(self)
+    }
+
+    /// What a thread does with this receiver: the counts stay. It waits for nobody.
+    ///
+    /// # Examples
+    /// ```text
+    /// receiver.as_sync().recv(&rt)   answers  Ok(7)   where 7 was sent
+    /// ```
+    pub fn as_sync(&self) -> ReceiverView<'_, T, H> {
+        ReceiverView::new(self)
+    }
+}
+
+impl<T: Drop, H: History<T, Pass = ()>> AsyncReceiver<T, H> {
     /// A future that receives a message. It does nothing before its first poll; one that is dropped
     /// before that has taken no message. One that is dropped later drops the message that it was given
     /// and hadn't answered yet. Neither this call nor a poll waits for anybody.
@@ -54,10 +112,10 @@ impl<T: Drop> AsyncReceiver<T> {
     /// block_on(&rt, receiver.recv())   gives  Ok(7)                            where 7 was sent
     /// block_on(&rt, receiver.recv())   gives  Err(ReceiveError::SendClosed)    after the last sender's drop
     /// ```
-    pub fn recv(&self) -> ReceiveFuture<'_, T>
+    pub fn recv(&self) -> ReceiveFuture<'_, T, H>
         ensures fresh { receive_is_over result ≡ false }
     {
-        self.shared.recv()
+        receive_future(&self.shared)
     }
 
     /// The messages, one receive after the other, until one is refused. It waits for nobody.
@@ -67,10 +125,10 @@ impl<T: Drop> AsyncReceiver<T> {
     /// let mut stream = receiver.stream();
     /// block_on(&rt, stream.next())   gives  Some(7)   where 7 was sent
     /// ```
-    pub fn stream(&self) -> ReceiveStream<'_, T>
+    pub fn stream(&self) -> ReceiveStream<'_, T, H>
         ensures fresh { stream_is_over result ≡ false }
     {
-        self.shared.stream()
+        receive_stream(&self.shared)
     }
 
     /// Receives the front message, if there is one. `Ok(None)` says that there is none. It waits for
@@ -84,8 +142,10 @@ impl<T: Drop> AsyncReceiver<T> {
     /// ```text
     /// receiver.try_recv(&rt)   answers  Ok(None)   in a new channel
     /// ```
-    pub fn try_recv<R: Wait>(&self, rt: &R) -> Result<Option<T>, ReceiveError> {
-        self.shared.try_recv(rt)
+    pub fn try_recv<R: Wait>(&self, rt: &R) -> Result<Option<T>, ReceiveError>
+        ensures received { TriesToReceive H.words tt tt result }
+    {
+        self.shared.try_recv(rt, &mut ())
     }
 
     /// Receives the front message, if there is one and the lock is free: it waits for nobody.
@@ -98,8 +158,10 @@ impl<T: Drop> AsyncReceiver<T> {
     /// ```text
     /// receiver.try_recv_realtime()   answers  Ok(Some(1))   where 1 was sent
     /// ```
-    pub fn try_recv_realtime(&self) -> Result<Option<T>, ReceiveError> {
-        self.shared.try_recv_realtime()
+    pub fn try_recv_realtime(&self) -> Result<Option<T>, ReceiveError>
+        ensures received { TriesToReceiveNow H.words tt tt result }
+    {
+        self.shared.try_recv_realtime(&mut ())
     }
 
     /// Moves all messages to the vector's end, those of waiting senders too, and answers how many
@@ -114,11 +176,13 @@ impl<T: Drop> AsyncReceiver<T> {
     /// receiver.drain_into(&rt, &mut messages)   answers  Ok(2)   where two messages were there
     /// ```
     pub fn drain_into<R: Wait>(&self, rt: &R, into: &mut Vec<T>) -> Result<usize, ReceiveError>
-        ensures drained { IfOk result (λ n. GoesOnBy n into.old.items into.new.items) }
+        ensures drained { Drains H.words tt tt into.old.items into.new.items result }
         ensures refused { IfErr result (λ _. into.new.items ≡ into.old.items) }
+        ensures memory { IsErrOf result ReceiveError.NoMemory
+            → HasTooLittleRoom H.words tt (vec_len into.old) (vec_capacity into.old) }
         ensures no_growth { OnErr result (vec_capacity into.new ≡ vec_capacity into.old) }
     {
-        self.shared.drain_into(rt, into)
+        self.shared.drain_into(rt, &mut (), into)
     }
 
     /// One more receiver of the channel. Where no receiver is left it stays so, and the answer is
@@ -132,12 +196,10 @@ impl<T: Drop> AsyncReceiver<T> {
     /// let other = receiver.clone(&rt)?;
     /// receiver.receiver_count(&rt)   answers  2   where it answered 1 before
     /// ```
-    pub fn clone<R: Wait>(&self, rt: &R) -> Result<Self, TooMany> {
-        let Ok(shared) = Arc::try_clone(&self.shared) else {
-            return Err(TooMany);
-        };
-        self.shared.add_receiver(rt)?;
-        Ok(AsyncReceiver { shared })
+    pub fn clone<R: Wait>(&self, rt: &R) -> Result<Self, TooMany>
+        ensures counted { OnOk result (CountsReceiver H.words tt tt (Ok tt)) }
+    {
+        self.clone_by(rt, &mut ())
     }
 
     /// One more receiver of the channel, for threads. It counts as `clone`, and waits for the lock.
@@ -150,29 +212,11 @@ impl<T: Drop> AsyncReceiver<T> {
     /// let other = receiver.clone_sync(&rt)?;
     /// other.receiver_count(&rt)   answers  2   where it answered 1 before
     /// ```
-    pub fn clone_sync<R: Wait>(&self, rt: &R) -> Result<Receiver<T>, TooMany> {
+    pub fn clone_sync<R: Wait>(&self, rt: &R) -> Result<Receiver<T, H>, TooMany>
+        ensures counted { OnOk result (CountsReceiver H.words tt tt (Ok tt)) }
+    {
         let inner = self.clone(rt)?;
         Ok(inner.to_sync())
-    }
-
-    /// The same receiver for threads: the counts stay. It waits for nobody.
-    ///
-    /// # Examples
-    /// ```text
-    /// receiver.to_sync().receiver_count(&rt)   answers  1   for a new channel
-    /// ```
-    pub fn to_sync(self) -> Receiver<T> {
-        Receiver::new(self)
-    }
-
-    /// What a thread does with this receiver: the counts stay. It waits for nobody.
-    ///
-    /// # Examples
-    /// ```text
-    /// receiver.as_sync().recv(&rt)   answers  Ok(7)   where 7 was sent
-    /// ```
-    pub fn as_sync(&self) -> ReceiverView<'_, T> {
-        ReceiverView::new(self)
     }
 
     /// Whether no sender is left. It waits for the lock.
@@ -181,8 +225,11 @@ impl<T: Drop> AsyncReceiver<T> {
     /// ```text
     /// receiver.is_disconnected(&rt)   answers  true   after the last sender was dropped
     /// ```
-    pub fn is_disconnected<R: Wait>(&self, rt: &R) -> bool {
-        self.shared.sender_count(rt) == 0
+    pub fn is_disconnected<R: Wait>(&self, rt: &R) -> bool
+        ensures asked { Asks H.words tt tt Side.Rx Ask.IsDisconnected flag_by result }
+    {
+        self.shared
+            .ask_flag(rt, &mut (), Side::Rx, Ask::IsDisconnected)
     }
 
     /// Whether no sender is left and nothing is in the line, waiting senders' messages included, so that
@@ -192,8 +239,10 @@ impl<T: Drop> AsyncReceiver<T> {
     /// ```text
     /// receiver.is_terminated(&rt)   answers  false   while a message is in the buffer
     /// ```
-    pub fn is_terminated<R: Wait>(&self, rt: &R) -> bool {
-        self.shared.is_terminated(rt)
+    pub fn is_terminated<R: Wait>(&self, rt: &R) -> bool
+        ensures asked { AsksForTheEnd H.words tt tt result }
+    {
+        self.shared.is_terminated(rt, &mut ())
     }
 
     /// How many messages are in the buffer. It waits for the lock.
@@ -202,8 +251,10 @@ impl<T: Drop> AsyncReceiver<T> {
     /// ```text
     /// receiver.len(&rt)   answers  1   after one message entered a bounded channel for two
     /// ```
-    pub fn len<R: Wait>(&self, rt: &R) -> usize {
-        self.shared.len(rt)
+    pub fn len<R: Wait>(&self, rt: &R) -> usize
+        ensures asked { Asks H.words tt tt Side.Rx Ask.Len number_by result }
+    {
+        self.shared.ask_number(rt, &mut (), Side::Rx, Ask::Len)
     }
 
     /// Whether no message is in the buffer, whoever waits. It waits for the lock.
@@ -212,8 +263,10 @@ impl<T: Drop> AsyncReceiver<T> {
     /// ```text
     /// receiver.is_empty(&rt)   answers  false   after one message entered
     /// ```
-    pub fn is_empty<R: Wait>(&self, rt: &R) -> bool {
-        self.shared.is_empty(rt)
+    pub fn is_empty<R: Wait>(&self, rt: &R) -> bool
+        ensures asked { Asks H.words tt tt Side.Rx Ask.IsEmpty flag_by result }
+    {
+        self.shared.ask_flag(rt, &mut (), Side::Rx, Ask::IsEmpty)
     }
 
     /// Whether the buffer is at the capacity: always at capacity 0, and never without a limit. It
@@ -223,8 +276,10 @@ impl<T: Drop> AsyncReceiver<T> {
     /// ```text
     /// receiver.is_full(&rt)   answers  true   after one message entered a bounded channel for one
     /// ```
-    pub fn is_full<R: Wait>(&self, rt: &R) -> bool {
-        self.shared.is_full(rt)
+    pub fn is_full<R: Wait>(&self, rt: &R) -> bool
+        ensures asked { Asks H.words tt tt Side.Rx Ask.IsFull flag_by result }
+    {
+        self.shared.ask_flag(rt, &mut (), Side::Rx, Ask::IsFull)
     }
 
     /// Whether the channel has a limit. It waits for the lock.
@@ -233,8 +288,10 @@ impl<T: Drop> AsyncReceiver<T> {
     /// ```text
     /// receiver.is_bounded(&rt)   answers  true   for a channel that `bounded` made
     /// ```
-    pub fn is_bounded<R: Wait>(&self, rt: &R) -> bool {
-        self.shared.is_bounded(rt)
+    pub fn is_bounded<R: Wait>(&self, rt: &R) -> bool
+        ensures asked { Asks H.words tt tt Side.Rx Ask.IsBounded flag_by result }
+    {
+        self.shared.ask_flag(rt, &mut (), Side::Rx, Ask::IsBounded)
     }
 
     /// How many messages the buffer may hold, which is `usize::MAX` without a limit. It waits for the
@@ -244,8 +301,10 @@ impl<T: Drop> AsyncReceiver<T> {
     /// ```text
     /// receiver.capacity(&rt)   answers  2   for a bounded channel for two
     /// ```
-    pub fn capacity<R: Wait>(&self, rt: &R) -> usize {
-        self.shared.capacity(rt)
+    pub fn capacity<R: Wait>(&self, rt: &R) -> usize
+        ensures asked { Asks H.words tt tt Side.Rx Ask.Capacity number_by result }
+    {
+        self.shared.ask_number(rt, &mut (), Side::Rx, Ask::Capacity)
     }
 
     /// How many receivers there are. It waits for the lock.
@@ -254,8 +313,11 @@ impl<T: Drop> AsyncReceiver<T> {
     /// ```text
     /// receiver.receiver_count(&rt)   answers  1   for a new channel
     /// ```
-    pub fn receiver_count<R: Wait>(&self, rt: &R) -> u32 {
-        self.shared.receiver_count(rt)
+    pub fn receiver_count<R: Wait>(&self, rt: &R) -> u32
+        ensures asked { Asks H.words tt tt Side.Rx Ask.ReceiverCount count_by result }
+    {
+        self.shared
+            .ask_count(rt, &mut (), Side::Rx, Ask::ReceiverCount)
     }
 
     /// How many senders there are. It waits for the lock.
@@ -264,8 +326,11 @@ impl<T: Drop> AsyncReceiver<T> {
     /// ```text
     /// receiver.sender_count(&rt)   answers  1   for a new channel
     /// ```
-    pub fn sender_count<R: Wait>(&self, rt: &R) -> u32 {
-        self.shared.sender_count(rt)
+    pub fn sender_count<R: Wait>(&self, rt: &R) -> u32
+        ensures asked { Asks H.words tt tt Side.Rx Ask.SenderCount count_by result }
+    {
+        self.shared
+            .ask_count(rt, &mut (), Side::Rx, Ask::SenderCount)
     }
 
     /// Whether both sides are gone. It waits for the lock.
@@ -274,8 +339,10 @@ impl<T: Drop> AsyncReceiver<T> {
     /// ```text
     /// receiver.is_closed(&rt)   answers  true   after a close
     /// ```
-    pub fn is_closed<R: Wait>(&self, rt: &R) -> bool {
-        self.shared.is_closed(rt)
+    pub fn is_closed<R: Wait>(&self, rt: &R) -> bool
+        ensures asked { Asks H.words tt tt Side.Rx Ask.IsClosed flag_by result }
+    {
+        self.shared.ask_flag(rt, &mut (), Side::Rx, Ask::IsClosed)
     }
 
     /// Lets the senders be done: nothing more enters, and the receivers take what is left. A receive
@@ -292,8 +359,10 @@ impl<T: Drop> AsyncReceiver<T> {
     /// receiver.seal(&rt)   answers  Ok(())
     /// receiver.seal(&rt)   answers  Err(CloseError())   after that
     /// ```
-    pub fn seal<R: Wait>(&self, rt: &R) -> Result<(), CloseError> {
-        self.shared.seal(rt)
+    pub fn seal<R: Wait>(&self, rt: &R) -> Result<(), CloseError>
+        ensures sealed { Seals H.words tt tt result }
+    {
+        self.shared.seal(rt, &mut ())
     }
 
     /// Closes the channel for both sides: all waits end with `Closed`, and the buffer's messages are
@@ -307,12 +376,14 @@ impl<T: Drop> AsyncReceiver<T> {
     /// receiver.close(&rt)   answers  Ok(())
     /// receiver.close(&rt)   answers  Err(CloseError())   after that
     /// ```
-    pub fn close<R: Wait>(&self, rt: &R) -> Result<(), CloseError> {
-        self.shared.close(rt)
+    pub fn close<R: Wait>(&self, rt: &R) -> Result<(), CloseError>
+        ensures closed { Closes H.words tt tt result }
+    {
+        self.shared.close(rt, &mut ())
     }
 }
 
-impl<T: Drop> fmt::Debug for AsyncReceiver<T> {
+impl<T: Drop, H: History<T>> fmt::Debug for AsyncReceiver<T, H> {
     ghost debug_output = { λ _. Some (codes "AsyncReceiver { .. }") };
 
     fn fmt<W: fmt::Write>(&self, f: &mut fmt::Formatter<W>) -> fmt::Result {

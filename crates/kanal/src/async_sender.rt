@@ -1,15 +1,22 @@
 //! The sender of a channel for tasks: the sending handle that holds the channel.
 //!
 //! Stands on the shared channel; nothing is done here but handing on and counting. It alone has a
-//! sender's drop; the sender for threads and the view are made over it.
-ghost use Rattle.std.specs.Prelude.{◌≡◌, ◌≢◌, IsSome, Some, None, Ok, true, false, codes};
-ghost use Rattle.kanal_shared.specs.Futures.{send_is_over};
+//! sender's drop; the sender for threads and the view are made over it. A call without a pass is that of the
+//! channel with the pass of no content, and its clause holds in the words of every history whose pass is so.
+ghost use Rattle.std.specs.Prelude.{◌≡◌, ◌≢◌, IfSome, IsSome, None, OnErr, OnOk, Ok, Some, true, false, codes};
+ghost use Rattle.kanal_events.specs.declared.event.Ask.{Ask};
+ghost use Rattle.kanal_events.specs.declared.event.Side.{Side};
+ghost use Rattle.kanal_futures.specs.Plain.{send_is_over};
+ghost use Rattle.kanal_history.specs.Handles.{Asks, Closes, CountsSender, Seals, TriesToSend, TriesToSendNow};
+ghost use Rattle.kanal_history.specs.Results.{count_by, flag_by, number_by};
 
-use crate::options::{answer_of, restored, taken};
 use crate::sender::Sender;
 use crate::sender_view::SenderView;
+use kanal_channel::{CountedSender, Shared};
 use kanal_core::error::{CloseError, SendError, TooMany};
-use kanal_shared::{SendFuture, Shared};
+use kanal_events::event::{Ask, Side};
+use kanal_futures::{SendFuture, send_future};
+use kanal_history::{History, NoHistory};
 use std::fmt;
 use std::sync::{Arc, Wait};
 
@@ -17,28 +24,77 @@ use std::sync::{Arc, Wait};
 ///
 /// The channel's send side is gone when the last sender of either kind was dropped. A drop waits for
 /// nobody.
-pub struct AsyncSender<T> {
-    shared: Arc<Shared<T>>,
+pub struct AsyncSender<T, H: History<T> = NoHistory> {
+    shared: Arc<Shared<T, H>>,
+    counted: CountedSender,
 }
 
-impl<T: Drop> Drop for AsyncSender<T> {
+impl<T: Drop, H: History<T>> Drop for AsyncSender<T, H> {
     fn drop(self) {
-        let AsyncSender { shared } = self;
-        shared.drop_sender();
+        let AsyncSender { shared, counted } = self;
+        shared.drop_sender(counted);
     }
 }
 
-impl<T: Drop> AsyncSender<T> {
-    /// The first sender of the channel.
-    pub(crate) fn new(shared: Arc<Shared<T>>) -> Self {
-        AsyncSender { shared }
+impl<T: Drop, H: History<T>> AsyncSender<T, H> {
+    /// A sender of the channel that is counted.
+    pub(crate) fn new(shared: Arc<Shared<T, H>>, counted: CountedSender) -> Self {
+        AsyncSender { shared, counted }
     }
 
-    /// What all handles share.
-    pub(crate) fn shared(&self) -> &Shared<T> {
+    /// The channel, each call of which takes a pass. It is for channels with a history: whoever has none
+    /// calls the handle.
+    ///
+    /// # Examples
+    /// ```text
+    /// sender.channel().send(&rt, &mut pass, 7)   answers  Ok(())   in a channel with a place
+    /// ```
+    pub fn channel(&self) -> &Shared<T, H> {
         &self.shared
     }
 
+    /// One more sender of the channel, as a call of this pass. Where no sender is left it stays so, and the
+    /// answer is still a sender. It waits for the lock.
+    ///
+    /// # Errors
+    /// `TooMany` where there are `u32::MAX` senders, or as many handles as may be; no call is made then.
+    ///
+    /// # Examples
+    /// ```text
+    /// let other = sender.clone_by(&rt, &mut pass)?;
+    /// ```
+    pub fn clone_by<R: Wait>(&self, rt: &R, pass: &mut H::Pass) -> Result<Self, TooMany>
+        ensures counted { OnOk result (CountsSender H.words pass.old pass.new (Ok tt)) }
+    {
+        let Ok(shared) = Arc::try_clone(&self.shared) else {
+            return Err(TooMany);
+        };
+        let counted = self.shared.count_sender(rt, pass)?;
+        Ok(AsyncSender { shared, counted })
+    }
+
+    /// The same sender for threads: the counts stay. It waits for nobody.
+    ///
+    /// # Examples
+    /// ```text
+    /// sender.to_sync().sender_count(&rt)   answers  1   for a new channel
+    /// ```
+    pub fn to_sync(self) -> Sender<T, H> {
+        Sender::new(self)
+    }
+
+    /// What a thread does with this sender: the counts stay. It waits for nobody.
+    ///
+    /// # Examples
+    /// ```text
+    /// sender.as_sync().send(&rt, 7)   answers  Ok(())   in a channel with a place
+    /// ```
+    pub fn as_sync(&self) -> SenderView<'_, T, H> {
+        SenderView::new(self)
+    }
+}
+
+impl<T: Drop, H: History<T, Pass = ()>> AsyncSender<T, H> {
     /// A future that sends the message. It holds the message and does nothing before its first poll; one
     /// that is dropped before that drops the message, which was never in the channel. Neither this call
     /// nor a poll waits for anybody.
@@ -55,10 +111,10 @@ impl<T: Drop> AsyncSender<T> {
     /// block_on(&rt, sender.send(7))   gives  Ok(())                   in a channel with a place
     /// block_on(&rt, sender.send(7))   gives  Err(SendError::Closed)   after a close
     /// ```
-    pub fn send(&self, message: T) -> SendFuture<'_, T>
+    pub fn send(&self, message: T) -> SendFuture<'_, T, H>
         ensures fresh { send_is_over result ≡ false }
     {
-        self.shared.send(message)
+        send_future(&self.shared, message)
     }
 
     /// Sends the message where there is a place for it. `Ok(false)` says that there is none, and the
@@ -73,8 +129,10 @@ impl<T: Drop> AsyncSender<T> {
     /// sender.try_send(&rt, 1)   answers  Ok(true)    in a new bounded channel for one
     /// sender.try_send(&rt, 2)   answers  Ok(false)   after that
     /// ```
-    pub fn try_send<R: Wait>(&self, rt: &R, message: T) -> Result<bool, SendError> {
-        answer_of(self.shared.offer(rt, message))
+    pub fn try_send<R: Wait>(&self, rt: &R, message: T) -> Result<bool, SendError>
+        ensures sent { TriesToSend H.words tt tt message result }
+    {
+        self.shared.try_send(rt, &mut (), message)
     }
 
     /// Sends the option's message where there is a place for it, and empties the option exactly
@@ -97,11 +155,11 @@ impl<T: Drop> AsyncSender<T> {
         option: &mut Option<T>,
     ) -> Result<bool, SendError>
         requires { IsSome option.old }
+        ensures sends { IfSome option.old (λ m. TriesToSend H.words tt tt m result) }
         ensures sent { result ≡ Ok true → option.new ≡ None }
         ensures kept { result ≢ Ok true → option.new ≡ option.old }
     {
-        let message = taken(option);
-        restored(self.shared.offer(rt, message), option)
+        self.shared.try_send_option(rt, &mut (), option)
     }
 
     /// Sends the message where there is a place for it and the lock is free: it waits for nobody.
@@ -114,8 +172,10 @@ impl<T: Drop> AsyncSender<T> {
     /// ```text
     /// sender.try_send_realtime(1)   answers  Ok(true)   in a new bounded channel for one
     /// ```
-    pub fn try_send_realtime(&self, message: T) -> Result<bool, SendError> {
-        answer_of(self.shared.offer_realtime(message))
+    pub fn try_send_realtime(&self, message: T) -> Result<bool, SendError>
+        ensures sent { TriesToSendNow H.words tt tt message result }
+    {
+        self.shared.try_send_realtime(&mut (), message)
     }
 
     /// Sends the option's message where there is a place for it and the lock is free, and empties
@@ -134,11 +194,11 @@ impl<T: Drop> AsyncSender<T> {
     /// ```
     pub fn try_send_option_realtime(&self, option: &mut Option<T>) -> Result<bool, SendError>
         requires { IsSome option.old }
+        ensures sends { IfSome option.old (λ m. TriesToSendNow H.words tt tt m result) }
         ensures sent { result ≡ Ok true → option.new ≡ None }
         ensures kept { result ≢ Ok true → option.new ≡ option.old }
     {
-        let message = taken(option);
-        restored(self.shared.offer_realtime(message), option)
+        self.shared.try_send_option_realtime(&mut (), option)
     }
 
     /// One more sender of the channel. Where no sender is left it stays so, and the answer is still
@@ -152,12 +212,10 @@ impl<T: Drop> AsyncSender<T> {
     /// let other = sender.clone(&rt)?;
     /// sender.sender_count(&rt)   answers  2   where it answered 1 before
     /// ```
-    pub fn clone<R: Wait>(&self, rt: &R) -> Result<Self, TooMany> {
-        let Ok(shared) = Arc::try_clone(&self.shared) else {
-            return Err(TooMany);
-        };
-        self.shared.add_sender(rt)?;
-        Ok(AsyncSender { shared })
+    pub fn clone<R: Wait>(&self, rt: &R) -> Result<Self, TooMany>
+        ensures counted { OnOk result (CountsSender H.words tt tt (Ok tt)) }
+    {
+        self.clone_by(rt, &mut ())
     }
 
     /// One more sender of the channel, for threads. It counts as `clone`, and waits for the lock.
@@ -170,29 +228,11 @@ impl<T: Drop> AsyncSender<T> {
     /// let other = sender.clone_sync(&rt)?;
     /// other.sender_count(&rt)   answers  2   where it answered 1 before
     /// ```
-    pub fn clone_sync<R: Wait>(&self, rt: &R) -> Result<Sender<T>, TooMany> {
+    pub fn clone_sync<R: Wait>(&self, rt: &R) -> Result<Sender<T, H>, TooMany>
+        ensures counted { OnOk result (CountsSender H.words tt tt (Ok tt)) }
+    {
         let inner = self.clone(rt)?;
         Ok(inner.to_sync())
-    }
-
-    /// The same sender for threads: the counts stay. It waits for nobody.
-    ///
-    /// # Examples
-    /// ```text
-    /// sender.to_sync().sender_count(&rt)   answers  1   for a new channel
-    /// ```
-    pub fn to_sync(self) -> Sender<T> {
-        Sender::new(self)
-    }
-
-    /// What a thread does with this sender: the counts stay. It waits for nobody.
-    ///
-    /// # Examples
-    /// ```text
-    /// sender.as_sync().send(&rt, 7)   answers  Ok(())   in a channel with a place
-    /// ```
-    pub fn as_sync(&self) -> SenderView<'_, T> {
-        SenderView::new(self)
     }
 
     /// Whether no receiver is left. It waits for the lock.
@@ -201,8 +241,11 @@ impl<T: Drop> AsyncSender<T> {
     /// ```text
     /// sender.is_disconnected(&rt)   answers  true   after the last receiver was dropped
     /// ```
-    pub fn is_disconnected<R: Wait>(&self, rt: &R) -> bool {
-        self.shared.receiver_count(rt) == 0
+    pub fn is_disconnected<R: Wait>(&self, rt: &R) -> bool
+        ensures asked { Asks H.words tt tt Side.Tx Ask.IsDisconnected flag_by result }
+    {
+        self.shared
+            .ask_flag(rt, &mut (), Side::Tx, Ask::IsDisconnected)
     }
 
     /// How many messages are in the buffer. It waits for the lock.
@@ -211,8 +254,10 @@ impl<T: Drop> AsyncSender<T> {
     /// ```text
     /// sender.len(&rt)   answers  1   after one message entered a bounded channel for two
     /// ```
-    pub fn len<R: Wait>(&self, rt: &R) -> usize {
-        self.shared.len(rt)
+    pub fn len<R: Wait>(&self, rt: &R) -> usize
+        ensures asked { Asks H.words tt tt Side.Tx Ask.Len number_by result }
+    {
+        self.shared.ask_number(rt, &mut (), Side::Tx, Ask::Len)
     }
 
     /// Whether no message is in the buffer, whoever waits. It waits for the lock.
@@ -221,8 +266,10 @@ impl<T: Drop> AsyncSender<T> {
     /// ```text
     /// sender.is_empty(&rt)   answers  false   after one message entered
     /// ```
-    pub fn is_empty<R: Wait>(&self, rt: &R) -> bool {
-        self.shared.is_empty(rt)
+    pub fn is_empty<R: Wait>(&self, rt: &R) -> bool
+        ensures asked { Asks H.words tt tt Side.Tx Ask.IsEmpty flag_by result }
+    {
+        self.shared.ask_flag(rt, &mut (), Side::Tx, Ask::IsEmpty)
     }
 
     /// Whether the buffer is at the capacity: always at capacity 0, and never without a limit. It
@@ -232,8 +279,10 @@ impl<T: Drop> AsyncSender<T> {
     /// ```text
     /// sender.is_full(&rt)   answers  true   after one message entered a bounded channel for one
     /// ```
-    pub fn is_full<R: Wait>(&self, rt: &R) -> bool {
-        self.shared.is_full(rt)
+    pub fn is_full<R: Wait>(&self, rt: &R) -> bool
+        ensures asked { Asks H.words tt tt Side.Tx Ask.IsFull flag_by result }
+    {
+        self.shared.ask_flag(rt, &mut (), Side::Tx, Ask::IsFull)
     }
 
     /// Whether the channel has a limit. It waits for the lock.
@@ -242,8 +291,10 @@ impl<T: Drop> AsyncSender<T> {
     /// ```text
     /// sender.is_bounded(&rt)   answers  true   for a channel that `bounded` made
     /// ```
-    pub fn is_bounded<R: Wait>(&self, rt: &R) -> bool {
-        self.shared.is_bounded(rt)
+    pub fn is_bounded<R: Wait>(&self, rt: &R) -> bool
+        ensures asked { Asks H.words tt tt Side.Tx Ask.IsBounded flag_by result }
+    {
+        self.shared.ask_flag(rt, &mut (), Side::Tx, Ask::IsBounded)
     }
 
     /// How many messages the buffer may hold, which is `usize::MAX` without a limit. It waits for the
@@ -253,8 +304,10 @@ impl<T: Drop> AsyncSender<T> {
     /// ```text
     /// sender.capacity(&rt)   answers  2   for a bounded channel for two
     /// ```
-    pub fn capacity<R: Wait>(&self, rt: &R) -> usize {
-        self.shared.capacity(rt)
+    pub fn capacity<R: Wait>(&self, rt: &R) -> usize
+        ensures asked { Asks H.words tt tt Side.Tx Ask.Capacity number_by result }
+    {
+        self.shared.ask_number(rt, &mut (), Side::Tx, Ask::Capacity)
     }
 
     /// How many receivers there are. It waits for the lock.
@@ -263,8 +316,11 @@ impl<T: Drop> AsyncSender<T> {
     /// ```text
     /// sender.receiver_count(&rt)   answers  1   for a new channel
     /// ```
-    pub fn receiver_count<R: Wait>(&self, rt: &R) -> u32 {
-        self.shared.receiver_count(rt)
+    pub fn receiver_count<R: Wait>(&self, rt: &R) -> u32
+        ensures asked { Asks H.words tt tt Side.Tx Ask.ReceiverCount count_by result }
+    {
+        self.shared
+            .ask_count(rt, &mut (), Side::Tx, Ask::ReceiverCount)
     }
 
     /// How many senders there are. It waits for the lock.
@@ -273,8 +329,11 @@ impl<T: Drop> AsyncSender<T> {
     /// ```text
     /// sender.sender_count(&rt)   answers  1   for a new channel
     /// ```
-    pub fn sender_count<R: Wait>(&self, rt: &R) -> u32 {
-        self.shared.sender_count(rt)
+    pub fn sender_count<R: Wait>(&self, rt: &R) -> u32
+        ensures asked { Asks H.words tt tt Side.Tx Ask.SenderCount count_by result }
+    {
+        self.shared
+            .ask_count(rt, &mut (), Side::Tx, Ask::SenderCount)
     }
 
     /// Whether both sides are gone. It waits for the lock.
@@ -283,8 +342,10 @@ impl<T: Drop> AsyncSender<T> {
     /// ```text
     /// sender.is_closed(&rt)   answers  true   after a close
     /// ```
-    pub fn is_closed<R: Wait>(&self, rt: &R) -> bool {
-        self.shared.is_closed(rt)
+    pub fn is_closed<R: Wait>(&self, rt: &R) -> bool
+        ensures asked { Asks H.words tt tt Side.Tx Ask.IsClosed flag_by result }
+    {
+        self.shared.ask_flag(rt, &mut (), Side::Tx, Ask::IsClosed)
     }
 
     /// Lets the senders be done: nothing more enters, and the receivers take what is left. A receive
@@ -301,8 +362,10 @@ impl<T: Drop> AsyncSender<T> {
     /// sender.seal(&rt)   answers  Ok(())
     /// sender.seal(&rt)   answers  Err(CloseError())   after that
     /// ```
-    pub fn seal<R: Wait>(&self, rt: &R) -> Result<(), CloseError> {
-        self.shared.seal(rt)
+    pub fn seal<R: Wait>(&self, rt: &R) -> Result<(), CloseError>
+        ensures sealed { Seals H.words tt tt result }
+    {
+        self.shared.seal(rt, &mut ())
     }
 
     /// Closes the channel for both sides: all waits end with `Closed`, and the buffer's messages are
@@ -316,12 +379,14 @@ impl<T: Drop> AsyncSender<T> {
     /// sender.close(&rt)   answers  Ok(())
     /// sender.close(&rt)   answers  Err(CloseError())   after that
     /// ```
-    pub fn close<R: Wait>(&self, rt: &R) -> Result<(), CloseError> {
-        self.shared.close(rt)
+    pub fn close<R: Wait>(&self, rt: &R) -> Result<(), CloseError>
+        ensures closed { Closes H.words tt tt result }
+    {
+        self.shared.close(rt, &mut ())
     }
 }
 
-impl<T: Drop> fmt::Debug for AsyncSender<T> {
+impl<T: Drop, H: History<T>> fmt::Debug for AsyncSender<T, H> {
     ghost debug_output = { λ _. Some (codes "AsyncSender { .. }") };
 
     fn fmt<W: fmt::Write>(&self, f: &mut fmt::Formatter<W>) -> fmt::Result {

@@ -2,34 +2,54 @@
 //!
 //! Stands on the core and on the handles for tasks; those for threads are made of them.
 ghost use Rattle.std.specs.Prelude.{◌≡◌, ◌↔◌, IsErrOf};
+ghost use Rattle.kanal_core.specs.Channel.{line_of};
 ghost use Rattle.kanal_core.specs.Line.{last_word};
 
 use crate::async_receiver::AsyncReceiver;
 use crate::async_sender::AsyncSender;
 use crate::receiver::Receiver;
 use crate::sender::Sender;
+use kanal_channel::{Core, Shared};
 use kanal_core::error::NewError;
 use kanal_core::internal::ChannelInternal;
-use kanal_shared::Shared;
-use kanal_steps::seat::Core;
+use kanal_history::{History, NoHistory};
 use std::alloc::Global;
-use std::sync::Arc;
 
 /// The two first handles over this core.
 fn handles<T: Drop>(
     alloc: Global,
-    core: Core<T>,
+    core: Core<T, NoHistory>,
 ) -> Result<(AsyncSender<T>, AsyncReceiver<T>), NewError>
     ensures { IsErrOf result NewError.TooLarge → ⊥ }
 {
-    let Ok(shared) = Arc::new(alloc, Shared::new(core, alloc)) else {
-        return Err(NewError::NoMemory);
-    };
-    let Ok(other) = Arc::try_clone(&shared) else {
-        return Err(NewError::NoMemory);
-    };
-    let sender = AsyncSender::new(shared);
-    let receiver = AsyncReceiver::new(other);
+    over(alloc, core, NoHistory, (), ())
+}
+
+/// The two first handles over this core, and over what is kept of the calls that led to its line, with a pass
+/// for the calls that are nobody's. It is for channels with a history: `bounded` and its likes have none.
+///
+/// # Errors
+/// `NoMemory` where there is no memory for the channel.
+///
+/// # Examples
+/// ```text
+/// let (sender, receiver) = over(alloc, core, history, cleanup, board)?;
+/// ```
+pub fn over<T: Drop, H: History<T>>(
+    alloc: Global,
+    core: Core<T, H>,
+    history: H,
+    cleanup: H::Pass,
+    board: H::Board,
+) -> Result<(AsyncSender<T, H>, AsyncReceiver<T, H>), NewError>
+    requires core { H.stands history (line_of core) }
+    ensures large { IsErrOf result NewError.TooLarge → ⊥ }
+{
+    let (one, other) = Shared::halves(core, history, cleanup, board, alloc)?;
+    let (shared, counted) = one;
+    let sender = AsyncSender::new(shared, counted);
+    let (shared, counted) = other;
+    let receiver = AsyncReceiver::new(shared, counted);
     Ok((sender, receiver))
 }
 

@@ -4,9 +4,12 @@
 //! cloned and dropped, for threads and for tasks, and each kind is made of the other. A thread's blocked
 //! call sleeps until its wait is settled; a task's future is polled, and waits for nobody.
 //!
-//! Stands on `kanal_shared`, the channel behind its lock, whose clocks and futures it hands on, and on
-//! `kanal_core` and `kanal_cell`, whose core, cells and errors it hands on. A handle counts itself and
-//! hands on each call; no lock is taken here.
+//! Stands on `kanal_channel`, the channel behind its lock, whose clocks it hands on, on `kanal_futures`, whose
+//! futures it hands on, and on `kanal_core` and `kanal_cell`, whose core, cells and errors it hands on. A
+//! handle counts itself and hands on each call; no lock is taken here.
+//!
+//! Each handle has a history, `NoHistory` where none is named. A plain call's contract says which step of a
+//! line of messages it was, in the words of every history whose pass has no content.
 #![tactic(auto)]
 
 pub use kanal_cell::signal;
@@ -25,7 +28,6 @@ mod async_receiver;
 mod async_sender;
 mod channel;
 mod messages;
-mod options;
 mod receiver;
 mod receiver_view;
 mod sender;
@@ -33,12 +35,14 @@ mod sender_view;
 
 pub use async_receiver::AsyncReceiver;
 pub use async_sender::AsyncSender;
-pub use channel::{bounded, bounded_async, unbounded, unbounded_async};
+pub use channel::{bounded, bounded_async, over, unbounded, unbounded_async};
 pub use error::{
     CloseError, DrainError, NewError, NoMemory, ReceiveError, ReceiveErrorTimeout, SendError,
     SendErrorTimeout, TooMany, WaitError,
 };
-pub use kanal_shared::{Clock, ReceiveFuture, ReceiveStream, SendFuture, SystemClock, TestClock};
+pub use kanal_channel::{Clock, Shared, SystemClock, TestClock};
+pub use kanal_futures::{ReceiveFuture, ReceiveStream, SendFuture};
+pub use kanal_history::{History, NoHistory};
 pub use messages::Messages;
 pub use receiver::Receiver;
 pub use receiver_view::ReceiverView;

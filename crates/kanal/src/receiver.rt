@@ -1,16 +1,21 @@
 //! The receiver of a channel for threads.
 //!
-//! Stands on the receiver for tasks; nothing is done here but handing on.
-ghost use Rattle.std.specs.Prelude.{◌≡◌, Some, IfOk, IfErr, IsErrOf, OnErr, codes};
+//! Stands on the receiver for tasks and its channel; nothing is done here but handing on.
+ghost use Rattle.std.specs.Prelude.{◌≡◌, IfErr, IsErrOf, OnErr, OnOk, Ok, Some, codes};
 ghost use Rattle.std.specs.Duration.{as_nanos};
-ghost use Rattle.std.specs.Vec.{vec_capacity};
-ghost use Rattle.kanal_shared.specs.Deadlines.{ReceivesInTime};
-ghost use Rattle.kanal_shared.specs.Drains.{GoesOnBy};
+ghost use Rattle.std.specs.Vec.{vec_capacity, vec_len};
+ghost use Rattle.kanal_events.specs.declared.event.Ask.{Ask};
+ghost use Rattle.kanal_events.specs.declared.event.Side.{Side};
+ghost use Rattle.kanal_history.specs.Handles.{Asks, AsksForTheEnd, Closes, CountsReceiver, Drains, Receives, ReceivesInTime, Seals, TriesToReceive, TriesToReceiveNow};
+ghost use Rattle.kanal_history.specs.Makes.{HasTooLittleRoom};
+ghost use Rattle.kanal_history.specs.Results.{count_by, flag_by, number_by};
 
 use crate::async_receiver::AsyncReceiver;
 use crate::messages::{Messages, for_each};
+use kanal_channel::Clock;
 use kanal_core::error::{CloseError, ReceiveError, ReceiveErrorTimeout, TooMany};
-use kanal_shared::Clock;
+use kanal_events::event::{Ask, Side};
+use kanal_history::{History, NoHistory};
 use std::sync::Wait;
 use std::time::Duration;
 use std::{fmt, time};
@@ -20,16 +25,39 @@ use std::{fmt, time};
 /// The channel's receive side is gone when the last receiver of either kind was dropped. A drop waits
 /// for nobody.
 #[derive(Drop)]
-pub struct Receiver<T> {
-    inner: AsyncReceiver<T>,
+pub struct Receiver<T, H: History<T> = NoHistory> {
+    inner: AsyncReceiver<T, H>,
 }
 
-impl<T: Drop> Receiver<T> {
+impl<T: Drop, H: History<T>> Receiver<T, H> {
     /// A receiver for threads.
-    pub(crate) fn new(inner: AsyncReceiver<T>) -> Self {
+    pub(crate) fn new(inner: AsyncReceiver<T, H>) -> Self {
         Receiver { inner }
     }
 
+    /// The same receiver for tasks: the counts stay. It waits for nobody.
+    ///
+    /// # Examples
+    /// ```text
+    /// receiver.to_async().receiver_count(&rt)   answers  1   for a new channel
+    /// ```
+    pub fn to_async(self) -> AsyncReceiver<T, H> {
+        let Receiver { inner } = self;
+        inner
+    }
+
+    /// This receiver as one for tasks: the counts stay. It waits for nobody.
+    ///
+    /// # Examples
+    /// ```text
+    /// receiver.as_async().recv()   answers  a future that receives a message
+    /// ```
+    pub fn as_async(&self) -> &AsyncReceiver<T, H> {
+        &self.inner
+    }
+}
+
+impl<T: Drop, H: History<T, Pass = ()>> Receiver<T, H> {
     /// Receives the front message. Where there is none it waits until a message is sent, or the
     /// channel ends; and it waits for the lock.
     ///
@@ -43,8 +71,10 @@ impl<T: Drop> Receiver<T> {
     /// receiver.recv(&rt)   answers  Ok(7)                            where 7 was sent
     /// receiver.recv(&rt)   answers  Err(ReceiveError::SendClosed)    after the last sender's drop
     /// ```
-    pub fn recv<R: Wait>(&self, rt: &R) -> Result<T, ReceiveError> {
-        self.inner.shared().recv_blocking(rt)
+    pub fn recv<R: Wait>(&self, rt: &R) -> Result<T, ReceiveError>
+        ensures received { Receives H.words tt tt result }
+    {
+        self.inner.channel().recv(rt, &mut ())
     }
 
     /// Receives the front message. Where there is none it waits until a message is sent, the channel
@@ -67,9 +97,12 @@ impl<T: Drop> Receiver<T> {
         duration: Duration,
         clock: &C,
     ) -> Result<T, ReceiveErrorTimeout>
-        ensures time { ReceivesInTime (C.answers clock.now) (as_nanos duration) result }
+        ensures received { ReceivesInTime H.words tt tt (C.answers clock.now) (as_nanos duration)
+            result }
     {
-        self.inner.shared().recv_before(rt, duration, clock)
+        self.inner
+            .channel()
+            .recv_timeout(rt, &mut (), duration, clock)
     }
 
     /// Receives the front message, if there is one. `Ok(None)` says that there is none. It waits for
@@ -83,8 +116,10 @@ impl<T: Drop> Receiver<T> {
     /// ```text
     /// receiver.try_recv(&rt)   answers  Ok(None)   in a new channel
     /// ```
-    pub fn try_recv<R: Wait>(&self, rt: &R) -> Result<Option<T>, ReceiveError> {
-        self.inner.try_recv(rt)
+    pub fn try_recv<R: Wait>(&self, rt: &R) -> Result<Option<T>, ReceiveError>
+        ensures received { TriesToReceive H.words tt tt result }
+    {
+        self.inner.channel().try_recv(rt, &mut ())
     }
 
     /// Receives the front message, if there is one and the lock is free: it waits for nobody.
@@ -97,8 +132,10 @@ impl<T: Drop> Receiver<T> {
     /// ```text
     /// receiver.try_recv_realtime()   answers  Ok(Some(1))   where 1 was sent
     /// ```
-    pub fn try_recv_realtime(&self) -> Result<Option<T>, ReceiveError> {
-        self.inner.try_recv_realtime()
+    pub fn try_recv_realtime(&self) -> Result<Option<T>, ReceiveError>
+        ensures received { TriesToReceiveNow H.words tt tt result }
+    {
+        self.inner.channel().try_recv_realtime(&mut ())
     }
 
     /// Moves all messages to the vector's end, those of waiting senders too, and answers how many
@@ -113,11 +150,13 @@ impl<T: Drop> Receiver<T> {
     /// receiver.drain_into(&rt, &mut messages)   answers  Ok(2)   where two messages were there
     /// ```
     pub fn drain_into<R: Wait>(&self, rt: &R, into: &mut Vec<T>) -> Result<usize, ReceiveError>
-        ensures drained { IfOk result (λ n. GoesOnBy n into.old.items into.new.items) }
+        ensures drained { Drains H.words tt tt into.old.items into.new.items result }
         ensures refused { IfErr result (λ _. into.new.items ≡ into.old.items) }
+        ensures memory { IsErrOf result ReceiveError.NoMemory
+            → HasTooLittleRoom H.words tt (vec_len into.old) (vec_capacity into.old) }
         ensures no_growth { OnErr result (vec_capacity into.new ≡ vec_capacity into.old) }
     {
-        self.inner.drain_into(rt, into)
+        self.inner.channel().drain_into(rt, &mut (), into)
     }
 
     /// The messages, one `recv` after the other, until one is refused. It keeps the runtime value, and
@@ -132,7 +171,7 @@ impl<T: Drop> Receiver<T> {
     ///     sum += message;
     /// }
     /// ```
-    pub fn iter<'m, R: Wait>(&'m mut self, rt: &'m R) -> Messages<'m, T, R> {
+    pub fn iter<'m, R: Wait>(&'m mut self, rt: &'m R) -> Messages<'m, T, R, H> {
         Messages::new(rt, &self.inner)
     }
 
@@ -168,7 +207,9 @@ impl<T: Drop> Receiver<T> {
     /// let other = receiver.clone(&rt)?;
     /// receiver.receiver_count(&rt)   answers  2   where it answered 1 before
     /// ```
-    pub fn clone<R: Wait>(&self, rt: &R) -> Result<Self, TooMany> {
+    pub fn clone<R: Wait>(&self, rt: &R) -> Result<Self, TooMany>
+        ensures counted { OnOk result (CountsReceiver H.words tt tt (Ok tt)) }
+    {
         self.inner.clone_sync(rt)
     }
 
@@ -182,29 +223,10 @@ impl<T: Drop> Receiver<T> {
     /// let other = receiver.clone_async(&rt)?;
     /// other.receiver_count(&rt)   answers  2   where it answered 1 before
     /// ```
-    pub fn clone_async<R: Wait>(&self, rt: &R) -> Result<AsyncReceiver<T>, TooMany> {
+    pub fn clone_async<R: Wait>(&self, rt: &R) -> Result<AsyncReceiver<T, H>, TooMany>
+        ensures counted { OnOk result (CountsReceiver H.words tt tt (Ok tt)) }
+    {
         self.inner.clone(rt)
-    }
-
-    /// The same receiver for tasks: the counts stay. It waits for nobody.
-    ///
-    /// # Examples
-    /// ```text
-    /// receiver.to_async().receiver_count(&rt)   answers  1   for a new channel
-    /// ```
-    pub fn to_async(self) -> AsyncReceiver<T> {
-        let Receiver { inner } = self;
-        inner
-    }
-
-    /// This receiver as one for tasks: the counts stay. It waits for nobody.
-    ///
-    /// # Examples
-    /// ```text
-    /// receiver.as_async().recv()   answers  a future that receives a message
-    /// ```
-    pub fn as_async(&self) -> &AsyncReceiver<T> {
-        &self.inner
     }
 
     /// Whether no sender is left. It waits for the lock.
@@ -213,8 +235,12 @@ impl<T: Drop> Receiver<T> {
     /// ```text
     /// receiver.is_disconnected(&rt)   answers  true   after the last sender was dropped
     /// ```
-    pub fn is_disconnected<R: Wait>(&self, rt: &R) -> bool {
-        self.inner.is_disconnected(rt)
+    pub fn is_disconnected<R: Wait>(&self, rt: &R) -> bool
+        ensures asked { Asks H.words tt tt Side.Rx Ask.IsDisconnected flag_by result }
+    {
+        self.inner
+            .channel()
+            .ask_flag(rt, &mut (), Side::Rx, Ask::IsDisconnected)
     }
 
     /// Whether no sender is left and nothing is in the line, waiting senders' messages included, so that
@@ -224,8 +250,10 @@ impl<T: Drop> Receiver<T> {
     /// ```text
     /// receiver.is_terminated(&rt)   answers  false   while a message is in the buffer
     /// ```
-    pub fn is_terminated<R: Wait>(&self, rt: &R) -> bool {
-        self.inner.is_terminated(rt)
+    pub fn is_terminated<R: Wait>(&self, rt: &R) -> bool
+        ensures asked { AsksForTheEnd H.words tt tt result }
+    {
+        self.inner.channel().is_terminated(rt, &mut ())
     }
 
     /// How many messages are in the buffer. It waits for the lock.
@@ -234,8 +262,12 @@ impl<T: Drop> Receiver<T> {
     /// ```text
     /// receiver.len(&rt)   answers  1   after one message entered a bounded channel for two
     /// ```
-    pub fn len<R: Wait>(&self, rt: &R) -> usize {
-        self.inner.len(rt)
+    pub fn len<R: Wait>(&self, rt: &R) -> usize
+        ensures asked { Asks H.words tt tt Side.Rx Ask.Len number_by result }
+    {
+        self.inner
+            .channel()
+            .ask_number(rt, &mut (), Side::Rx, Ask::Len)
     }
 
     /// Whether no message is in the buffer, whoever waits. It waits for the lock.
@@ -244,8 +276,12 @@ impl<T: Drop> Receiver<T> {
     /// ```text
     /// receiver.is_empty(&rt)   answers  false   after one message entered
     /// ```
-    pub fn is_empty<R: Wait>(&self, rt: &R) -> bool {
-        self.inner.is_empty(rt)
+    pub fn is_empty<R: Wait>(&self, rt: &R) -> bool
+        ensures asked { Asks H.words tt tt Side.Rx Ask.IsEmpty flag_by result }
+    {
+        self.inner
+            .channel()
+            .ask_flag(rt, &mut (), Side::Rx, Ask::IsEmpty)
     }
 
     /// Whether the buffer is at the capacity: always at capacity 0, and never without a limit. It
@@ -255,8 +291,12 @@ impl<T: Drop> Receiver<T> {
     /// ```text
     /// receiver.is_full(&rt)   answers  true   after one message entered a bounded channel for one
     /// ```
-    pub fn is_full<R: Wait>(&self, rt: &R) -> bool {
-        self.inner.is_full(rt)
+    pub fn is_full<R: Wait>(&self, rt: &R) -> bool
+        ensures asked { Asks H.words tt tt Side.Rx Ask.IsFull flag_by result }
+    {
+        self.inner
+            .channel()
+            .ask_flag(rt, &mut (), Side::Rx, Ask::IsFull)
     }
 
     /// Whether the channel has a limit. It waits for the lock.
@@ -265,8 +305,12 @@ impl<T: Drop> Receiver<T> {
     /// ```text
     /// receiver.is_bounded(&rt)   answers  true   for a channel that `bounded` made
     /// ```
-    pub fn is_bounded<R: Wait>(&self, rt: &R) -> bool {
-        self.inner.is_bounded(rt)
+    pub fn is_bounded<R: Wait>(&self, rt: &R) -> bool
+        ensures asked { Asks H.words tt tt Side.Rx Ask.IsBounded flag_by result }
+    {
+        self.inner
+            .channel()
+            .ask_flag(rt, &mut (), Side::Rx, Ask::IsBounded)
     }
 
     /// How many messages the buffer may hold, which is `usize::MAX` without a limit. It waits for the
@@ -276,8 +320,12 @@ impl<T: Drop> Receiver<T> {
     /// ```text
     /// receiver.capacity(&rt)   answers  2   for a bounded channel for two
     /// ```
-    pub fn capacity<R: Wait>(&self, rt: &R) -> usize {
-        self.inner.capacity(rt)
+    pub fn capacity<R: Wait>(&self, rt: &R) -> usize
+        ensures asked { Asks H.words tt tt Side.Rx Ask.Capacity number_by result }
+    {
+        self.inner
+            .channel()
+            .ask_number(rt, &mut (), Side::Rx, Ask::Capacity)
     }
 
     /// How many receivers there are. It waits for the lock.
@@ -286,8 +334,12 @@ impl<T: Drop> Receiver<T> {
     /// ```text
     /// receiver.receiver_count(&rt)   answers  1   for a new channel
     /// ```
-    pub fn receiver_count<R: Wait>(&self, rt: &R) -> u32 {
-        self.inner.receiver_count(rt)
+    pub fn receiver_count<R: Wait>(&self, rt: &R) -> u32
+        ensures asked { Asks H.words tt tt Side.Rx Ask.ReceiverCount count_by result }
+    {
+        self.inner
+            .channel()
+            .ask_count(rt, &mut (), Side::Rx, Ask::ReceiverCount)
     }
 
     /// How many senders there are. It waits for the lock.
@@ -296,8 +348,12 @@ impl<T: Drop> Receiver<T> {
     /// ```text
     /// receiver.sender_count(&rt)   answers  1   for a new channel
     /// ```
-    pub fn sender_count<R: Wait>(&self, rt: &R) -> u32 {
-        self.inner.sender_count(rt)
+    pub fn sender_count<R: Wait>(&self, rt: &R) -> u32
+        ensures asked { Asks H.words tt tt Side.Rx Ask.SenderCount count_by result }
+    {
+        self.inner
+            .channel()
+            .ask_count(rt, &mut (), Side::Rx, Ask::SenderCount)
     }
 
     /// Whether both sides are gone. It waits for the lock.
@@ -306,8 +362,12 @@ impl<T: Drop> Receiver<T> {
     /// ```text
     /// receiver.is_closed(&rt)   answers  true   after a close
     /// ```
-    pub fn is_closed<R: Wait>(&self, rt: &R) -> bool {
-        self.inner.is_closed(rt)
+    pub fn is_closed<R: Wait>(&self, rt: &R) -> bool
+        ensures asked { Asks H.words tt tt Side.Rx Ask.IsClosed flag_by result }
+    {
+        self.inner
+            .channel()
+            .ask_flag(rt, &mut (), Side::Rx, Ask::IsClosed)
     }
 
     /// Lets the senders be done: nothing more enters, and the receivers take what is left. A receive
@@ -324,8 +384,10 @@ impl<T: Drop> Receiver<T> {
     /// receiver.seal(&rt)   answers  Ok(())
     /// receiver.seal(&rt)   answers  Err(CloseError())   after that
     /// ```
-    pub fn seal<R: Wait>(&self, rt: &R) -> Result<(), CloseError> {
-        self.inner.seal(rt)
+    pub fn seal<R: Wait>(&self, rt: &R) -> Result<(), CloseError>
+        ensures sealed { Seals H.words tt tt result }
+    {
+        self.inner.channel().seal(rt, &mut ())
     }
 
     /// Closes the channel for both sides: all waits end with `Closed`, and the buffer's messages are
@@ -339,12 +401,14 @@ impl<T: Drop> Receiver<T> {
     /// receiver.close(&rt)   answers  Ok(())
     /// receiver.close(&rt)   answers  Err(CloseError())   after that
     /// ```
-    pub fn close<R: Wait>(&self, rt: &R) -> Result<(), CloseError> {
-        self.inner.close(rt)
+    pub fn close<R: Wait>(&self, rt: &R) -> Result<(), CloseError>
+        ensures closed { Closes H.words tt tt result }
+    {
+        self.inner.channel().close(rt, &mut ())
     }
 }
 
-impl<T: Drop> fmt::Debug for Receiver<T> {
+impl<T: Drop, H: History<T>> fmt::Debug for Receiver<T, H> {
     ghost debug_output = { λ _. Some (codes "Receiver { .. }") };
 
     fn fmt<W: fmt::Write>(&self, f: &mut fmt::Formatter<W>) -> fmt::Result {

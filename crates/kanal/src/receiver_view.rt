@@ -2,34 +2,39 @@
 //!
 //! Stands on the receiver for tasks; nothing is done here but handing on. A view is not counted: it
 //! has no clone, no conversion and no drop of its own.
-ghost use Rattle.std.specs.Prelude.{◌≡◌, IfOk, IfErr, IsErrOf, OnErr};
+ghost use Rattle.std.specs.Prelude.{◌≡◌, IfErr, IsErrOf, OnErr};
 ghost use Rattle.std.specs.Duration.{as_nanos};
-ghost use Rattle.std.specs.Vec.{vec_capacity};
-ghost use Rattle.kanal_shared.specs.Deadlines.{ReceivesInTime};
-ghost use Rattle.kanal_shared.specs.Drains.{GoesOnBy};
+ghost use Rattle.std.specs.Vec.{vec_capacity, vec_len};
+ghost use Rattle.kanal_events.specs.declared.event.Ask.{Ask};
+ghost use Rattle.kanal_events.specs.declared.event.Side.{Side};
+ghost use Rattle.kanal_history.specs.Handles.{Asks, AsksForTheEnd, Closes, Drains, Receives, ReceivesInTime, Seals, TriesToReceive, TriesToReceiveNow};
+ghost use Rattle.kanal_history.specs.Makes.{HasTooLittleRoom};
+ghost use Rattle.kanal_history.specs.Results.{count_by, flag_by, number_by};
 
 use crate::async_receiver::AsyncReceiver;
 use crate::messages::{Messages, for_each};
+use kanal_channel::Clock;
 use kanal_core::error::{CloseError, ReceiveError, ReceiveErrorTimeout};
-use kanal_shared::Clock;
+use kanal_events::event::{Ask, Side};
+use kanal_history::{History, NoHistory};
 use std::sync::Wait;
 use std::time;
 use std::time::Duration;
 
 /// A receiver for tasks, as a thread uses it.
 #[derive(Drop)]
-pub struct ReceiverView<'a, T> {
-    receiver: &'a AsyncReceiver<T>,
+pub struct ReceiverView<'a, T, H: History<T> = NoHistory> {
+    receiver: &'a AsyncReceiver<T, H>,
 }
 
-impl<'a, T: Drop> ReceiverView<'a, T> {
+impl<'a, T: Drop, H: History<T>> ReceiverView<'a, T, H> {
     /// A view of the receiver.
-    pub(crate) fn new(receiver: &'a AsyncReceiver<T>) -> Self {
+    pub(crate) fn new(receiver: &'a AsyncReceiver<T, H>) -> Self {
         ReceiverView { receiver }
     }
 }
 
-impl<T: Drop> ReceiverView<'_, T> {
+impl<T: Drop, H: History<T, Pass = ()>> ReceiverView<'_, T, H> {
     /// Receives the front message. Where there is none it waits until a message is sent, or the
     /// channel ends; and it waits for the lock.
     ///
@@ -43,8 +48,10 @@ impl<T: Drop> ReceiverView<'_, T> {
     /// view.recv(&rt)   answers  Ok(7)                            where 7 was sent
     /// view.recv(&rt)   answers  Err(ReceiveError::SendClosed)    after the last sender's drop
     /// ```
-    pub fn recv<R: Wait>(&self, rt: &R) -> Result<T, ReceiveError> {
-        self.receiver.shared().recv_blocking(rt)
+    pub fn recv<R: Wait>(&self, rt: &R) -> Result<T, ReceiveError>
+        ensures received { Receives H.words tt tt result }
+    {
+        self.receiver.channel().recv(rt, &mut ())
     }
 
     /// Receives the front message. Where there is none it waits until a message is sent, the channel
@@ -67,9 +74,12 @@ impl<T: Drop> ReceiverView<'_, T> {
         duration: Duration,
         clock: &C,
     ) -> Result<T, ReceiveErrorTimeout>
-        ensures time { ReceivesInTime (C.answers clock.now) (as_nanos duration) result }
+        ensures received { ReceivesInTime H.words tt tt (C.answers clock.now) (as_nanos duration)
+            result }
     {
-        self.receiver.shared().recv_before(rt, duration, clock)
+        self.receiver
+            .channel()
+            .recv_timeout(rt, &mut (), duration, clock)
     }
 
     /// Receives the front message, if there is one. `Ok(None)` says that there is none. It waits for
@@ -83,8 +93,10 @@ impl<T: Drop> ReceiverView<'_, T> {
     /// ```text
     /// view.try_recv(&rt)   answers  Ok(None)   in a new channel
     /// ```
-    pub fn try_recv<R: Wait>(&self, rt: &R) -> Result<Option<T>, ReceiveError> {
-        self.receiver.try_recv(rt)
+    pub fn try_recv<R: Wait>(&self, rt: &R) -> Result<Option<T>, ReceiveError>
+        ensures received { TriesToReceive H.words tt tt result }
+    {
+        self.receiver.channel().try_recv(rt, &mut ())
     }
 
     /// Receives the front message, if there is one and the lock is free: it waits for nobody.
@@ -97,8 +109,10 @@ impl<T: Drop> ReceiverView<'_, T> {
     /// ```text
     /// view.try_recv_realtime()   answers  Ok(Some(1))   where 1 was sent
     /// ```
-    pub fn try_recv_realtime(&self) -> Result<Option<T>, ReceiveError> {
-        self.receiver.try_recv_realtime()
+    pub fn try_recv_realtime(&self) -> Result<Option<T>, ReceiveError>
+        ensures received { TriesToReceiveNow H.words tt tt result }
+    {
+        self.receiver.channel().try_recv_realtime(&mut ())
     }
 
     /// Moves all messages to the vector's end, those of waiting senders too, and answers how many
@@ -113,11 +127,13 @@ impl<T: Drop> ReceiverView<'_, T> {
     /// view.drain_into(&rt, &mut messages)   answers  Ok(2)   where two messages were there
     /// ```
     pub fn drain_into<R: Wait>(&self, rt: &R, into: &mut Vec<T>) -> Result<usize, ReceiveError>
-        ensures drained { IfOk result (λ n. GoesOnBy n into.old.items into.new.items) }
+        ensures drained { Drains H.words tt tt into.old.items into.new.items result }
         ensures refused { IfErr result (λ _. into.new.items ≡ into.old.items) }
+        ensures memory { IsErrOf result ReceiveError.NoMemory
+            → HasTooLittleRoom H.words tt (vec_len into.old) (vec_capacity into.old) }
         ensures no_growth { OnErr result (vec_capacity into.new ≡ vec_capacity into.old) }
     {
-        self.receiver.drain_into(rt, into)
+        self.receiver.channel().drain_into(rt, &mut (), into)
     }
 
     /// The messages, one `recv` after the other, until one is refused. It keeps the runtime value, and
@@ -132,7 +148,7 @@ impl<T: Drop> ReceiverView<'_, T> {
     ///     sum += message;
     /// }
     /// ```
-    pub fn iter<'m, R: Wait>(&'m mut self, rt: &'m R) -> Messages<'m, T, R> {
+    pub fn iter<'m, R: Wait>(&'m mut self, rt: &'m R) -> Messages<'m, T, R, H> {
         Messages::new(rt, self.receiver)
     }
 
@@ -163,8 +179,12 @@ impl<T: Drop> ReceiverView<'_, T> {
     /// ```text
     /// view.is_disconnected(&rt)   answers  true   after the last sender was dropped
     /// ```
-    pub fn is_disconnected<R: Wait>(&self, rt: &R) -> bool {
-        self.receiver.is_disconnected(rt)
+    pub fn is_disconnected<R: Wait>(&self, rt: &R) -> bool
+        ensures asked { Asks H.words tt tt Side.Rx Ask.IsDisconnected flag_by result }
+    {
+        self.receiver
+            .channel()
+            .ask_flag(rt, &mut (), Side::Rx, Ask::IsDisconnected)
     }
 
     /// Whether no sender is left and nothing is in the line, waiting senders' messages included, so that
@@ -174,8 +194,10 @@ impl<T: Drop> ReceiverView<'_, T> {
     /// ```text
     /// view.is_terminated(&rt)   answers  false   while a message is in the buffer
     /// ```
-    pub fn is_terminated<R: Wait>(&self, rt: &R) -> bool {
-        self.receiver.is_terminated(rt)
+    pub fn is_terminated<R: Wait>(&self, rt: &R) -> bool
+        ensures asked { AsksForTheEnd H.words tt tt result }
+    {
+        self.receiver.channel().is_terminated(rt, &mut ())
     }
 
     /// How many messages are in the buffer. It waits for the lock.
@@ -184,8 +206,12 @@ impl<T: Drop> ReceiverView<'_, T> {
     /// ```text
     /// view.len(&rt)   answers  1   after one message entered a bounded channel for two
     /// ```
-    pub fn len<R: Wait>(&self, rt: &R) -> usize {
-        self.receiver.len(rt)
+    pub fn len<R: Wait>(&self, rt: &R) -> usize
+        ensures asked { Asks H.words tt tt Side.Rx Ask.Len number_by result }
+    {
+        self.receiver
+            .channel()
+            .ask_number(rt, &mut (), Side::Rx, Ask::Len)
     }
 
     /// Whether no message is in the buffer, whoever waits. It waits for the lock.
@@ -194,8 +220,12 @@ impl<T: Drop> ReceiverView<'_, T> {
     /// ```text
     /// view.is_empty(&rt)   answers  false   after one message entered
     /// ```
-    pub fn is_empty<R: Wait>(&self, rt: &R) -> bool {
-        self.receiver.is_empty(rt)
+    pub fn is_empty<R: Wait>(&self, rt: &R) -> bool
+        ensures asked { Asks H.words tt tt Side.Rx Ask.IsEmpty flag_by result }
+    {
+        self.receiver
+            .channel()
+            .ask_flag(rt, &mut (), Side::Rx, Ask::IsEmpty)
     }
 
     /// Whether the buffer is at the capacity: always at capacity 0, and never without a limit. It
@@ -205,8 +235,12 @@ impl<T: Drop> ReceiverView<'_, T> {
     /// ```text
     /// view.is_full(&rt)   answers  true   after one message entered a bounded channel for one
     /// ```
-    pub fn is_full<R: Wait>(&self, rt: &R) -> bool {
-        self.receiver.is_full(rt)
+    pub fn is_full<R: Wait>(&self, rt: &R) -> bool
+        ensures asked { Asks H.words tt tt Side.Rx Ask.IsFull flag_by result }
+    {
+        self.receiver
+            .channel()
+            .ask_flag(rt, &mut (), Side::Rx, Ask::IsFull)
     }
 
     /// Whether the channel has a limit. It waits for the lock.
@@ -215,8 +249,12 @@ impl<T: Drop> ReceiverView<'_, T> {
     /// ```text
     /// view.is_bounded(&rt)   answers  true   for a channel that `bounded` made
     /// ```
-    pub fn is_bounded<R: Wait>(&self, rt: &R) -> bool {
-        self.receiver.is_bounded(rt)
+    pub fn is_bounded<R: Wait>(&self, rt: &R) -> bool
+        ensures asked { Asks H.words tt tt Side.Rx Ask.IsBounded flag_by result }
+    {
+        self.receiver
+            .channel()
+            .ask_flag(rt, &mut (), Side::Rx, Ask::IsBounded)
     }
 
     /// How many messages the buffer may hold, which is `usize::MAX` without a limit. It waits for the
@@ -226,8 +264,12 @@ impl<T: Drop> ReceiverView<'_, T> {
     /// ```text
     /// view.capacity(&rt)   answers  2   for a bounded channel for two
     /// ```
-    pub fn capacity<R: Wait>(&self, rt: &R) -> usize {
-        self.receiver.capacity(rt)
+    pub fn capacity<R: Wait>(&self, rt: &R) -> usize
+        ensures asked { Asks H.words tt tt Side.Rx Ask.Capacity number_by result }
+    {
+        self.receiver
+            .channel()
+            .ask_number(rt, &mut (), Side::Rx, Ask::Capacity)
     }
 
     /// How many receivers there are. It waits for the lock.
@@ -236,8 +278,12 @@ impl<T: Drop> ReceiverView<'_, T> {
     /// ```text
     /// view.receiver_count(&rt)   answers  1   for a new channel
     /// ```
-    pub fn receiver_count<R: Wait>(&self, rt: &R) -> u32 {
-        self.receiver.receiver_count(rt)
+    pub fn receiver_count<R: Wait>(&self, rt: &R) -> u32
+        ensures asked { Asks H.words tt tt Side.Rx Ask.ReceiverCount count_by result }
+    {
+        self.receiver
+            .channel()
+            .ask_count(rt, &mut (), Side::Rx, Ask::ReceiverCount)
     }
 
     /// How many senders there are. It waits for the lock.
@@ -246,8 +292,12 @@ impl<T: Drop> ReceiverView<'_, T> {
     /// ```text
     /// view.sender_count(&rt)   answers  1   for a new channel
     /// ```
-    pub fn sender_count<R: Wait>(&self, rt: &R) -> u32 {
-        self.receiver.sender_count(rt)
+    pub fn sender_count<R: Wait>(&self, rt: &R) -> u32
+        ensures asked { Asks H.words tt tt Side.Rx Ask.SenderCount count_by result }
+    {
+        self.receiver
+            .channel()
+            .ask_count(rt, &mut (), Side::Rx, Ask::SenderCount)
     }
 
     /// Whether both sides are gone. It waits for the lock.
@@ -256,8 +306,12 @@ impl<T: Drop> ReceiverView<'_, T> {
     /// ```text
     /// view.is_closed(&rt)   answers  true   after a close
     /// ```
-    pub fn is_closed<R: Wait>(&self, rt: &R) -> bool {
-        self.receiver.is_closed(rt)
+    pub fn is_closed<R: Wait>(&self, rt: &R) -> bool
+        ensures asked { Asks H.words tt tt Side.Rx Ask.IsClosed flag_by result }
+    {
+        self.receiver
+            .channel()
+            .ask_flag(rt, &mut (), Side::Rx, Ask::IsClosed)
     }
 
     /// Lets the senders be done: nothing more enters, and the receivers take what is left. A receive
@@ -274,8 +328,10 @@ impl<T: Drop> ReceiverView<'_, T> {
     /// view.seal(&rt)   answers  Ok(())
     /// view.seal(&rt)   answers  Err(CloseError())   after that
     /// ```
-    pub fn seal<R: Wait>(&self, rt: &R) -> Result<(), CloseError> {
-        self.receiver.seal(rt)
+    pub fn seal<R: Wait>(&self, rt: &R) -> Result<(), CloseError>
+        ensures sealed { Seals H.words tt tt result }
+    {
+        self.receiver.channel().seal(rt, &mut ())
     }
 
     /// Closes the channel for both sides: all waits end with `Closed`, and the buffer's messages are
@@ -289,7 +345,9 @@ impl<T: Drop> ReceiverView<'_, T> {
     /// view.close(&rt)   answers  Ok(())
     /// view.close(&rt)   answers  Err(CloseError())   after that
     /// ```
-    pub fn close<R: Wait>(&self, rt: &R) -> Result<(), CloseError> {
-        self.receiver.close(rt)
+    pub fn close<R: Wait>(&self, rt: &R) -> Result<(), CloseError>
+        ensures closed { Closes H.words tt tt result }
+    {
+        self.receiver.channel().close(rt, &mut ())
     }
 }

@@ -1,16 +1,20 @@
 //! The sender of a channel for threads.
 //!
-//! Stands on the sender for tasks; nothing is done here but handing on. Where a call is refused its
-//! message is dropped, but for the calls that are lent an option.
-ghost use Rattle.std.specs.Prelude.{◌≡◌, ◌≢◌, IsSome, Some, None, Ok, true, codes, IfErr};
+//! Stands on the sender for tasks and its channel; nothing is done here but handing on. Where a call is
+//! refused its message is dropped, but for the calls that are lent an option.
+ghost use Rattle.std.specs.Prelude.{◌≡◌, ◌≢◌, IfErr, IfSome, IsSome, None, OnOk, Ok, Some, true, codes};
 ghost use Rattle.std.specs.Duration.{as_nanos};
-ghost use Rattle.kanal_shared.specs.Deadlines.{SendsInTime};
-ghost use Rattle.kanal_shared.specs.Timed.{StartedNoWait};
+ghost use Rattle.kanal_events.specs.declared.event.Ask.{Ask};
+ghost use Rattle.kanal_events.specs.declared.event.Side.{Side};
+ghost use Rattle.kanal_history.specs.Handles.{Asks, Closes, CountsSender, Seals, Sends, SendsInTime, TriesToSend, TriesToSendNow};
+ghost use Rattle.kanal_history.specs.Refusals.{StartedNoWait};
+ghost use Rattle.kanal_history.specs.Results.{count_by, flag_by, number_by};
 
 use crate::async_sender::AsyncSender;
-use crate::options::{restored_late, taken, timed_answer_of};
+use kanal_channel::Clock;
 use kanal_core::error::{CloseError, SendError, SendErrorTimeout, TooMany};
-use kanal_shared::Clock;
+use kanal_events::event::{Ask, Side};
+use kanal_history::{History, NoHistory};
 use std::sync::Wait;
 use std::time::Duration;
 use std::{fmt, time};
@@ -20,16 +24,39 @@ use std::{fmt, time};
 /// The channel's send side is gone when the last sender of either kind was dropped. A drop waits for
 /// nobody.
 #[derive(Drop)]
-pub struct Sender<T> {
-    inner: AsyncSender<T>,
+pub struct Sender<T, H: History<T> = NoHistory> {
+    inner: AsyncSender<T, H>,
 }
 
-impl<T: Drop> Sender<T> {
+impl<T: Drop, H: History<T>> Sender<T, H> {
     /// A sender for threads.
-    pub(crate) fn new(inner: AsyncSender<T>) -> Self {
+    pub(crate) fn new(inner: AsyncSender<T, H>) -> Self {
         Sender { inner }
     }
 
+    /// The same sender for tasks: the counts stay. It waits for nobody.
+    ///
+    /// # Examples
+    /// ```text
+    /// sender.to_async().sender_count(&rt)   answers  1   for a new channel
+    /// ```
+    pub fn to_async(self) -> AsyncSender<T, H> {
+        let Sender { inner } = self;
+        inner
+    }
+
+    /// This sender as one for tasks: the counts stay. It waits for nobody.
+    ///
+    /// # Examples
+    /// ```text
+    /// sender.as_async().send(7)   answers  a future that sends 7
+    /// ```
+    pub fn as_async(&self) -> &AsyncSender<T, H> {
+        &self.inner
+    }
+}
+
+impl<T: Drop, H: History<T, Pass = ()>> Sender<T, H> {
     /// Sends the message. Where the buffer is full it waits until a receiver takes the message, or
     /// the channel ends; and it waits for the lock.
     ///
@@ -43,8 +70,10 @@ impl<T: Drop> Sender<T> {
     /// sender.send(&rt, 7)   answers  Ok(())                      in a channel with a place
     /// sender.send(&rt, 7)   answers  Err(SendError::Closed)      after a close
     /// ```
-    pub fn send<R: Wait>(&self, rt: &R, message: T) -> Result<(), SendError> {
-        self.inner.shared().send_blocking(rt, message)
+    pub fn send<R: Wait>(&self, rt: &R, message: T) -> Result<(), SendError>
+        ensures sent { Sends H.words tt tt message result }
+    {
+        self.inner.channel().send(rt, &mut (), message)
     }
 
     /// Sends the message. Where the buffer is full it waits until a receiver takes the message, the
@@ -67,10 +96,12 @@ impl<T: Drop> Sender<T> {
         duration: Duration,
         clock: &C,
     ) -> Result<(), SendErrorTimeout>
-        ensures time { SendsInTime (C.answers clock.now) (as_nanos duration) result }
+        ensures sent { SendsInTime H.words tt tt (C.answers clock.now) (as_nanos duration)
+            message result }
     {
-        let shared = self.inner.shared();
-        timed_answer_of(shared.send_before(rt, message, duration, clock))
+        self.inner
+            .channel()
+            .send_timeout(rt, &mut (), message, duration, clock)
     }
 
     /// Sends the option's message as `send_timeout`, and empties the option exactly where it was sent.
@@ -95,13 +126,14 @@ impl<T: Drop> Sender<T> {
         clock: &C,
     ) -> Result<(), SendErrorTimeout>
         requires { IsSome option.old }
+        ensures sends { IfSome option.old (λ m. SendsInTime H.words tt tt (C.answers clock.now)
+            (as_nanos duration) m result) }
         ensures sent { result ≡ Ok tt → option.new ≡ None }
         ensures kept { IfErr result (λ e. StartedNoWait e → option.new ≡ option.old) }
-        ensures time { SendsInTime (C.answers clock.now) (as_nanos duration) result }
     {
-        let shared = self.inner.shared();
-        let message = taken(option);
-        restored_late(shared.send_before(rt, message, duration, clock), option)
+        self.inner
+            .channel()
+            .send_option_timeout(rt, &mut (), option, duration, clock)
     }
 
     /// Sends the message where there is a place for it. `Ok(false)` says that there is none, and the
@@ -116,8 +148,10 @@ impl<T: Drop> Sender<T> {
     /// sender.try_send(&rt, 1)   answers  Ok(true)    in a new bounded channel for one
     /// sender.try_send(&rt, 2)   answers  Ok(false)   after that
     /// ```
-    pub fn try_send<R: Wait>(&self, rt: &R, message: T) -> Result<bool, SendError> {
-        self.inner.try_send(rt, message)
+    pub fn try_send<R: Wait>(&self, rt: &R, message: T) -> Result<bool, SendError>
+        ensures sent { TriesToSend H.words tt tt message result }
+    {
+        self.inner.channel().try_send(rt, &mut (), message)
     }
 
     /// Sends the option's message where there is a place for it, and empties the option exactly
@@ -140,10 +174,11 @@ impl<T: Drop> Sender<T> {
         option: &mut Option<T>,
     ) -> Result<bool, SendError>
         requires { IsSome option.old }
+        ensures sends { IfSome option.old (λ m. TriesToSend H.words tt tt m result) }
         ensures sent { result ≡ Ok true → option.new ≡ None }
         ensures kept { result ≢ Ok true → option.new ≡ option.old }
     {
-        self.inner.try_send_option(rt, option)
+        self.inner.channel().try_send_option(rt, &mut (), option)
     }
 
     /// Sends the message where there is a place for it and the lock is free: it waits for nobody.
@@ -156,8 +191,10 @@ impl<T: Drop> Sender<T> {
     /// ```text
     /// sender.try_send_realtime(1)   answers  Ok(true)   in a new bounded channel for one
     /// ```
-    pub fn try_send_realtime(&self, message: T) -> Result<bool, SendError> {
-        self.inner.try_send_realtime(message)
+    pub fn try_send_realtime(&self, message: T) -> Result<bool, SendError>
+        ensures sent { TriesToSendNow H.words tt tt message result }
+    {
+        self.inner.channel().try_send_realtime(&mut (), message)
     }
 
     /// Sends the option's message where there is a place for it and the lock is free, and empties
@@ -176,10 +213,13 @@ impl<T: Drop> Sender<T> {
     /// ```
     pub fn try_send_option_realtime(&self, option: &mut Option<T>) -> Result<bool, SendError>
         requires { IsSome option.old }
+        ensures sends { IfSome option.old (λ m. TriesToSendNow H.words tt tt m result) }
         ensures sent { result ≡ Ok true → option.new ≡ None }
         ensures kept { result ≢ Ok true → option.new ≡ option.old }
     {
-        self.inner.try_send_option_realtime(option)
+        self.inner
+            .channel()
+            .try_send_option_realtime(&mut (), option)
     }
 
     /// One more sender of the channel. Where no sender is left it stays so, and the answer is still
@@ -193,7 +233,9 @@ impl<T: Drop> Sender<T> {
     /// let other = sender.clone(&rt)?;
     /// sender.sender_count(&rt)   answers  2   where it answered 1 before
     /// ```
-    pub fn clone<R: Wait>(&self, rt: &R) -> Result<Self, TooMany> {
+    pub fn clone<R: Wait>(&self, rt: &R) -> Result<Self, TooMany>
+        ensures counted { OnOk result (CountsSender H.words tt tt (Ok tt)) }
+    {
         self.inner.clone_sync(rt)
     }
 
@@ -207,29 +249,10 @@ impl<T: Drop> Sender<T> {
     /// let other = sender.clone_async(&rt)?;
     /// other.sender_count(&rt)   answers  2   where it answered 1 before
     /// ```
-    pub fn clone_async<R: Wait>(&self, rt: &R) -> Result<AsyncSender<T>, TooMany> {
+    pub fn clone_async<R: Wait>(&self, rt: &R) -> Result<AsyncSender<T, H>, TooMany>
+        ensures counted { OnOk result (CountsSender H.words tt tt (Ok tt)) }
+    {
         self.inner.clone(rt)
-    }
-
-    /// The same sender for tasks: the counts stay. It waits for nobody.
-    ///
-    /// # Examples
-    /// ```text
-    /// sender.to_async().sender_count(&rt)   answers  1   for a new channel
-    /// ```
-    pub fn to_async(self) -> AsyncSender<T> {
-        let Sender { inner } = self;
-        inner
-    }
-
-    /// This sender as one for tasks: the counts stay. It waits for nobody.
-    ///
-    /// # Examples
-    /// ```text
-    /// sender.as_async().send(7)   answers  a future that sends 7
-    /// ```
-    pub fn as_async(&self) -> &AsyncSender<T> {
-        &self.inner
     }
 
     /// Whether no receiver is left. It waits for the lock.
@@ -238,8 +261,12 @@ impl<T: Drop> Sender<T> {
     /// ```text
     /// sender.is_disconnected(&rt)   answers  true   after the last receiver was dropped
     /// ```
-    pub fn is_disconnected<R: Wait>(&self, rt: &R) -> bool {
-        self.inner.is_disconnected(rt)
+    pub fn is_disconnected<R: Wait>(&self, rt: &R) -> bool
+        ensures asked { Asks H.words tt tt Side.Tx Ask.IsDisconnected flag_by result }
+    {
+        self.inner
+            .channel()
+            .ask_flag(rt, &mut (), Side::Tx, Ask::IsDisconnected)
     }
 
     /// How many messages are in the buffer. It waits for the lock.
@@ -248,8 +275,12 @@ impl<T: Drop> Sender<T> {
     /// ```text
     /// sender.len(&rt)   answers  1   after one message entered a bounded channel for two
     /// ```
-    pub fn len<R: Wait>(&self, rt: &R) -> usize {
-        self.inner.len(rt)
+    pub fn len<R: Wait>(&self, rt: &R) -> usize
+        ensures asked { Asks H.words tt tt Side.Tx Ask.Len number_by result }
+    {
+        self.inner
+            .channel()
+            .ask_number(rt, &mut (), Side::Tx, Ask::Len)
     }
 
     /// Whether no message is in the buffer, whoever waits. It waits for the lock.
@@ -258,8 +289,12 @@ impl<T: Drop> Sender<T> {
     /// ```text
     /// sender.is_empty(&rt)   answers  false   after one message entered
     /// ```
-    pub fn is_empty<R: Wait>(&self, rt: &R) -> bool {
-        self.inner.is_empty(rt)
+    pub fn is_empty<R: Wait>(&self, rt: &R) -> bool
+        ensures asked { Asks H.words tt tt Side.Tx Ask.IsEmpty flag_by result }
+    {
+        self.inner
+            .channel()
+            .ask_flag(rt, &mut (), Side::Tx, Ask::IsEmpty)
     }
 
     /// Whether the buffer is at the capacity: always at capacity 0, and never without a limit. It
@@ -269,8 +304,12 @@ impl<T: Drop> Sender<T> {
     /// ```text
     /// sender.is_full(&rt)   answers  true   after one message entered a bounded channel for one
     /// ```
-    pub fn is_full<R: Wait>(&self, rt: &R) -> bool {
-        self.inner.is_full(rt)
+    pub fn is_full<R: Wait>(&self, rt: &R) -> bool
+        ensures asked { Asks H.words tt tt Side.Tx Ask.IsFull flag_by result }
+    {
+        self.inner
+            .channel()
+            .ask_flag(rt, &mut (), Side::Tx, Ask::IsFull)
     }
 
     /// Whether the channel has a limit. It waits for the lock.
@@ -279,8 +318,12 @@ impl<T: Drop> Sender<T> {
     /// ```text
     /// sender.is_bounded(&rt)   answers  true   for a channel that `bounded` made
     /// ```
-    pub fn is_bounded<R: Wait>(&self, rt: &R) -> bool {
-        self.inner.is_bounded(rt)
+    pub fn is_bounded<R: Wait>(&self, rt: &R) -> bool
+        ensures asked { Asks H.words tt tt Side.Tx Ask.IsBounded flag_by result }
+    {
+        self.inner
+            .channel()
+            .ask_flag(rt, &mut (), Side::Tx, Ask::IsBounded)
     }
 
     /// How many messages the buffer may hold, which is `usize::MAX` without a limit. It waits for the
@@ -290,8 +333,12 @@ impl<T: Drop> Sender<T> {
     /// ```text
     /// sender.capacity(&rt)   answers  2   for a bounded channel for two
     /// ```
-    pub fn capacity<R: Wait>(&self, rt: &R) -> usize {
-        self.inner.capacity(rt)
+    pub fn capacity<R: Wait>(&self, rt: &R) -> usize
+        ensures asked { Asks H.words tt tt Side.Tx Ask.Capacity number_by result }
+    {
+        self.inner
+            .channel()
+            .ask_number(rt, &mut (), Side::Tx, Ask::Capacity)
     }
 
     /// How many receivers there are. It waits for the lock.
@@ -300,8 +347,12 @@ impl<T: Drop> Sender<T> {
     /// ```text
     /// sender.receiver_count(&rt)   answers  1   for a new channel
     /// ```
-    pub fn receiver_count<R: Wait>(&self, rt: &R) -> u32 {
-        self.inner.receiver_count(rt)
+    pub fn receiver_count<R: Wait>(&self, rt: &R) -> u32
+        ensures asked { Asks H.words tt tt Side.Tx Ask.ReceiverCount count_by result }
+    {
+        self.inner
+            .channel()
+            .ask_count(rt, &mut (), Side::Tx, Ask::ReceiverCount)
     }
 
     /// How many senders there are. It waits for the lock.
@@ -310,8 +361,12 @@ impl<T: Drop> Sender<T> {
     /// ```text
     /// sender.sender_count(&rt)   answers  1   for a new channel
     /// ```
-    pub fn sender_count<R: Wait>(&self, rt: &R) -> u32 {
-        self.inner.sender_count(rt)
+    pub fn sender_count<R: Wait>(&self, rt: &R) -> u32
+        ensures asked { Asks H.words tt tt Side.Tx Ask.SenderCount count_by result }
+    {
+        self.inner
+            .channel()
+            .ask_count(rt, &mut (), Side::Tx, Ask::SenderCount)
     }
 
     /// Whether both sides are gone. It waits for the lock.
@@ -320,8 +375,12 @@ impl<T: Drop> Sender<T> {
     /// ```text
     /// sender.is_closed(&rt)   answers  true   after a close
     /// ```
-    pub fn is_closed<R: Wait>(&self, rt: &R) -> bool {
-        self.inner.is_closed(rt)
+    pub fn is_closed<R: Wait>(&self, rt: &R) -> bool
+        ensures asked { Asks H.words tt tt Side.Tx Ask.IsClosed flag_by result }
+    {
+        self.inner
+            .channel()
+            .ask_flag(rt, &mut (), Side::Tx, Ask::IsClosed)
     }
 
     /// Lets the senders be done: nothing more enters, and the receivers take what is left. A receive
@@ -338,8 +397,10 @@ impl<T: Drop> Sender<T> {
     /// sender.seal(&rt)   answers  Ok(())
     /// sender.seal(&rt)   answers  Err(CloseError())   after that
     /// ```
-    pub fn seal<R: Wait>(&self, rt: &R) -> Result<(), CloseError> {
-        self.inner.seal(rt)
+    pub fn seal<R: Wait>(&self, rt: &R) -> Result<(), CloseError>
+        ensures sealed { Seals H.words tt tt result }
+    {
+        self.inner.channel().seal(rt, &mut ())
     }
 
     /// Closes the channel for both sides: all waits end with `Closed`, and the buffer's messages are
@@ -353,12 +414,14 @@ impl<T: Drop> Sender<T> {
     /// sender.close(&rt)   answers  Ok(())
     /// sender.close(&rt)   answers  Err(CloseError())   after that
     /// ```
-    pub fn close<R: Wait>(&self, rt: &R) -> Result<(), CloseError> {
-        self.inner.close(rt)
+    pub fn close<R: Wait>(&self, rt: &R) -> Result<(), CloseError>
+        ensures closed { Closes H.words tt tt result }
+    {
+        self.inner.channel().close(rt, &mut ())
     }
 }
 
-impl<T: Drop> fmt::Debug for Sender<T> {
+impl<T: Drop, H: History<T>> fmt::Debug for Sender<T, H> {
     ghost debug_output = { λ _. Some (codes "Sender { .. }") };
 
     fn fmt<W: fmt::Write>(&self, f: &mut fmt::Formatter<W>) -> fmt::Result {

@@ -2,33 +2,37 @@
 //!
 //! Stands on the sender for tasks; nothing is done here but handing on. A view is not counted: it has
 //! no clone, no conversion and no drop of its own.
-ghost use Rattle.std.specs.Prelude.{◌≡◌, ◌≢◌, IsSome, None, Ok, true, IfErr};
+ghost use Rattle.std.specs.Prelude.{◌≡◌, ◌≢◌, IfErr, IfSome, IsSome, None, Ok, true};
 ghost use Rattle.std.specs.Duration.{as_nanos};
-ghost use Rattle.kanal_shared.specs.Deadlines.{SendsInTime};
-ghost use Rattle.kanal_shared.specs.Timed.{StartedNoWait};
+ghost use Rattle.kanal_events.specs.declared.event.Ask.{Ask};
+ghost use Rattle.kanal_events.specs.declared.event.Side.{Side};
+ghost use Rattle.kanal_history.specs.Handles.{Asks, Closes, Seals, Sends, SendsInTime, TriesToSend, TriesToSendNow};
+ghost use Rattle.kanal_history.specs.Refusals.{StartedNoWait};
+ghost use Rattle.kanal_history.specs.Results.{count_by, flag_by, number_by};
 
 use crate::async_sender::AsyncSender;
-use crate::options::{restored_late, taken, timed_answer_of};
+use kanal_channel::Clock;
 use kanal_core::error::{CloseError, SendError, SendErrorTimeout};
-use kanal_shared::Clock;
+use kanal_events::event::{Ask, Side};
+use kanal_history::{History, NoHistory};
 use std::sync::Wait;
 use std::time;
 use std::time::Duration;
 
 /// A sender for tasks, as a thread uses it.
 #[derive(Drop)]
-pub struct SenderView<'a, T> {
-    sender: &'a AsyncSender<T>,
+pub struct SenderView<'a, T, H: History<T> = NoHistory> {
+    sender: &'a AsyncSender<T, H>,
 }
 
-impl<'a, T: Drop> SenderView<'a, T> {
+impl<'a, T: Drop, H: History<T>> SenderView<'a, T, H> {
     /// A view of the sender.
-    pub(crate) fn new(sender: &'a AsyncSender<T>) -> Self {
+    pub(crate) fn new(sender: &'a AsyncSender<T, H>) -> Self {
         SenderView { sender }
     }
 }
 
-impl<T: Drop> SenderView<'_, T> {
+impl<T: Drop, H: History<T, Pass = ()>> SenderView<'_, T, H> {
     /// Sends the message. Where the buffer is full it waits until a receiver takes the message, or
     /// the channel ends; and it waits for the lock.
     ///
@@ -42,8 +46,10 @@ impl<T: Drop> SenderView<'_, T> {
     /// view.send(&rt, 7)   answers  Ok(())                      in a channel with a place
     /// view.send(&rt, 7)   answers  Err(SendError::Closed)      after a close
     /// ```
-    pub fn send<R: Wait>(&self, rt: &R, message: T) -> Result<(), SendError> {
-        self.sender.shared().send_blocking(rt, message)
+    pub fn send<R: Wait>(&self, rt: &R, message: T) -> Result<(), SendError>
+        ensures sent { Sends H.words tt tt message result }
+    {
+        self.sender.channel().send(rt, &mut (), message)
     }
 
     /// Sends the message. Where the buffer is full it waits until a receiver takes the message, the
@@ -66,10 +72,12 @@ impl<T: Drop> SenderView<'_, T> {
         duration: Duration,
         clock: &C,
     ) -> Result<(), SendErrorTimeout>
-        ensures time { SendsInTime (C.answers clock.now) (as_nanos duration) result }
+        ensures sent { SendsInTime H.words tt tt (C.answers clock.now) (as_nanos duration)
+            message result }
     {
-        let shared = self.sender.shared();
-        timed_answer_of(shared.send_before(rt, message, duration, clock))
+        self.sender
+            .channel()
+            .send_timeout(rt, &mut (), message, duration, clock)
     }
 
     /// Sends the option's message as `send_timeout`, and empties the option exactly where it was sent.
@@ -94,13 +102,14 @@ impl<T: Drop> SenderView<'_, T> {
         clock: &C,
     ) -> Result<(), SendErrorTimeout>
         requires { IsSome option.old }
+        ensures sends { IfSome option.old (λ m. SendsInTime H.words tt tt (C.answers clock.now)
+            (as_nanos duration) m result) }
         ensures sent { result ≡ Ok tt → option.new ≡ None }
         ensures kept { IfErr result (λ e. StartedNoWait e → option.new ≡ option.old) }
-        ensures time { SendsInTime (C.answers clock.now) (as_nanos duration) result }
     {
-        let shared = self.sender.shared();
-        let message = taken(option);
-        restored_late(shared.send_before(rt, message, duration, clock), option)
+        self.sender
+            .channel()
+            .send_option_timeout(rt, &mut (), option, duration, clock)
     }
 
     /// Sends the message where there is a place for it. `Ok(false)` says that there is none, and the
@@ -115,8 +124,10 @@ impl<T: Drop> SenderView<'_, T> {
     /// view.try_send(&rt, 1)   answers  Ok(true)    in a new bounded channel for one
     /// view.try_send(&rt, 2)   answers  Ok(false)   after that
     /// ```
-    pub fn try_send<R: Wait>(&self, rt: &R, message: T) -> Result<bool, SendError> {
-        self.sender.try_send(rt, message)
+    pub fn try_send<R: Wait>(&self, rt: &R, message: T) -> Result<bool, SendError>
+        ensures sent { TriesToSend H.words tt tt message result }
+    {
+        self.sender.channel().try_send(rt, &mut (), message)
     }
 
     /// Sends the option's message where there is a place for it, and empties the option exactly
@@ -139,10 +150,11 @@ impl<T: Drop> SenderView<'_, T> {
         option: &mut Option<T>,
     ) -> Result<bool, SendError>
         requires { IsSome option.old }
+        ensures sends { IfSome option.old (λ m. TriesToSend H.words tt tt m result) }
         ensures sent { result ≡ Ok true → option.new ≡ None }
         ensures kept { result ≢ Ok true → option.new ≡ option.old }
     {
-        self.sender.try_send_option(rt, option)
+        self.sender.channel().try_send_option(rt, &mut (), option)
     }
 
     /// Sends the message where there is a place for it and the lock is free: it waits for nobody.
@@ -155,8 +167,10 @@ impl<T: Drop> SenderView<'_, T> {
     /// ```text
     /// view.try_send_realtime(1)   answers  Ok(true)   in a new bounded channel for one
     /// ```
-    pub fn try_send_realtime(&self, message: T) -> Result<bool, SendError> {
-        self.sender.try_send_realtime(message)
+    pub fn try_send_realtime(&self, message: T) -> Result<bool, SendError>
+        ensures sent { TriesToSendNow H.words tt tt message result }
+    {
+        self.sender.channel().try_send_realtime(&mut (), message)
     }
 
     /// Sends the option's message where there is a place for it and the lock is free, and empties
@@ -175,10 +189,13 @@ impl<T: Drop> SenderView<'_, T> {
     /// ```
     pub fn try_send_option_realtime(&self, option: &mut Option<T>) -> Result<bool, SendError>
         requires { IsSome option.old }
+        ensures sends { IfSome option.old (λ m. TriesToSendNow H.words tt tt m result) }
         ensures sent { result ≡ Ok true → option.new ≡ None }
         ensures kept { result ≢ Ok true → option.new ≡ option.old }
     {
-        self.sender.try_send_option_realtime(option)
+        self.sender
+            .channel()
+            .try_send_option_realtime(&mut (), option)
     }
 
     /// Whether no receiver is left. It waits for the lock.
@@ -187,8 +204,12 @@ impl<T: Drop> SenderView<'_, T> {
     /// ```text
     /// view.is_disconnected(&rt)   answers  true   after the last receiver was dropped
     /// ```
-    pub fn is_disconnected<R: Wait>(&self, rt: &R) -> bool {
-        self.sender.is_disconnected(rt)
+    pub fn is_disconnected<R: Wait>(&self, rt: &R) -> bool
+        ensures asked { Asks H.words tt tt Side.Tx Ask.IsDisconnected flag_by result }
+    {
+        self.sender
+            .channel()
+            .ask_flag(rt, &mut (), Side::Tx, Ask::IsDisconnected)
     }
 
     /// How many messages are in the buffer. It waits for the lock.
@@ -197,8 +218,12 @@ impl<T: Drop> SenderView<'_, T> {
     /// ```text
     /// view.len(&rt)   answers  1   after one message entered a bounded channel for two
     /// ```
-    pub fn len<R: Wait>(&self, rt: &R) -> usize {
-        self.sender.len(rt)
+    pub fn len<R: Wait>(&self, rt: &R) -> usize
+        ensures asked { Asks H.words tt tt Side.Tx Ask.Len number_by result }
+    {
+        self.sender
+            .channel()
+            .ask_number(rt, &mut (), Side::Tx, Ask::Len)
     }
 
     /// Whether no message is in the buffer, whoever waits. It waits for the lock.
@@ -207,8 +232,12 @@ impl<T: Drop> SenderView<'_, T> {
     /// ```text
     /// view.is_empty(&rt)   answers  false   after one message entered
     /// ```
-    pub fn is_empty<R: Wait>(&self, rt: &R) -> bool {
-        self.sender.is_empty(rt)
+    pub fn is_empty<R: Wait>(&self, rt: &R) -> bool
+        ensures asked { Asks H.words tt tt Side.Tx Ask.IsEmpty flag_by result }
+    {
+        self.sender
+            .channel()
+            .ask_flag(rt, &mut (), Side::Tx, Ask::IsEmpty)
     }
 
     /// Whether the buffer is at the capacity: always at capacity 0, and never without a limit. It
@@ -218,8 +247,12 @@ impl<T: Drop> SenderView<'_, T> {
     /// ```text
     /// view.is_full(&rt)   answers  true   after one message entered a bounded channel for one
     /// ```
-    pub fn is_full<R: Wait>(&self, rt: &R) -> bool {
-        self.sender.is_full(rt)
+    pub fn is_full<R: Wait>(&self, rt: &R) -> bool
+        ensures asked { Asks H.words tt tt Side.Tx Ask.IsFull flag_by result }
+    {
+        self.sender
+            .channel()
+            .ask_flag(rt, &mut (), Side::Tx, Ask::IsFull)
     }
 
     /// Whether the channel has a limit. It waits for the lock.
@@ -228,8 +261,12 @@ impl<T: Drop> SenderView<'_, T> {
     /// ```text
     /// view.is_bounded(&rt)   answers  true   for a channel that `bounded` made
     /// ```
-    pub fn is_bounded<R: Wait>(&self, rt: &R) -> bool {
-        self.sender.is_bounded(rt)
+    pub fn is_bounded<R: Wait>(&self, rt: &R) -> bool
+        ensures asked { Asks H.words tt tt Side.Tx Ask.IsBounded flag_by result }
+    {
+        self.sender
+            .channel()
+            .ask_flag(rt, &mut (), Side::Tx, Ask::IsBounded)
     }
 
     /// How many messages the buffer may hold, which is `usize::MAX` without a limit. It waits for the
@@ -239,8 +276,12 @@ impl<T: Drop> SenderView<'_, T> {
     /// ```text
     /// view.capacity(&rt)   answers  2   for a bounded channel for two
     /// ```
-    pub fn capacity<R: Wait>(&self, rt: &R) -> usize {
-        self.sender.capacity(rt)
+    pub fn capacity<R: Wait>(&self, rt: &R) -> usize
+        ensures asked { Asks H.words tt tt Side.Tx Ask.Capacity number_by result }
+    {
+        self.sender
+            .channel()
+            .ask_number(rt, &mut (), Side::Tx, Ask::Capacity)
     }
 
     /// How many receivers there are. It waits for the lock.
@@ -249,8 +290,12 @@ impl<T: Drop> SenderView<'_, T> {
     /// ```text
     /// view.receiver_count(&rt)   answers  1   for a new channel
     /// ```
-    pub fn receiver_count<R: Wait>(&self, rt: &R) -> u32 {
-        self.sender.receiver_count(rt)
+    pub fn receiver_count<R: Wait>(&self, rt: &R) -> u32
+        ensures asked { Asks H.words tt tt Side.Tx Ask.ReceiverCount count_by result }
+    {
+        self.sender
+            .channel()
+            .ask_count(rt, &mut (), Side::Tx, Ask::ReceiverCount)
     }
 
     /// How many senders there are. It waits for the lock.
@@ -259,8 +304,12 @@ impl<T: Drop> SenderView<'_, T> {
     /// ```text
     /// view.sender_count(&rt)   answers  1   for a new channel
     /// ```
-    pub fn sender_count<R: Wait>(&self, rt: &R) -> u32 {
-        self.sender.sender_count(rt)
+    pub fn sender_count<R: Wait>(&self, rt: &R) -> u32
+        ensures asked { Asks H.words tt tt Side.Tx Ask.SenderCount count_by result }
+    {
+        self.sender
+            .channel()
+            .ask_count(rt, &mut (), Side::Tx, Ask::SenderCount)
     }
 
     /// Whether both sides are gone. It waits for the lock.
@@ -269,8 +318,12 @@ impl<T: Drop> SenderView<'_, T> {
     /// ```text
     /// view.is_closed(&rt)   answers  true   after a close
     /// ```
-    pub fn is_closed<R: Wait>(&self, rt: &R) -> bool {
-        self.sender.is_closed(rt)
+    pub fn is_closed<R: Wait>(&self, rt: &R) -> bool
+        ensures asked { Asks H.words tt tt Side.Tx Ask.IsClosed flag_by result }
+    {
+        self.sender
+            .channel()
+            .ask_flag(rt, &mut (), Side::Tx, Ask::IsClosed)
     }
 
     /// Lets the senders be done: nothing more enters, and the receivers take what is left. A receive
@@ -287,8 +340,10 @@ impl<T: Drop> SenderView<'_, T> {
     /// view.seal(&rt)   answers  Ok(())
     /// view.seal(&rt)   answers  Err(CloseError())   after that
     /// ```
-    pub fn seal<R: Wait>(&self, rt: &R) -> Result<(), CloseError> {
-        self.sender.seal(rt)
+    pub fn seal<R: Wait>(&self, rt: &R) -> Result<(), CloseError>
+        ensures sealed { Seals H.words tt tt result }
+    {
+        self.sender.channel().seal(rt, &mut ())
     }
 
     /// Closes the channel for both sides: all waits end with `Closed`, and the buffer's messages are
@@ -302,7 +357,9 @@ impl<T: Drop> SenderView<'_, T> {
     /// view.close(&rt)   answers  Ok(())
     /// view.close(&rt)   answers  Err(CloseError())   after that
     /// ```
-    pub fn close<R: Wait>(&self, rt: &R) -> Result<(), CloseError> {
-        self.sender.close(rt)
+    pub fn close<R: Wait>(&self, rt: &R) -> Result<(), CloseError>
+        ensures closed { Closes H.words tt tt result }
+    {
+        self.sender.channel().close(rt, &mut ())
     }
 }

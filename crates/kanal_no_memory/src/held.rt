@@ -1,9 +1,10 @@
 //! What is left while the lock is held: a future that waits and is dropped then.
 use futures::task::Poll;
 use futures::test::MockTask;
+use kanal_channel::Shared;
 use kanal_core::internal::ChannelInternal;
-use kanal_shared::Shared;
-use kanal_steps::owed::Owed;
+use kanal_futures::send_future;
+use kanal_history::NoHistory;
 use std::alloc::{AllocGlobal, Global};
 use std::random::RandomSource;
 use std::sync::Wait;
@@ -20,7 +21,7 @@ pub fn a_notice<R: Wait + RandomSource + AllocGlobal>(
     let Ok(core) = ChannelInternal::new(alloc, 0) else {
         return false;
     };
-    let shared = Shared::new(core, alloc);
+    let shared = Shared::new(core, NoHistory, (), (), alloc);
     leaves_by_notice(rt, &task, &shared, makes_calls)
 }
 
@@ -28,10 +29,10 @@ pub fn a_notice<R: Wait + RandomSource + AllocGlobal>(
 fn leaves_by_notice<R: Wait>(
     rt: &R,
     task: &MockTask,
-    shared: &Shared<u64>,
+    shared: &Shared<u64, NoHistory>,
     makes_calls: bool,
 ) -> bool {
-    let mut sending = shared.send(3);
+    let mut sending = send_future(shared, 3);
     let waits = task.poll(&mut sending) == Poll::Pending;
     if !makes_calls {
         return waits;
@@ -39,6 +40,6 @@ fn leaves_by_notice<R: Wait>(
     let locked = shared.hold(rt);
     drop(sending);
     let left = shared.left_waits();
-    locked.give_back(Owed::nothing());
-    waits && left == 1 && shared.left_waits() == 0 && shared.try_recv(rt) == Ok(None)
+    locked.give_back_quiet();
+    waits && left == 1 && shared.left_waits() == 0 && shared.try_recv(rt, &mut ()) == Ok(None)
 }

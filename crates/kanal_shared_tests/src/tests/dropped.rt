@@ -2,7 +2,9 @@
 //! is free.
 use crate::tests::given::{common, equal, holds, new_task};
 use futures::task::Poll;
-use kanal_shared::Shared;
+use kanal_channel::Shared;
+use kanal_futures::send_future;
+use kanal_history::NoHistory;
 use std::alloc::{AllocGlobal, Global};
 use std::process::Abort;
 use std::sync::Arc;
@@ -36,10 +38,10 @@ impl Look {
 
     /// Looks when it is asked to: a channel with a message in it, and one that is closed, answer
     /// nothing only while somebody holds the lock.
-    fn take(&self, shared: &Shared<Message>) {
+    fn take(&self, shared: &Shared<Message, NoHistory>) {
         for _ in 0..LOOKS {
             if self.is_asked_for.load(SeqCst) {
-                let is_free = !matches!(shared.try_recv_realtime(), Ok(None));
+                let is_free = !matches!(shared.try_recv_realtime(&mut ()), Ok(None));
                 self.found_free.store(is_free, SeqCst);
                 self.is_taken.store(true, SeqCst);
                 return;
@@ -82,7 +84,7 @@ fn asks_for(rt: &impl Abort, look: &Arc<Look, Global>) -> Message {
 
 fn start_look<R: Threads + Abort + Copy + Send + 'static>(
     rt: R,
-    shared: Arc<Shared<Message>>,
+    shared: Arc<Shared<Message, NoHistory>>,
     look: &Arc<Look, Global>,
 ) -> JoinHandle<()> {
     let look = Arc::try_clone(look).expect(&rt, "one more");
@@ -94,8 +96,8 @@ fn a_close_drops_its_messages_after_the_release(rt: HostRuntime) {
     let (shared, other) = common(&rt, 1);
     let look = new_look(&rt);
     let thread = start_look(rt, other, &look);
-    equal(&rt, shared.send_blocking(&rt, asks_for(&rt, &look)), Ok(()));
-    equal(&rt, shared.close(&rt), Ok(()));
+    equal(&rt, shared.send(&rt, &mut (), asks_for(&rt, &look)), Ok(()));
+    equal(&rt, shared.close(&rt, &mut ()), Ok(()));
     thread.join(&rt);
     holds(&rt, look.found_free.load(SeqCst));
 }
@@ -109,10 +111,10 @@ fn a_future_that_leaves_drops_its_message_after_the_release(rt: HostRuntime) {
     let task = new_task(&rt);
     equal(
         &rt,
-        shared.send_blocking(&rt, Message { look: None }),
+        shared.send(&rt, &mut (), Message { look: None }),
         Ok(()),
     );
-    let mut sending = shared.send(asks_for(&rt, &look));
+    let mut sending = send_future(&shared, asks_for(&rt, &look));
     equal(&rt, task.poll(&mut sending), Poll::Pending);
     drop(sending);
     thread.join(&rt);

@@ -1,10 +1,10 @@
 //! Calls whose wait has begun, which the lock shows, and what ends such a wait in an error.
 use crate::tests::counted::{counter, counts_in};
-use crate::tests::given::{common, equal, holds};
+use crate::tests::given::{common, equal, holds, sender_of};
+use kanal_channel::Shared;
 use kanal_core::error::{ReceiveError, SendError};
 use kanal_given::Counted;
-use kanal_shared::Shared;
-use kanal_steps::owed::Owed;
+use kanal_history::NoHistory;
 use std::alloc::AllocGlobal;
 use std::process::Abort;
 use std::sync::{Arc, Wait};
@@ -18,11 +18,11 @@ const LOOKS: u32 = 10_000_000;
 type Answer<T, E> = JoinHandle<Result<T, E>>;
 
 /// Whether a wait begins.
-pub fn begins<T: Drop, R: Wait>(rt: &R, shared: &Shared<T>) -> bool {
+pub fn begins<T: Drop, R: Wait>(rt: &R, shared: &Shared<T, NoHistory>) -> bool {
     for _ in 0..LOOKS {
-        let mut locked = shared.hold(rt);
-        let waits = locked.core().first_waiter(|_| true).is_some();
-        locked.give_back(Owed::nothing());
+        let locked = shared.hold(rt);
+        let waits = locked.state.somebody_waits();
+        locked.give_back_quiet();
         if waits {
             return true;
         }
@@ -33,17 +33,17 @@ pub fn begins<T: Drop, R: Wait>(rt: &R, shared: &Shared<T>) -> bool {
 
 fn start_recv<R: Threads + Wait + Abort + Copy + Send + 'static>(
     rt: R,
-    shared: Arc<Shared<u64>>,
+    shared: Arc<Shared<u64, NoHistory>>,
 ) -> Answer<u64, ReceiveError> {
-    thread::spawn(&rt, move || shared.recv_blocking(&rt)).expect(&rt, "a thread")
+    thread::spawn(&rt, move || shared.recv(&rt, &mut ())).expect(&rt, "a thread")
 }
 
 fn start_send<R: Threads + Wait + Abort + Copy + Send + 'static>(
     rt: R,
-    shared: Arc<Shared<Counted>>,
+    shared: Arc<Shared<Counted, NoHistory>>,
     message: Counted,
 ) -> Answer<(), SendError> {
-    thread::spawn(&rt, move || shared.send_blocking(&rt, message)).expect(&rt, "a thread")
+    thread::spawn(&rt, move || shared.send(&rt, &mut (), message)).expect(&rt, "a thread")
 }
 
 #[test]
@@ -51,7 +51,7 @@ fn a_close_ends_a_receive_that_waits(rt: HostRuntime) {
     let (shared, other) = common::<u64>(&rt, 1);
     let thread = start_recv(rt, other);
     holds(&rt, begins(&rt, &shared));
-    equal(&rt, shared.close(&rt), Ok(()));
+    equal(&rt, shared.close(&rt, &mut ()), Ok(()));
     equal(&rt, thread.join(&rt), Err(ReceiveError::Closed));
 }
 
@@ -60,7 +60,7 @@ fn the_last_sender_ends_a_receive_that_waits(rt: HostRuntime) {
     let (shared, other) = common::<u64>(&rt, 1);
     let thread = start_recv(rt, other);
     holds(&rt, begins(&rt, &shared));
-    shared.drop_sender();
+    shared.drop_sender(sender_of(&rt, &shared));
     equal(&rt, thread.join(&rt), Err(ReceiveError::SendClosed));
 }
 
@@ -70,7 +70,7 @@ fn a_close_ends_a_send_that_waits(rt: HostRuntime) {
     let (shared, other) = common::<Counted>(&rt, 0);
     let thread = start_send(rt, other, counts_in(&rt, &drops));
     holds(&rt, begins(&rt, &shared));
-    equal(&rt, shared.close(&rt), Ok(()));
+    equal(&rt, shared.close(&rt, &mut ()), Ok(()));
     equal(&rt, thread.join(&rt), Err(SendError::Closed));
     equal(&rt, drops.count(), 1);
 }

@@ -1,10 +1,10 @@
 //! A message that is handed over after the deadline and before the withdrawal.
 use crate::tests::ended::begins;
-use crate::tests::given::{channel, equal, holds};
+use crate::tests::given::{channel, equal, holds, tell_late};
+use kanal_channel::{Clock, Shared};
 use kanal_core::error::ReceiveErrorTimeout;
-use kanal_shared::{Clock, Shared};
-use kanal_steps::steps;
-use kanal_steps::steps::Offered;
+use kanal_events::event::{Event, Reply};
+use kanal_history::NoHistory;
 use std::sync::Wait;
 use std::sync::atomic::AtomicU64;
 use std::sync::atomic::Ordering::SeqCst;
@@ -45,30 +45,35 @@ fn was_read(clock: &Crossed) {
 
 /// Hands 7 to the receiver that waits, once its clock was read past the deadline, and settles its wait
 /// some turns after the lock was given back.
-fn serve_late<R: Wait>(rt: &R, shared: &Shared<u64>, clock: &Crossed) -> bool {
+fn serve_late<R: Wait>(rt: &R, shared: &Shared<u64, NoHistory>, clock: &Crossed) -> bool {
     if !begins(rt, shared) {
         return false;
     }
-    let mut locked = shared.hold(rt);
-    let (offered, owed) = steps::try_send(locked.core(), 7);
-    clock.moment.store(1, SeqCst);
-    was_read(clock);
-    let owed = locked.give_back_unlooked(owed);
-    for _ in 0..TURNS {
-        thread::yield_now();
-    }
-    owed.settle();
-    matches!(offered, Offered::Entered)
+    let reply = tell_late(
+        rt,
+        shared,
+        Event::Send(7),
+        || {
+            clock.moment.store(1, SeqCst);
+            was_read(clock);
+        },
+        || {
+            for _ in 0..TURNS {
+                thread::yield_now();
+            }
+        },
+    );
+    matches!(reply, Some(Reply::Sent))
 }
 
 fn receive_late<R: Threads + Wait + time::Clock + Sync>(
     rt: &R,
-    shared: &Shared<u64>,
+    shared: &Shared<u64, NoHistory>,
     clock: &Crossed,
 ) -> (Result<u64, ReceiveErrorTimeout>, bool) {
     thread::join(
         rt,
-        || shared.recv_before(rt, Duration::from_nanos(1), clock),
+        || shared.recv_timeout(rt, &mut (), Duration::from_nanos(1), clock),
         || serve_late(rt, shared, clock),
     )
 }

@@ -5,9 +5,11 @@
 use crate::tests::given::{channel, equal, holds, new_task};
 use futures::task::Poll;
 use futures::test::MockTask;
+use kanal_channel::Shared;
 use kanal_core::error::{ReceiveError, SendError};
-use kanal_shared::{ReceiveFuture, SendFuture, Shared};
-use kanal_steps::owed::Owed;
+use kanal_events::event::{Ask, Side};
+use kanal_futures::{ReceiveFuture, SendFuture, receive_future, send_future};
+use kanal_history::NoHistory;
 use std::process::Abort;
 use std::sync::Wait;
 
@@ -22,36 +24,34 @@ fn woken_once(rt: &impl Abort, task: &MockTask) {
 /// release.
 fn poll_send_held<R: Wait>(
     rt: &R,
-    shared: &Shared<u64>,
+    shared: &Shared<u64, NoHistory>,
     task: &MockTask,
     sending: &mut SendFuture<'_, u64>,
 ) -> (Poll<Result<(), SendError>>, usize) {
-    let mut locked = shared.hold(rt);
+    let locked = shared.hold(rt);
     let polled = task.poll(sending);
-    let held = locked.core().len();
-    locked.give_back(Owed::nothing());
-    (polled, held)
+    locked.give_back_quiet();
+    (polled, shared.ask_number(rt, &mut (), Side::Tx, Ask::Len))
 }
 
 /// The same for a receive.
 fn poll_recv_held<R: Wait>(
     rt: &R,
-    shared: &Shared<u64>,
+    shared: &Shared<u64, NoHistory>,
     task: &MockTask,
     receiving: &mut ReceiveFuture<'_, u64>,
 ) -> (Poll<Result<u64, ReceiveError>>, usize) {
-    let mut locked = shared.hold(rt);
+    let locked = shared.hold(rt);
     let polled = task.poll(receiving);
-    let held = locked.core().len();
-    locked.give_back(Owed::nothing());
-    (polled, held)
+    locked.give_back_quiet();
+    (polled, shared.ask_number(rt, &mut (), Side::Rx, Ask::Len))
 }
 
 #[test]
 fn a_send_is_polled_while_the_lock_is_held(rt: HostRuntime) {
     let shared = channel::<u64>(&rt, 1);
     let task = new_task(&rt);
-    let mut sending = shared.send(7);
+    let mut sending = send_future(&shared, 7);
     let (polled, held) = poll_send_held(&rt, &shared, &task, &mut sending);
     equal(&rt, polled, Poll::Pending);
     equal(&rt, held, 0);
@@ -64,8 +64,8 @@ fn a_send_is_polled_while_the_lock_is_held(rt: HostRuntime) {
 fn a_receive_is_polled_while_the_lock_is_held(rt: HostRuntime) {
     let shared = channel::<u64>(&rt, 1);
     let task = new_task(&rt);
-    equal(&rt, shared.send_blocking(&rt, 7), Ok(()));
-    let mut receiving = shared.recv();
+    equal(&rt, shared.send(&rt, &mut (), 7), Ok(()));
+    let mut receiving = receive_future(&shared);
     let (polled, held) = poll_recv_held(&rt, &shared, &task, &mut receiving);
     equal(&rt, polled, Poll::Pending);
     equal(&rt, held, 1);
@@ -79,13 +79,13 @@ fn a_receive_is_polled_while_the_lock_is_held(rt: HostRuntime) {
 fn a_wait_is_polled_while_the_lock_is_held(rt: HostRuntime) {
     let shared = channel::<u64>(&rt, 0);
     let task = new_task(&rt);
-    let mut receiving = shared.recv();
+    let mut receiving = receive_future(&shared);
     equal(&rt, task.poll(&mut receiving), Poll::Pending);
     holds(&rt, !task.is_woken());
     let (polled, _held) = poll_recv_held(&rt, &shared, &task, &mut receiving);
     equal(&rt, polled, Poll::Pending);
     woken_once(&rt, &task);
-    equal(&rt, shared.send_blocking(&rt, 7), Ok(()));
+    equal(&rt, shared.send(&rt, &mut (), 7), Ok(()));
     woken_once(&rt, &task);
     equal(&rt, task.poll(&mut receiving), Poll::Ready(Ok(7)));
     holds(&rt, !task.is_woken());

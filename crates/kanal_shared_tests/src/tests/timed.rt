@@ -1,9 +1,10 @@
 //! Timed calls whose wait is served, ended or late, by a clock that acts when it is read.
 use crate::tests::given::{channel, equal, holds, new_task};
 use futures::task::Poll;
+use kanal_channel::{Clock, Shared, TestClock};
 use kanal_core::error::{ReceiveErrorTimeout, SendErrorTimeout};
-use kanal_shared::{Clock, Shared, TestClock};
-use kanal_steps::steps::Offered;
+use kanal_futures::send_future;
+use kanal_history::NoHistory;
 use std::alloc::AllocGlobal;
 use std::cell::Cell;
 use std::process::Abort;
@@ -16,7 +17,7 @@ use std::time::Duration;
 struct Sending<'a> {
     reads: Cell<u64>,
     sends_at: u64,
-    shared: &'a Shared<u64>,
+    shared: &'a Shared<u64, NoHistory>,
 }
 
 impl Clock for Sending<'_> {
@@ -24,25 +25,26 @@ impl Clock for Sending<'_> {
         let reads = self.reads.get().wrapping_add(1);
         self.reads.set(reads);
         if reads == self.sends_at {
-            drop(self.shared.offer_realtime(7));
+            drop(self.shared.try_send_realtime(&mut (), 7));
         }
         0
     }
 }
 
-/// A clock that stands at 0, and drops the sender at its second read.
+/// A clock that stands at 0, and closes the channel at its second read.
 #[derive(Drop)]
-struct Dropping<'a> {
+struct Ending<'a, R: Wait> {
+    rt: &'a R,
     reads: Cell<u64>,
-    shared: &'a Shared<u64>,
+    shared: &'a Shared<u64, NoHistory>,
 }
 
-impl Clock for Dropping<'_> {
+impl<R: Wait> Clock for Ending<'_, R> {
     fn now(&self) -> u64 {
         let reads = self.reads.get().wrapping_add(1);
         self.reads.set(reads);
         if reads == 2 {
-            self.shared.drop_sender();
+            self.shared.drop_sender_by(self.rt, &mut ());
         }
         0
     }
@@ -52,9 +54,9 @@ impl Clock for Dropping<'_> {
 fn a_late_receive_serves_a_send(rt: HostRuntime) {
     let shared = channel::<u64>(&rt, 0);
     let task = new_task(&rt);
-    let mut sending = shared.send(7);
+    let mut sending = send_future(&shared, 7);
     equal(&rt, task.poll(&mut sending), Poll::Pending);
-    let got = shared.recv_before(&rt, Duration::from_nanos(0), &TestClock::rising());
+    let got = shared.recv_timeout(&rt, &mut (), Duration::from_nanos(0), &TestClock::rising());
     equal(&rt, got, Ok(7));
     holds(&rt, task.is_woken());
     equal(&rt, task.poll(&mut sending), Poll::Ready(Ok(())));
@@ -68,7 +70,7 @@ fn given_at<R: Abort + Wait + time::Clock + AllocGlobal>(rt: &R, sends_at: u64, 
         sends_at,
         shared: &shared,
     };
-    let got = shared.recv_before(rt, Duration::from_nanos(nanos), &clock);
+    let got = shared.recv_timeout(rt, &mut (), Duration::from_nanos(nanos), &clock);
     equal(rt, got, Ok(7));
 }
 
@@ -93,19 +95,23 @@ fn a_message_comes_before_a_far_deadline(rt: HostRuntime) {
 #[test]
 fn a_timed_out_receive_waits_no_more(rt: HostRuntime) {
     let shared = channel::<u64>(&rt, 0);
-    let got = shared.recv_before(&rt, Duration::from_nanos(0), &TestClock::still(0));
+    let got = shared.recv_timeout(&rt, &mut (), Duration::from_nanos(0), &TestClock::still(0));
     equal(&rt, got, Err(ReceiveErrorTimeout::Timeout));
-    holds(&rt, matches!(shared.offer(&rt, 7), Offered::Full(7)));
+    holds(&rt, shared.try_send(&rt, &mut (), 7) == Ok(false));
 }
 
 /// The last sender's drop ends the send's wait too, and its message comes back.
 #[test]
 fn a_message_whose_wait_is_ended_comes_back(rt: HostRuntime) {
     let shared = channel::<u64>(&rt, 0);
-    let clock = Dropping {
+    let clock = Ending {
+        rt: &rt,
         reads: Cell::new(0),
         shared: &shared,
     };
-    let sent = shared.send_before(&rt, 7, Duration::from_nanos(1), &clock);
-    equal(&rt, sent, Err((SendErrorTimeout::Closed, Some(7))));
+    let mut option = Some(7);
+    let nanosecond = Duration::from_nanos(1);
+    let sent = shared.send_option_timeout(&rt, &mut (), &mut option, nanosecond, &clock);
+    equal(&rt, sent, Err(SendErrorTimeout::Closed));
+    equal(&rt, option, Some(7));
 }

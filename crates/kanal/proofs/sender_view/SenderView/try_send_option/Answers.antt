@@ -1,5 +1,0 @@
-use Rattle.std.proofs.Common.{rules}
-use Rattle.kanal.proofs.sender_view.SenderView.try_send_option.Goals as goal
-
-pub returns-clause-kept : goal.returns-clause-kept
-returns-clause-kept g c = search rules

@@ -1,0 +1,6 @@
+use Rattle.std.proofs.Common.{subst}
+use Rattle.kanal_history.specs.Handles.{Receives}
+use Rattle.kanal_futures.proofs.receiving.Received.into_parts.Goals as goal
+
+pub returns-clause-received : goal.returns-clause-received
+returns-clause-received g c = subst (λ v. Receives g.H.History.words v.0 c.self.inside.pass c.self.inside.answer) c.self.view_is c.self.invariant

@@ -1,0 +1,6 @@
+use Rattle.std.proofs.Common.{subst}
+use Rattle.kanal_history.specs.Handles.{Sends}
+use Rattle.kanal_futures.proofs.sending.Sent.into_parts.Goals as goal
+
+pub returns-clause-sent : goal.returns-clause-sent
+returns-clause-sent g c = subst (λ v. Sends g.H.History.words v.0 c.self.inside.pass v.1 c.self.inside.answer) c.self.view_is c.self.invariant

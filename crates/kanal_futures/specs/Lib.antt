@@ -1,0 +1,3 @@
+pub mod Tasks
+pub mod Futures
+pub mod Plain

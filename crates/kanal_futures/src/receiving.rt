@@ -1,0 +1,357 @@
+//! Receiving in a task by a pass: a future that carries the pass between its polls, and answers with it.
+//!
+//! Stands on the wait of a task. A message leaves by itself where it can; only where it can't the longer ways
+//! are gone.
+ghost use Rattle.std.specs.Prelude.{◌≡◌, ⊤, true, IfNone, IfSome, None, Option, Result, Some, codes};
+ghost use Rattle.std.specs.Option.{is_none};
+ghost use Rattle.futures.specs.Task.{Covers, Keeps};
+ghost use Rattle.futures.specs.Poll.{IfReady, OnPending};
+ghost use Rattle.kanal_core.specs.declared.error.ReceiveError.{ReceiveError};
+ghost use Rattle.kanal_history.specs.Handles.{Receives};
+ghost use Rattle.kanal_channel.specs.Locks.{IsQuiet};
+ghost use Rattle.kanal_futures.specs.Tasks.{begun_next};
+ghost use Rattle.kanal_futures.specs.Futures.{passes, receive_begun, receive_source, receive_waits};
+
+use crate::asks::{OfReceive, Opening};
+use crate::progress::{Next, Progress};
+use crate::started::Started;
+use crate::wakers::Wakers;
+use futures::Future;
+use futures::task::{Context, Poll};
+use kanal_channel::{Left, Locked, Shared, received_after, received_by};
+use kanal_core::error::ReceiveError;
+use kanal_history::History;
+use kanal_waits::Pauses;
+use std::marker::Model;
+use std::{fmt, mem};
+
+/// What a receive in a task came to: the answer, and the pass. Contracts see what the pass was at first, the
+/// pass, and the answer.
+#[derive(Drop)]
+pub struct Received<T, H: History<T>> {
+    opening: Opening<H::Pass, ()>,
+    pass: H::Pass,
+    answer: Result<T, ReceiveError>,
+}
+
+impl<T, H: History<T>> Model for Received<T, H> {
+    ghost use Rattle.std.specs.Prelude.{Result};
+    ghost use Rattle.kanal_core.specs.declared.error.ReceiveError.{ReceiveError};
+    ghost use Rattle.kanal_history.specs.Handles.{Receives};
+
+    ghost Value = { H.Pass × H.Pass × Result T ReceiveError };
+
+    ghost view = { λ r. (r.opening.pass.value, r.pass, r.answer) };
+
+    ghost invariant = { λ r. Receives H.words r.opening.pass.value r.pass r.answer };
+}
+
+impl<T: Drop, H: History<T>> Received<T, H> {
+    /// An answer, with the pass and what it was at first.
+    fn new(opening: Opening<H::Pass, ()>, pass: H::Pass, answer: Result<T, ReceiveError>) -> Self
+        requires received { Receives H.words opening.pass.value pass answer }
+        ensures { result ≡ (opening.pass.value, pass, answer) }
+    {
+        Received {
+            opening,
+            pass,
+            answer,
+        }
+    }
+
+    /// The pass, and the answer.
+    ///
+    /// # Examples
+    /// ```text
+    /// let (pass, answer) = received.into_parts();
+    /// answer   is  Ok(7)   where 7 was sent
+    /// ```
+    pub fn into_parts(self) -> (H::Pass, Result<T, ReceiveError>)
+        ensures received { Receives H.words self.0 result.0 result.1 }
+        ensures pass { result.0 ≡ self.1 }
+        ensures answer { result.1 ≡ self.2 }
+    {
+        let Received {
+            opening,
+            pass,
+            answer,
+        } = self;
+        drop(opening);
+        (pass, answer)
+    }
+}
+
+/// Receives a message in a task, by the pass that it carries.
+///
+/// A poll waits for nobody. The first one that gets the lock takes the front message; where there is none,
+/// the receiver waits until a message is sent or the channel ends. Where another holds the lock the poll
+/// makes no call and asks for another poll: at once where the channel has no buffer, and else after a pause,
+/// which is longer with each such poll in a row.
+///
+/// A drop waits for nobody, too: a started wait is withdrawn by a call that is nobody's, and a message that
+/// was handed over before is dropped. The pass is gone then.
+pub struct Receiving<'a, T, H: History<T>> {
+    shared: &'a Shared<T, H>,
+    state: Progress<T, H, (), OfReceive>,
+    wakers: Wakers,
+    pauses: Pauses,
+}
+
+impl<T: Drop, H: History<T>> Drop for Receiving<'_, T, H> {
+    fn drop(self) {
+        let Receiving {
+            shared,
+            state,
+            wakers,
+            pauses: _,
+        } = self;
+        state.leave(shared);
+        drop(wakers);
+    }
+}
+
+/// A future that receives a message by this pass. It does nothing before its first poll.
+///
+/// # Examples
+/// ```text
+/// let received = block_on(&rt, recv_in_task(&shared, pass))?;
+/// received.into_parts()   answers  the pass and Ok(7)   where 7 was sent
+/// ```
+pub fn recv_in_task<T: Drop, H: History<T>>(
+    shared: &Shared<T, H>,
+    pass: H::Pass,
+) -> Receiving<'_, T, H>
+    ensures fresh { receive_begun result ≡ Some pass }
+{
+    Receiving {
+        shared,
+        state: Progress::Zero(pass, ()),
+        wakers: Wakers::new(),
+        pauses: Pauses::new(),
+    }
+}
+
+impl<'a, T: Drop, H: History<T>> Receiving<'a, T, H> {
+    /// The channel that it receives from.
+    pub(crate) fn shared(&self) -> &'a Shared<T, H> {
+        self.shared
+    }
+
+    /// Whether its wait was started, and not polled to its end.
+    pub(crate) fn is_waiting(&self) -> bool
+        ensures { result ≡ receive_waits self.now }
+    {
+        matches!(self.state, Progress::Waiting(_) | Progress::Lost(_))
+    }
+
+    /// Begins the next receive by this pass, of a future that has answered. The spare waker stays.
+    pub(crate) fn restart(&mut self, pass: H::Pass)
+        requires over { receive_begun self.old ≡ None }
+        ensures fresh { receive_begun self.new ≡ Some pass }
+        ensures source { receive_source self.new ≡ receive_source self.old }
+    {
+        self.state = Progress::Zero(pass, ());
+        self.pauses = Pauses::new();
+    }
+
+    /// Takes the front message, where the lock is free.
+    #[inline]
+    fn begin(&mut self, pass: H::Pass, cx: &mut Context<'_>) -> Poll<Received<T, H>>
+        requires over { receive_begun self.old ≡ None }
+        ensures begun { IfReady result (λ r. r.0 ≡ pass) }
+        ensures ends { IfReady result (λ _. receive_begun self.new ≡ None) }
+        ensures goes_on { OnPending result (receive_begun self.new ≡ Some pass) }
+        ensures registered { OnPending result (Covers cx.new (λ s. s ≡ receive_source self.new)) }
+        ensures kept { Keeps cx.old cx.new }
+        ensures source { receive_source self.new ≡ receive_source self.old }
+    {
+        let Some(mut locked) = self.shared.try_lock() else {
+            self.state = Progress::Zero(pass, ());
+            if self.shared.has_buffer() {
+                self.pauses.pause();
+            }
+            return cx.yield_now();
+        };
+        if !self.shared.is_quiet() {
+            return self.begin_noticed(locked, pass, cx);
+        }
+        let opening = Opening::of(&pass, &());
+        let mut pass = pass;
+        match locked.state.pop(self.shared.board(), &mut pass) {
+            Some(message) => {
+                locked.give_back_quiet();
+                Poll::Ready(Received::new(opening, pass, Ok(message)))
+            },
+            None => self.begin_quiet(locked, pass, cx),
+        }
+    }
+
+    /// The same, with the lock held, where there are notices.
+    #[cold]
+    fn begin_noticed(
+        &mut self,
+        locked: Locked<'_, T, H>,
+        pass: H::Pass,
+        cx: &mut Context<'_>,
+    ) -> Poll<Received<T, H>>
+        requires over { receive_begun self.old ≡ None }
+        ensures begun { IfReady result (λ r. r.0 ≡ pass) }
+        ensures ends { IfReady result (λ _. receive_begun self.new ≡ None) }
+        ensures goes_on { OnPending result (receive_begun self.new ≡ Some pass) }
+        ensures registered { OnPending result (Covers cx.new (λ s. s ≡ receive_source self.new)) }
+        ensures kept { Keeps cx.old cx.new }
+        ensures source { receive_source self.new ≡ receive_source self.old }
+    {
+        let mut locked = locked;
+        let left = locked.take_left();
+        self.begin_held(locked, left, pass, cx)
+    }
+
+    /// The same, where there were none, and no message left the buffer by itself.
+    #[cold]
+    fn begin_quiet(
+        &mut self,
+        locked: Locked<'_, T, H>,
+        pass: H::Pass,
+        cx: &mut Context<'_>,
+    ) -> Poll<Received<T, H>>
+        requires over { receive_begun self.old ≡ None }
+        requires quiet { IsQuiet locked }
+        ensures begun { IfReady result (λ r. r.0 ≡ pass) }
+        ensures ends { IfReady result (λ _. receive_begun self.new ≡ None) }
+        ensures goes_on { OnPending result (receive_begun self.new ≡ Some pass) }
+        ensures registered { OnPending result (Covers cx.new (λ s. s ≡ receive_source self.new)) }
+        ensures kept { Keeps cx.old cx.new }
+        ensures source { receive_source self.new ≡ receive_source self.old }
+    {
+        self.begin_held(locked, Left::nothing(), pass, cx)
+    }
+
+    /// Takes the front message, with the lock held and the notices applied; where there is none, the wait
+    /// is started.
+    #[cold]
+    fn begin_held(
+        &mut self,
+        locked: Locked<'_, T, H>,
+        left: Left<T, H>,
+        pass: H::Pass,
+        cx: &mut Context<'_>,
+    ) -> Poll<Received<T, H>>
+        requires over { receive_begun self.old ≡ None }
+        requires quiet { IsQuiet locked }
+        ensures begun { IfReady result (λ r. r.0 ≡ pass) }
+        ensures ends { IfReady result (λ _. receive_begun self.new ≡ None) }
+        ensures goes_on { OnPending result (receive_begun self.new ≡ Some pass) }
+        ensures registered { OnPending result (Covers cx.new (λ s. s ≡ receive_source self.new)) }
+        ensures kept { Keeps cx.old cx.new }
+        ensures source { receive_source self.new ≡ receive_source self.old }
+    {
+        let begun = self.wakers.begin(self.shared, locked, left, pass, (), cx);
+        match begun {
+            Ok((opening, pass, reply)) => {
+                Poll::Ready(Received::new(opening, pass, received_by(reply)))
+            },
+            Err(started) => {
+                self.state = Progress::Waiting(started);
+                Poll::Pending
+            },
+        }
+    }
+
+    /// Looks for the end of the wait.
+    #[cold]
+    #[tactic(auto, using(crate::proofs::Answering::received_settled))]
+    fn wait(
+        &mut self,
+        started: Started<T, H, (), OfReceive>,
+        cx: &mut Context<'_>,
+    ) -> Poll<Received<T, H>>
+        requires over { receive_begun self.old ≡ None }
+        ensures begun { IfReady result (λ r. r.0 ≡ started.0) }
+        ensures ends { IfReady result (λ _. receive_begun self.new ≡ None) }
+        ensures goes_on { OnPending result (receive_begun self.new ≡ Some started.0) }
+        ensures registered { OnPending result (Covers cx.new (λ s. s ≡ receive_source self.new)) }
+        ensures kept { Keeps cx.old cx.new }
+        ensures source { receive_source self.new ≡ receive_source self.old }
+    {
+        match started.look(&mut self.wakers, self.shared, cx) {
+            Ok((opening, pass, outcome)) => {
+                Poll::Ready(Received::new(opening, pass, received_after(outcome)))
+            },
+            Err(progress) => {
+                self.state = progress;
+                Poll::Pending
+            },
+        }
+    }
+
+    /// Goes on as its state, which was taken out, has it.
+    fn go_on(
+        &mut self,
+        next: Next<T, H, (), OfReceive>,
+        cx: &mut Context<'_>,
+    ) -> Poll<Option<Received<T, H>>>
+        requires over { receive_begun self.old ≡ None }
+        ensures begun { IfReady result (λ r. IfSome r (λ x. passes (begun_next next) ≡ Some x.0)) }
+        ensures answered { IfReady result (λ r. IfNone r (passes (begun_next next) ≡ None)) }
+        ensures ends { IfReady result (λ _. receive_begun self.new ≡ None) }
+        ensures goes_on { OnPending result (receive_begun self.new ≡ passes (begun_next next)) }
+        ensures over { is_none (passes (begun_next next)) ≡ true → result ≡ Poll.Ready None }
+        ensures registered { OnPending result (Covers cx.new (λ s. s ≡ receive_source self.new)) }
+        ensures kept { Keeps cx.old cx.new }
+        ensures source { receive_source self.new ≡ receive_source self.old }
+    {
+        let answer = match next {
+            Next::Begins(pass, ()) => self.begin(pass, cx),
+            Next::Looks(started) => self.wait(started, cx),
+            Next::Stays(lost) => {
+                self.state = Progress::Lost(lost);
+                cx.yield_now()
+            },
+            Next::Ends => return Poll::Ready(None),
+        };
+        match answer {
+            Poll::Ready(received) => Poll::Ready(Some(received)),
+            Poll::Pending => Poll::Pending,
+        }
+    }
+}
+
+impl<T: Drop, H: History<T>> Future for Receiving<'_, T, H> {
+    type Output = Option<Received<T, H>>;
+
+    ghost needs = { λ f s. s ≡ receive_source f };
+
+    /// Polls the receive. It answers once, and `None` after that. It waits for nobody.
+    ///
+    /// # Examples
+    /// ```text
+    /// let mut receiving = recv_in_task(&shared, pass);
+    /// task.poll(&mut receiving)   answers  Ready(Some(received))   where 7 was sent
+    /// task.poll(&mut receiving)   answers  Ready(None)             after that
+    /// ```
+    fn poll(&mut self, cx: &mut Context<'_>) -> Poll<Option<Received<T, H>>>
+        ensures value { IfReady result (λ _. ⊤) }
+        ensures again { OnPending result ⊤ }
+        ensures same { OnPending result
+            ((x : Option (H.Pass × H.Pass × Result T ReceiveError)) → ⊤ → ⊤) }
+        ensures registered { OnPending result (Covers cx.new (λ s. s ≡ receive_source self.new)) }
+        ensures kept { Keeps cx.old cx.new }
+        ensures begun { IfReady result (λ r. IfSome r (λ x. receive_begun self.old ≡ Some x.0)) }
+        ensures answered { IfReady result (λ r. IfNone r (receive_begun self.old ≡ None)) }
+        ensures ends { IfReady result (λ _. receive_begun self.new ≡ None) }
+        ensures goes_on { OnPending result (receive_begun self.new ≡ receive_begun self.old) }
+        ensures over { is_none (receive_begun self.old) ≡ true → result ≡ Poll.Ready None }
+    {
+        let state = mem::replace(&mut self.state, Progress::Done);
+        self.go_on(state.next(), cx)
+    }
+}
+
+impl<T: Drop, H: History<T>> fmt::Debug for Receiving<'_, T, H> {
+    ghost debug_output = { λ _. Some (codes "Receiving { .. }") };
+
+    fn fmt<W: fmt::Write>(&self, f: &mut fmt::Formatter<W>) -> fmt::Result {
+        f.write_str("Receiving { .. }")
+    }
+}

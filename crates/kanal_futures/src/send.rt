@@ -1,0 +1,98 @@
+//! Sending in a task by no pass.
+//!
+//! Stands on `sending`, for each history whose pass has no content.
+ghost use Rattle.std.specs.Prelude.{◌≡◌, ⊤, true, false, IfSome, Some, Err, Result, codes};
+ghost use Rattle.futures.specs.Task.{Covers, Keeps};
+ghost use Rattle.futures.specs.Poll.{IfReady, OnPending};
+ghost use Rattle.kanal_history.specs.Handles.{Sends};
+ghost use Rattle.kanal_futures.specs.Plain.{message_in, send_future_source, send_is_over};
+
+use crate::sending::{Sending, send_in_task};
+use futures::Future;
+use futures::task::{Context, Poll};
+use kanal_channel::Shared;
+use kanal_core::error::SendError;
+use kanal_history::{History, NoHistory};
+use std::fmt;
+
+/// Sends a message, as `AsyncSender::send` answers it.
+///
+/// A poll waits for nobody. The first one that gets the lock offers the message; where there is no
+/// place for it, the message waits in the line until a receiver takes it or the channel ends. Where
+/// another holds the lock the poll makes no step and asks for another poll: at once where the channel
+/// has no buffer, and else after a pause, which is longer with each such poll in a row.
+///
+/// A drop waits for nobody, too: a message that waits is withdrawn and dropped. After its answer the
+/// future answers `Err(SendError::Finished)`.
+#[derive(Drop)]
+pub struct SendFuture<'a, T, H: History<T> = NoHistory> {
+    sending: Sending<'a, T, H>,
+}
+
+/// A future that sends the message. It does nothing before its first poll, and waits for nobody.
+///
+/// # Examples
+/// ```text
+/// block_on(&rt, send_future(&shared, 7))   gives  Ok(())   in a channel with a place
+/// ```
+pub fn send_future<T: Drop, H: History<T, Pass = ()>>(
+    shared: &Shared<T, H>,
+    message: T,
+) -> SendFuture<'_, T, H>
+    ensures fresh { message_in result ≡ Some message }
+{
+    SendFuture {
+        sending: send_in_task(shared, (), message),
+    }
+}
+
+impl<T: Drop, H: History<T, Pass = ()>> Future for SendFuture<'_, T, H> {
+    type Output = Result<(), SendError>;
+
+    ghost needs = { λ f s. s ≡ send_future_source f };
+
+    /// Polls the send. It waits for nobody.
+    ///
+    /// # Errors
+    /// `Closed` where the channel was closed, `ReceiveClosed` where the last receiver was dropped,
+    /// `Sealed` after a `seal`, `NoMemory` where memory was refused, `TooMany` where the tickets are
+    /// used up, and `Finished` after the first answer. The message is dropped then.
+    ///
+    /// # Examples
+    /// ```text
+    /// let mut sending = sender.send(7);
+    /// task.poll(&mut sending)   answers  Ready(Ok(()))                     in a channel with a place
+    /// task.poll(&mut sending)   answers  Ready(Err(SendError::Finished))   after that
+    /// ```
+    fn poll(&mut self, cx: &mut Context<'_>) -> Poll<Result<(), SendError>>
+        ensures value { IfReady result (λ _. ⊤) }
+        ensures again { OnPending result ⊤ }
+        ensures same { OnPending result ((x : Result Unit SendError) → ⊤ → ⊤) }
+        ensures registered { OnPending result (Covers cx.new (λ s. s ≡ send_future_source self.new)) }
+        ensures kept { Keeps cx.old cx.new }
+        ensures sent { IfReady result (λ r. IfSome (message_in self.old) (λ m.
+            Sends H.words tt tt m r)) }
+        ensures stays { OnPending result (message_in self.new ≡ message_in self.old) }
+        ensures over { send_is_over self.old ≡ true → (result ≡ Poll.Ready (Err SendError.Finished))
+            × (send_is_over self.new ≡ true) }
+        ensures ends { IfReady result (λ _. send_is_over self.new ≡ true) }
+        ensures goes_on { OnPending result (send_is_over self.new ≡ false) }
+    {
+        match self.sending.poll(cx) {
+            Poll::Ready(Some(sent)) => {
+                let (_pass, answer) = sent.into_parts();
+                Poll::Ready(answer)
+            },
+            Poll::Ready(None) => Poll::Ready(Err(SendError::Finished)),
+            Poll::Pending => Poll::Pending,
+        }
+    }
+}
+
+impl<T: Drop, H: History<T>> fmt::Debug for SendFuture<'_, T, H> {
+    ghost debug_output = { λ _. Some (codes "SendFuture { .. }") };
+
+    fn fmt<W: fmt::Write>(&self, f: &mut fmt::Formatter<W>) -> fmt::Result {
+        f.write_str("SendFuture { .. }")
+    }
+}

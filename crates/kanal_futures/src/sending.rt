@@ -1,0 +1,338 @@
+//! Sending in a task by a pass: a future that carries the pass between its polls, and answers with it.
+//!
+//! Stands on the wait of a task. A message enters by itself where it can; only where it can't the longer ways
+//! are gone.
+ghost use Rattle.std.specs.Prelude.{◌≡◌, ⊤, true, IfNone, IfSome, None, Option, Result, Some, codes};
+ghost use Rattle.std.specs.Option.{is_none};
+ghost use Rattle.futures.specs.Task.{Covers, Keeps};
+ghost use Rattle.futures.specs.Poll.{IfReady, OnPending};
+ghost use Rattle.kanal_core.specs.declared.error.SendError.{SendError};
+ghost use Rattle.kanal_history.specs.Handles.{Sends};
+ghost use Rattle.kanal_channel.specs.Locks.{IsQuiet};
+ghost use Rattle.kanal_futures.specs.Tasks.{begun_next};
+ghost use Rattle.kanal_futures.specs.Futures.{send_begun, send_source};
+
+use crate::asks::{OfSend, Opening};
+use crate::progress::{Next, Progress};
+use crate::started::Started;
+use crate::wakers::Wakers;
+use futures::Future;
+use futures::task::{Context, Poll};
+use kanal_channel::{Left, Locked, Shared, sent_after, sent_by};
+use kanal_core::error::SendError;
+use kanal_history::History;
+use kanal_waits::Pauses;
+use std::marker::Model;
+use std::{fmt, mem};
+
+/// What a send in a task came to: the answer, and the pass. Contracts see what the pass was at first, the
+/// message, the pass, and the answer.
+#[derive(Drop)]
+pub struct Sent<T, H: History<T>> {
+    opening: Opening<H::Pass, T>,
+    pass: H::Pass,
+    answer: Result<(), SendError>,
+}
+
+impl<T, H: History<T>> Model for Sent<T, H> {
+    ghost use Rattle.std.specs.Prelude.{Result};
+    ghost use Rattle.kanal_core.specs.declared.error.SendError.{SendError};
+    ghost use Rattle.kanal_history.specs.Handles.{Sends};
+
+    ghost Value = { H.Pass × T × H.Pass × Result (Unit {0}) SendError };
+
+    ghost view = { λ s. (s.opening.pass.value, s.opening.asked.value, s.pass, s.answer) };
+
+    ghost invariant = { λ s. Sends H.words s.opening.pass.value s.pass s.opening.asked.value
+        s.answer };
+}
+
+impl<T: Drop, H: History<T>> Sent<T, H> {
+    /// An answer, with the pass and what it was at first.
+    fn new(opening: Opening<H::Pass, T>, pass: H::Pass, answer: Result<(), SendError>) -> Self
+        requires sent { Sends H.words opening.pass.value pass opening.asked.value answer }
+        ensures { result ≡ (opening.pass.value, opening.asked.value, pass, answer) }
+    {
+        Sent {
+            opening,
+            pass,
+            answer,
+        }
+    }
+
+    /// The pass, and the answer.
+    ///
+    /// # Examples
+    /// ```text
+    /// let (pass, answer) = sent.into_parts();
+    /// answer   is  Ok(())   in a channel with a place
+    /// ```
+    pub fn into_parts(self) -> (H::Pass, Result<(), SendError>)
+        ensures sent { Sends H.words self.0 result.0 self.1 result.1 }
+        ensures pass { result.0 ≡ self.2 }
+        ensures answer { result.1 ≡ self.3 }
+    {
+        let Sent {
+            opening,
+            pass,
+            answer,
+        } = self;
+        drop(opening);
+        (pass, answer)
+    }
+}
+
+/// Sends a message in a task, by the pass that it carries.
+///
+/// A poll waits for nobody. The first one that gets the lock offers the message; where there is no place for
+/// it, the message waits in the line until a receiver takes it or the channel ends. Where another holds the
+/// lock the poll makes no call and asks for another poll: at once where the channel has no buffer, and else
+/// after a pause, which is longer with each such poll in a row.
+///
+/// A drop waits for nobody, too: a message that waits is withdrawn by a call that is nobody's, and dropped.
+/// The pass is gone then.
+pub struct Sending<'a, T, H: History<T>> {
+    shared: &'a Shared<T, H>,
+    state: Progress<T, H, T, OfSend>,
+    wakers: Wakers,
+    pauses: Pauses,
+}
+
+impl<T: Drop, H: History<T>> Drop for Sending<'_, T, H> {
+    fn drop(self) {
+        let Sending {
+            shared,
+            state,
+            wakers,
+            pauses: _,
+        } = self;
+        state.leave(shared);
+        drop(wakers);
+    }
+}
+
+/// A future that sends the message by this pass. It does nothing before its first poll.
+///
+/// # Examples
+/// ```text
+/// let sent = block_on(&rt, send_in_task(&shared, pass, 7))?;
+/// sent.into_parts()   answers  the pass and Ok(())   in a channel with a place
+/// ```
+pub fn send_in_task<T: Drop, H: History<T>>(
+    shared: &Shared<T, H>,
+    pass: H::Pass,
+    message: T,
+) -> Sending<'_, T, H>
+    ensures fresh { send_begun result ≡ Some (pass, message) }
+{
+    Sending {
+        shared,
+        state: Progress::Zero(pass, message),
+        wakers: Wakers::new(),
+        pauses: Pauses::new(),
+    }
+}
+
+impl<T: Drop, H: History<T>> Sending<'_, T, H> {
+    /// Offers the message, where the lock is free.
+    #[inline]
+    fn begin(&mut self, pass: H::Pass, message: T, cx: &mut Context<'_>) -> Poll<Sent<T, H>>
+        requires over { send_begun self.old ≡ None }
+        ensures begun { IfReady result (λ s. (s.0 ≡ pass) × (s.1 ≡ message)) }
+        ensures ends { IfReady result (λ _. send_begun self.new ≡ None) }
+        ensures goes_on { OnPending result (send_begun self.new ≡ Some (pass, message)) }
+        ensures registered { OnPending result (Covers cx.new (λ s. s ≡ send_source self.new)) }
+        ensures kept { Keeps cx.old cx.new }
+        ensures source { send_source self.new ≡ send_source self.old }
+    {
+        let Some(mut locked) = self.shared.try_lock() else {
+            self.state = Progress::Zero(pass, message);
+            if self.shared.has_buffer() {
+                self.pauses.pause();
+            }
+            return cx.yield_now();
+        };
+        if !self.shared.is_quiet() {
+            return self.begin_noticed(locked, pass, message, cx);
+        }
+        let opening = Opening::of(&pass, &message);
+        let mut pass = pass;
+        match locked.state.push(self.shared.board(), &mut pass, message) {
+            Ok(()) => {
+                locked.give_back_quiet();
+                Poll::Ready(Sent::new(opening, pass, Ok(())))
+            },
+            Err(message) => self.begin_quiet(locked, pass, message, cx),
+        }
+    }
+
+    /// The same, with the lock held, where there are notices.
+    #[cold]
+    fn begin_noticed(
+        &mut self,
+        locked: Locked<'_, T, H>,
+        pass: H::Pass,
+        message: T,
+        cx: &mut Context<'_>,
+    ) -> Poll<Sent<T, H>>
+        requires over { send_begun self.old ≡ None }
+        ensures begun { IfReady result (λ s. (s.0 ≡ pass) × (s.1 ≡ message)) }
+        ensures ends { IfReady result (λ _. send_begun self.new ≡ None) }
+        ensures goes_on { OnPending result (send_begun self.new ≡ Some (pass, message)) }
+        ensures registered { OnPending result (Covers cx.new (λ s. s ≡ send_source self.new)) }
+        ensures kept { Keeps cx.old cx.new }
+        ensures source { send_source self.new ≡ send_source self.old }
+    {
+        let mut locked = locked;
+        let left = locked.take_left();
+        self.begin_held(locked, left, pass, message, cx)
+    }
+
+    /// The same, where there were none, and the message did not enter by itself.
+    #[cold]
+    fn begin_quiet(
+        &mut self,
+        locked: Locked<'_, T, H>,
+        pass: H::Pass,
+        message: T,
+        cx: &mut Context<'_>,
+    ) -> Poll<Sent<T, H>>
+        requires over { send_begun self.old ≡ None }
+        requires quiet { IsQuiet locked }
+        ensures begun { IfReady result (λ s. (s.0 ≡ pass) × (s.1 ≡ message)) }
+        ensures ends { IfReady result (λ _. send_begun self.new ≡ None) }
+        ensures goes_on { OnPending result (send_begun self.new ≡ Some (pass, message)) }
+        ensures registered { OnPending result (Covers cx.new (λ s. s ≡ send_source self.new)) }
+        ensures kept { Keeps cx.old cx.new }
+        ensures source { send_source self.new ≡ send_source self.old }
+    {
+        self.begin_held(locked, Left::nothing(), pass, message, cx)
+    }
+
+    /// Offers the message, with the lock held and the notices applied; where there is no place for it, the
+    /// wait is started.
+    #[cold]
+    fn begin_held(
+        &mut self,
+        locked: Locked<'_, T, H>,
+        left: Left<T, H>,
+        pass: H::Pass,
+        message: T,
+        cx: &mut Context<'_>,
+    ) -> Poll<Sent<T, H>>
+        requires over { send_begun self.old ≡ None }
+        requires quiet { IsQuiet locked }
+        ensures begun { IfReady result (λ s. (s.0 ≡ pass) × (s.1 ≡ message)) }
+        ensures ends { IfReady result (λ _. send_begun self.new ≡ None) }
+        ensures goes_on { OnPending result (send_begun self.new ≡ Some (pass, message)) }
+        ensures registered { OnPending result (Covers cx.new (λ s. s ≡ send_source self.new)) }
+        ensures kept { Keeps cx.old cx.new }
+        ensures source { send_source self.new ≡ send_source self.old }
+    {
+        let begun = self
+            .wakers
+            .begin(self.shared, locked, left, pass, message, cx);
+        match begun {
+            Ok((opening, pass, reply)) => Poll::Ready(Sent::new(opening, pass, sent_by(reply))),
+            Err(started) => {
+                self.state = Progress::Waiting(started);
+                Poll::Pending
+            },
+        }
+    }
+
+    /// Looks for the end of the wait.
+    #[cold]
+    #[tactic(auto, using(crate::proofs::Answering::sent_settled))]
+    fn wait(&mut self, started: Started<T, H, T, OfSend>, cx: &mut Context<'_>) -> Poll<Sent<T, H>>
+        requires over { send_begun self.old ≡ None }
+        ensures begun { IfReady result (λ s. (s.0 ≡ started.0) × (s.1 ≡ started.1)) }
+        ensures ends { IfReady result (λ _. send_begun self.new ≡ None) }
+        ensures goes_on { OnPending result (send_begun self.new
+            ≡ Some (started.0, started.1)) }
+        ensures registered { OnPending result (Covers cx.new (λ s. s ≡ send_source self.new)) }
+        ensures kept { Keeps cx.old cx.new }
+        ensures source { send_source self.new ≡ send_source self.old }
+    {
+        match started.look(&mut self.wakers, self.shared, cx) {
+            Ok((opening, pass, outcome)) => {
+                Poll::Ready(Sent::new(opening, pass, sent_after(outcome)))
+            },
+            Err(progress) => {
+                self.state = progress;
+                Poll::Pending
+            },
+        }
+    }
+
+    /// Goes on as its state, which was taken out, has it.
+    fn go_on(
+        &mut self,
+        next: Next<T, H, T, OfSend>,
+        cx: &mut Context<'_>,
+    ) -> Poll<Option<Sent<T, H>>>
+        requires over { send_begun self.old ≡ None }
+        ensures begun { IfReady result (λ r. IfSome r (λ x. begun_next next
+            ≡ Some (x.0, x.1))) }
+        ensures answered { IfReady result (λ r. IfNone r (begun_next next ≡ None)) }
+        ensures ends { IfReady result (λ _. send_begun self.new ≡ None) }
+        ensures goes_on { OnPending result (send_begun self.new ≡ begun_next next) }
+        ensures over { is_none (begun_next next) ≡ true → result ≡ Poll.Ready None }
+        ensures registered { OnPending result (Covers cx.new (λ s. s ≡ send_source self.new)) }
+        ensures kept { Keeps cx.old cx.new }
+        ensures source { send_source self.new ≡ send_source self.old }
+    {
+        let answer = match next {
+            Next::Begins(pass, message) => self.begin(pass, message, cx),
+            Next::Looks(started) => self.wait(started, cx),
+            Next::Stays(lost) => {
+                self.state = Progress::Lost(lost);
+                cx.yield_now()
+            },
+            Next::Ends => return Poll::Ready(None),
+        };
+        match answer {
+            Poll::Ready(sent) => Poll::Ready(Some(sent)),
+            Poll::Pending => Poll::Pending,
+        }
+    }
+}
+
+impl<T: Drop, H: History<T>> Future for Sending<'_, T, H> {
+    type Output = Option<Sent<T, H>>;
+
+    ghost needs = { λ f s. s ≡ send_source f };
+
+    /// Polls the send. It answers once, and `None` after that. It waits for nobody.
+    ///
+    /// # Examples
+    /// ```text
+    /// let mut sending = send_in_task(&shared, pass, 7);
+    /// task.poll(&mut sending)   answers  Ready(Some(sent))   in a channel with a place
+    /// task.poll(&mut sending)   answers  Ready(None)         after that
+    /// ```
+    fn poll(&mut self, cx: &mut Context<'_>) -> Poll<Option<Sent<T, H>>>
+        ensures value { IfReady result (λ _. ⊤) }
+        ensures again { OnPending result ⊤ }
+        ensures same { OnPending result
+            ((x : Option (H.Pass × T × H.Pass × Result (Unit {0}) SendError)) → ⊤ → ⊤) }
+        ensures registered { OnPending result (Covers cx.new (λ s. s ≡ send_source self.new)) }
+        ensures kept { Keeps cx.old cx.new }
+        ensures begun { IfReady result (λ r. IfSome r (λ x. send_begun self.old ≡ Some (x.0, x.1))) }
+        ensures answered { IfReady result (λ r. IfNone r (send_begun self.old ≡ None)) }
+        ensures ends { IfReady result (λ _. send_begun self.new ≡ None) }
+        ensures goes_on { OnPending result (send_begun self.new ≡ send_begun self.old) }
+        ensures over { is_none (send_begun self.old) ≡ true → result ≡ Poll.Ready None }
+    {
+        let state = mem::replace(&mut self.state, Progress::Done);
+        self.go_on(state.next(), cx)
+    }
+}
+
+impl<T: Drop, H: History<T>> fmt::Debug for Sending<'_, T, H> {
+    ghost debug_output = { λ _. Some (codes "Sending { .. }") };
+
+    fn fmt<W: fmt::Write>(&self, f: &mut fmt::Formatter<W>) -> fmt::Result {
+        f.write_str("Sending { .. }")
+    }
+}

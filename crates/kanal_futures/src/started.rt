@@ -1,0 +1,272 @@
+//! The wait of a task: how a call begins that waits where it must, and how its wait ends.
+//!
+//! Stands on the lock, the state and the task's wakers. The pass whose call it is travels with the wait. A
+//! wait that was started is owed: only its end and its leaving let it go.
+ghost use Rattle.std.specs.Prelude.{◌≡◌, IfErr, IfOk, Some, true};
+ghost use Rattle.futures.specs.Task.{Covers, Keeps};
+ghost use Rattle.kanal_cell.specs.CellRule.{HasNotLeft};
+ghost use Rattle.kanal_cell.specs.CellEnds.{wait_view};
+ghost use Rattle.kanal_core.specs.Tickets.{number_of};
+ghost use Rattle.kanal_events.specs.Made.{MustWait, may_wait};
+ghost use Rattle.kanal_history.specs.Makes.{HasReplied, HasWaited, IsReplied, SeesWait};
+ghost use Rattle.kanal_channel.specs.Locks.{IsQuiet, line_under};
+ghost use Rattle.kanal_futures.specs.Tasks.{begun_by, opened, source_of};
+
+use crate::asks::{Asks, Opening};
+use crate::progress::{Lost, Progress};
+use crate::wakers::Wakers;
+use futures::task::{Context, Poll};
+use kanal_cell::signal::WaitEnd;
+use kanal_channel::{CountedWait, Delivered, Left, Locked, Shared};
+use kanal_core::internal::{Outcome, Ticket};
+use kanal_events::event::{Event, Refusal, Reply};
+use kanal_events::made::{Kept, Tried};
+use kanal_history::History;
+use std::marker::{Model, PhantomData};
+
+/// A call that was answered at once: what it began with, the pass, and the reply.
+pub(crate) type Replied<T, H, M> = (
+    Opening<<H as History<T>>::Pass, M>,
+    <H as History<T>>::Pass,
+    Reply<T>,
+);
+
+/// A wait that was settled: what the call began with, the pass, and what became of the wait.
+pub(crate) type Settled<T, H, M> = (
+    Opening<<H as History<T>>::Pass, M>,
+    <H as History<T>>::Pass,
+    Outcome<T>,
+);
+
+/// A wait that was started, with the pass whose call it is. Contracts see what the pass was at first, and what
+/// was asked. Only `look` and `leave` let it go.
+pub(crate) struct Started<T, H: History<T>, M, A: Asks<T, M>> {
+    opening: Opening<H::Pass, M>,
+    pass: H::Pass,
+    counted: CountedWait,
+    end: WaitEnd<Delivered<T, H>>,
+    asks: PhantomData<A>,
+}
+
+impl<T, H: History<T>, M, A: Asks<T, M>> Model for Started<T, H, M, A> {
+    ghost use Rattle.kanal_cell.specs.CellRule.{HasNotLeft};
+    ghost use Rattle.kanal_cell.specs.CellEnds.{wait_view};
+    ghost use Rattle.kanal_core.specs.Tickets.{number_of};
+    ghost use Rattle.kanal_events.specs.declared.event.Reply.TheVariants.{Waits};
+    ghost use Rattle.kanal_channel.specs.Counts.{ticket_of};
+    ghost use Rattle.kanal_history.specs.Makes.{IsReplied};
+
+    ghost Value = { H.Pass × M };
+
+    ghost view = { λ s. (s.opening.pass.value, s.opening.asked.value) };
+
+    ghost invariant = { λ s. HasNotLeft (wait_view s.end)
+        × IsReplied H.words s.opening.pass.value s.pass (A.event s.opening.asked.value)
+        (λ reply. reply) (Waits (number_of (ticket_of s.counted))) };
+}
+
+impl<T: Drop, H: History<T>, M: Drop, A: Asks<T, M>> Started<T, H, M, A> {
+    /// The wait of a call that waits.
+    fn new(
+        opening: Opening<H::Pass, M>,
+        pass: H::Pass,
+        ticket: Ticket,
+        end: WaitEnd<Delivered<T, H>>,
+    ) -> Self
+        requires unspent { HasNotLeft (wait_view end) }
+        requires waits { IsReplied H.words opening.pass.value pass (A.event opening.asked.value)
+            (λ reply. reply) (Reply.Waits (number_of ticket)) }
+        ensures { result ≡ opened opening }
+    {
+        Started {
+            opening,
+            pass,
+            counted: CountedWait::new(ticket),
+            end,
+            asks: PhantomData,
+        }
+    }
+
+    /// The ticket under which it waits.
+    fn ticket(&self) -> Ticket {
+        self.counted.ticket()
+    }
+
+    /// What became of the wait, where it was settled.
+    fn poll(&mut self) -> Option<Delivered<T, H>>
+        ensures same { self.new ≡ self.old }
+    {
+        self.end.poll()
+    }
+
+    /// The end of the call, where this became of its wait; where it is another's, the wait still stands.
+    fn finish(
+        self,
+        board: &H::Board,
+        delivered: Delivered<T, H>,
+    ) -> Result<Settled<T, H, M>, Lost<T, H, M>>
+        ensures begun { IfOk result (λ r. opened r.0 ≡ self) }
+        ensures waited { IfOk result (λ r. HasWaited H.words self.0 r.1 (A.event self.1) r.2) }
+        ensures lost { IfErr result (λ lost. opened lost.opening ≡ self) }
+    {
+        let Started {
+            opening,
+            pass,
+            counted,
+            end,
+            asks: _,
+        } = self;
+        drop(end);
+        if delivered.ticket() != counted.ticket().number() {
+            return Err(Lost { opening, counted });
+        }
+        counted.told(&delivered);
+        let mut pass = pass;
+        let (outcome, prefix) = delivered.into_parts();
+        H::learn(board, &mut pass, prefix);
+        Ok((opening, pass, outcome))
+    }
+
+    /// Looks for the end of the wait. Without one it puts the task's waker into the entry; where the lock is
+    /// held or the entry is gone, it asks for another poll.
+    pub(crate) fn look(
+        self,
+        wakers: &mut Wakers,
+        shared: &Shared<T, H>,
+        cx: &mut Context<'_>,
+    ) -> Result<Settled<T, H, M>, Progress<T, H, M, A>>
+        ensures begun { IfOk result (λ r. opened r.0 ≡ self) }
+        ensures waited { IfOk result (λ r. HasWaited H.words self.0 r.1 (A.event self.1) r.2) }
+        ensures goes_on { IfErr result (λ p. begun_by p ≡ Some self) }
+        ensures registered { IfErr result (λ _. Covers cx.new (λ s. s ≡ source_of wakers.new)) }
+        ensures kept { Keeps cx.old cx.new }
+        ensures source { source_of wakers.new ≡ source_of wakers.old }
+    {
+        let mut started = self;
+        let Some(delivered) = started.poll() else {
+            wakers.renew(shared, started.ticket(), cx);
+            return Err(Progress::Waiting(started));
+        };
+        match started.finish(shared.board(), delivered) {
+            Ok(settled) => Ok(settled),
+            Err(lost) => {
+                let _: Poll<()> = cx.yield_now();
+                Err(Progress::Lost(lost))
+            },
+        }
+    }
+
+    /// Gives the wait up: nobody's call withdraws it, or a notice is left. It waits for nobody.
+    #[cold]
+    pub(crate) fn leave(self, shared: &Shared<T, H>) {
+        let Started {
+            opening,
+            pass,
+            counted,
+            mut end,
+            asks: _,
+        } = self;
+        match end.leave() {
+            Some(delivered) => let_go(shared, counted, delivered),
+            None => shared.leave(counted),
+        }
+        drop(opening);
+        drop(pass);
+    }
+}
+
+/// Gives up a wait of which this became, unless it is another's.
+fn let_go<T: Drop, H: History<T>>(
+    shared: &Shared<T, H>,
+    counted: CountedWait,
+    delivered: Delivered<T, H>,
+) {
+    if delivered.ticket() == counted.ticket().number() {
+        counted.told(&delivered);
+    } else {
+        shared.leave(counted);
+    }
+    drop(delivered);
+}
+
+impl Wakers {
+    /// Makes a call under the lock that was got, and gives the lock back; where it must wait, its wait is
+    /// started.
+    pub(crate) fn begin<T: Drop, H: History<T>, M: Drop, A: Asks<T, M>>(
+        &self,
+        shared: &Shared<T, H>,
+        locked: Locked<'_, T, H>,
+        left: Left<T, H>,
+        pass: H::Pass,
+        asked: M,
+        cx: &mut Context<'_>,
+    ) -> Result<Replied<T, H, M>, Started<T, H, M, A>>
+        requires quiet { IsQuiet locked }
+        ensures begun { IfOk result (λ r. opened r.0 ≡ (pass, asked)) }
+        ensures replied { IfOk result (λ r. HasReplied H.words pass r.1 (A.event asked) r.2) }
+        ensures waits { IfErr result (λ s. s ≡ (pass, asked)) }
+        ensures registered { IfErr result (λ _. Covers cx.new (λ s. s ≡ source_of self.now)) }
+        ensures kept { Keeps cx.old cx.new }
+    {
+        let opening = Opening::of(&pass, &asked);
+        let mut locked = locked;
+        let mut pass = pass;
+        let event = A::into_event(asked);
+        match locked.state.start(shared.board(), &mut pass, event) {
+            Tried::Told(made) => {
+                let reply = shared.give_back_left(locked, left, &mut pass, made);
+                Ok((opening, pass, reply))
+            },
+            Tried::MustWait(event) => self.start(shared, locked, left, opening, pass, event, cx),
+        }
+    }
+
+    /// Starts the wait of a call that the pass has seen must wait, with the lock held. The ticket is asked
+    /// for before memory.
+    #[cold]
+    fn start<T: Drop, H: History<T>, M: Drop, A: Asks<T, M>>(
+        &self,
+        shared: &Shared<T, H>,
+        locked: Locked<'_, T, H>,
+        left: Left<T, H>,
+        opening: Opening<H::Pass, M>,
+        pass: H::Pass,
+        event: Event<T>,
+        cx: &mut Context<'_>,
+    ) -> Result<Replied<T, H, M>, Started<T, H, M, A>>
+        requires quiet { IsQuiet locked }
+        requires asked { event ≡ A.event opening.asked.value }
+        requires waits { may_wait event ≡ true }
+        requires line { MustWait (line_under locked) event }
+        requires looks { H.words.looks opening.pass.value pass }
+        requires sees { SeesWait H.words pass event }
+        ensures begun { IfOk result (λ r. opened r.0 ≡ opened opening) }
+        ensures replied { IfOk result (λ r. HasReplied H.words opening.pass.value r.1 event r.2) }
+        ensures waits { IfErr result (λ s. s ≡ opened opening) }
+        ensures registered { IfErr result (λ _. Covers cx.new (λ s. s ≡ source_of self.now)) }
+        ensures kept { Keeps cx.old cx.new }
+    {
+        let mut locked = locked;
+        let mut pass = pass;
+        if !locked.state.has_ticket() {
+            let made = locked.state.refuse(shared.board(), &mut pass, event);
+            let reply = shared.give_back_left(locked, left, &mut pass, made);
+            return Ok((opening, pass, reply));
+        }
+        let Some((end, seat)) = self.cell(shared.alloc(), cx) else {
+            locked.release();
+            shared.tell_left(left);
+            shared.look();
+            return Ok((opening, pass, event.refused(Refusal::NoMemory)));
+        };
+        let (made, kept) = locked.state.wait(shared.board(), &mut pass, event, seat);
+        let reply = shared.give_back_left(locked, left, &mut pass, made);
+        match kept {
+            Kept::Ticket(ticket) => Err(Started::new(opening, pass, ticket, end)),
+            Kept::Back(seat) => {
+                drop(seat);
+                Ok((opening, pass, reply))
+            },
+        }
+    }
+}

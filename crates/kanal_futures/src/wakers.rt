@@ -1,0 +1,85 @@
+//! A task's wakers: the name of what it waits for, and one that is in no entry.
+//!
+//! Stands on the lock, the cell and the kit's futures. A waker wakes its task when it is dropped, so one that
+//! was displaced is kept.
+ghost use Rattle.std.specs.Prelude.{◌≡◌, IfSome};
+ghost use Rattle.futures.specs.Task.{Covers, Keeps};
+ghost use Rattle.kanal_cell.specs.CellRule.{HasNotLeft};
+ghost use Rattle.kanal_cell.specs.CellEnds.{wait_view};
+
+use futures::task::{Context, Poll, Source, Waker};
+use kanal_cell::signal;
+use kanal_cell::signal::WaitEnd;
+use kanal_channel::{Delivered, Seat, Shared};
+use kanal_core::internal::Ticket;
+use kanal_history::History;
+use std::alloc::Global;
+
+/// The name of what a task waits for, and a waker that is in no entry: the next poll's, or the one that it
+/// took the place of.
+#[derive(Drop)]
+pub(crate) struct Wakers {
+    source: Source,
+    spare: Option<Waker>,
+}
+
+impl Wakers {
+    /// Of a task that waits for nothing yet.
+    pub(crate) fn new() -> Self {
+        Wakers {
+            source: Source::new(),
+            spare: None,
+        }
+    }
+
+    /// A fresh cell whose settling wakes the task, as a wait needs it; `None` where there is no memory
+    /// for it.
+    pub(crate) fn cell<T: Drop, H: History<T>>(
+        &self,
+        alloc: Global,
+        cx: &mut Context<'_>,
+    ) -> Option<(WaitEnd<Delivered<T, H>>, Seat<T, H>)>
+        ensures unspent { IfSome result (λ cell. HasNotLeft (wait_view cell.0)) }
+        ensures registered { IfSome result (λ _. Covers cx.new (λ s. s ≡ self.now.source.id)) }
+        ensures kept { Keeps cx.old cx.new }
+    {
+        let (end, settling) = signal::new(alloc).ok()?;
+        let mut seat = Seat::of_task(alloc, settling)?;
+        let mut waker = None;
+        let _: Poll<()> = cx.register(&self.source, &mut waker);
+        seat.renew(&mut waker);
+        Some((end, seat))
+    }
+
+    /// Puts the task's waker into the entry of the wait with the ticket. Where the lock is held, or nobody
+    /// waits with the ticket, it asks for another poll.
+    pub(crate) fn renew<T: Drop, H: History<T>>(
+        &mut self,
+        shared: &Shared<T, H>,
+        ticket: Ticket,
+        cx: &mut Context<'_>,
+    )
+        ensures registered { Covers cx.new (λ s. s ≡ self.new.source.id) }
+        ensures kept { Keeps cx.old cx.new }
+        ensures source { self.new.source.id ≡ self.old.source.id }
+    {
+        let _: Poll<()> = cx.register(&self.source, &mut self.spare);
+        if !self.swap(shared, ticket) {
+            let _: Poll<()> = cx.yield_now();
+        }
+    }
+
+    /// Swaps the spare waker for that of the entry; false where the lock is held, or nobody waits.
+    fn swap<T: Drop, H: History<T>>(&mut self, shared: &Shared<T, H>, ticket: Ticket) -> bool
+        ensures source { self.new.source.id ≡ self.old.source.id }
+    {
+        let Some((mut locked, left)) = shared.try_hold() else {
+            return false;
+        };
+        let waits = locked.state.renew(ticket, &mut self.spare);
+        locked.release();
+        shared.tell_left(left);
+        shared.look();
+        waits
+    }
+}

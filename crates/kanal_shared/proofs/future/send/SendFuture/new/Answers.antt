@@ -1,5 +1,0 @@
-use Rattle.std.proofs.Common.{rules}
-use Rattle.kanal_shared.proofs.future.send.SendFuture.new.Goals as goal
-
-pub returns : goal.returns
-returns g c = search rules

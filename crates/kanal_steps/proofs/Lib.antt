@@ -1,3 +1,0 @@
-pub mod Drops
-pub mod Renewing
-pub mod Withdrawing

@@ -1,5 +1,0 @@
-pub mod Leaving
-pub mod Owing
-pub mod Renewing
-pub mod Seats
-pub mod Steps

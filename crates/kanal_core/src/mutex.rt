@@ -1,9 +1,9 @@
 //! The lock round a value that threads share.
 //!
-//! A thin room over std's `Mutex`, for the channels of this repository: `kanal_recorded`,
-//! `kanal_shared` and `kanal_one_history` each share a core by it. The value got keeps its type's
-//! invariant; nothing else is known of it when the lock is got. No other module takes std's lock,
-//! so that how a channel is shared is chosen here alone. A lock is never poisoned.
+//! A thin room over std's `Mutex`, for the channels of this repository: `kanal_recorded` and
+//! `kanal_channel` each share a core by it. The value got keeps its type's invariant; nothing else
+//! is known of it when the lock is got. No other module takes std's lock, so that how a channel is
+//! shared is chosen here alone. A lock is never poisoned.
 use std::sync;
 use std::sync::{MutexGuard, Wait};
 

@@ -8,7 +8,8 @@ ghost use Rattle.std.specs.Prelude.{◌≡◌, Some, IfErr, IsErrOf, OnErr, OnOk
 ghost use Rattle.std.specs.Vec.{vec_capacity, vec_len};
 ghost use Rattle.kanal_events.specs.declared.event.Ask.{Ask};
 ghost use Rattle.kanal_events.specs.declared.event.Side.{Side};
-ghost use Rattle.kanal_futures.specs.Plain.{receive_is_over, stream_is_over};
+ghost use Rattle.kanal_futures.specs.Plain.{receive_is_over};
+ghost use Rattle.kanal_futures.specs.Streams.{stream_is_over};
 ghost use Rattle.kanal_history.specs.Handles.{Asks, AsksForTheEnd, Closes, CountsReceiver, Drains, Seals, TriesToReceive, TriesToReceiveNow};
 ghost use Rattle.kanal_history.specs.Makes.{HasTooLittleRoom};
 ghost use Rattle.kanal_history.specs.Results.{count_by, flag_by, number_by};
@@ -128,7 +129,7 @@ impl<T: Drop, H: History<T, Pass = ()>> AsyncReceiver<T, H> {
     pub fn stream(&self) -> ReceiveStream<'_, T, H>
         ensures fresh { stream_is_over result ≡ false }
     {
-        receive_stream(&self.shared)
+        receive_stream(&self.shared, ())
     }
 
     /// Receives the front message, if there is one. `Ok(None)` says that there is none. It waits for

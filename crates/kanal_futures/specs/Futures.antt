@@ -1,13 +1,8 @@
 -- Where a future is that carries a pass.
-use Rattle.std.specs.Prelude.{ℕ, Bool, Option, Some, None}
+use Rattle.std.specs.Prelude.{ℕ, Bool, Option}
 use Rattle.kanal_futures.specs.declared.receiving.Receiving.{Receiving}
 use Rattle.kanal_futures.specs.declared.sending.Sending.{Sending}
-use Rattle.kanal_futures.specs.Tasks.{begun_by, is_waiting, source_of}
-
--- what the pass was at first
-abbrev pub passes : {P M : Type 0} → Option (P × M) → Option P
-passes None = None
-passes (Some begun) = Some begun.0
+use Rattle.kanal_futures.specs.Tasks.{begun_by, is_waiting, passes, source_of}
 
 module _ {T H P B S : Type 0} where
   -- what the pass of a receive was at first, if it has not answered

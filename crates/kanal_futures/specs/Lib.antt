@@ -1,3 +1,4 @@
 pub mod Tasks
 pub mod Futures
 pub mod Plain
+pub mod Streams

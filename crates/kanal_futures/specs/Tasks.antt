@@ -11,6 +11,11 @@ use Rattle.kanal_futures.specs.declared.wakers.Wakers.{Wakers}
 abbrev pub opened : {P M : Type 0} → Opening P M → P × M
 opened opening = (opening.pass.value, opening.asked.value)
 
+-- what the pass was at first
+abbrev pub passes : {P M : Type 0} → Option (P × M) → Option P
+passes None = None
+passes (Some begun) = Some begun.0
+
 -- the name of what a task waits for
 abbrev pub source_of : Wakers → ℕ
 source_of wakers = wakers.source.id

@@ -2,7 +2,7 @@
 //!
 //! Stands on the started wait. The prover refuses to let one go that still waits.
 ghost use Rattle.std.specs.Prelude.{◌≡◌, false};
-ghost use Rattle.kanal_futures.specs.Tasks.{begun_by, begun_next, is_waiting};
+ghost use Rattle.kanal_futures.specs.Tasks.{begun_by, begun_next, is_waiting, passes};
 
 use crate::asks::{Asks, Opening};
 use crate::started::Started;
@@ -81,14 +81,22 @@ impl<T: Drop, H: History<T>, M: Drop, A: Asks<T, M>> Progress<T, H, M, A> {
 
     /// Gives up what waits. It waits for nobody.
     pub(crate) fn leave(self, shared: &Shared<T, H>) {
+        drop(self.into_pass(shared));
+    }
+
+    /// The pass, where no call was made yet; what waits is given up. It waits for nobody.
+    pub(crate) fn into_pass(self, shared: &Shared<T, H>) -> Option<H::Pass>
+        ensures pass { is_waiting self ≡ false → result ≡ passes (begun_by self) }
+    {
         match self {
             Progress::Zero(pass, asked) => {
-                drop(pass);
                 drop(asked);
+                return Some(pass);
             },
             Progress::Waiting(started) => started.leave(shared),
             Progress::Lost(lost) => lost.leave(shared),
             Progress::Done => {},
         }
+        None
     }
 }

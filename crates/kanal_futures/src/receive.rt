@@ -5,7 +5,7 @@ ghost use Rattle.std.specs.Prelude.{◌≡◌, ⊤, true, false, Some, Err, Resu
 ghost use Rattle.futures.specs.Task.{Covers, Keeps};
 ghost use Rattle.futures.specs.Poll.{IfReady, OnPending};
 ghost use Rattle.kanal_history.specs.Handles.{Receives};
-ghost use Rattle.kanal_futures.specs.Plain.{receive_future_source, receive_future_waits, receive_is_over};
+ghost use Rattle.kanal_futures.specs.Plain.{receive_future_source, receive_is_over};
 
 use crate::receiving::{Receiving, recv_in_task};
 use futures::Future;
@@ -42,29 +42,6 @@ pub fn receive_future<T: Drop, H: History<T, Pass = ()>>(
 {
     ReceiveFuture {
         receiving: recv_in_task(shared, ()),
-    }
-}
-
-impl<'a, T: Drop, H: History<T, Pass = ()>> ReceiveFuture<'a, T, H> {
-    /// The channel that it receives from.
-    pub(crate) fn shared(&self) -> &'a Shared<T, H> {
-        self.receiving.shared()
-    }
-
-    /// Whether its wait was started, and not polled to its end.
-    pub(crate) fn is_waiting(&self) -> bool
-        ensures { result ≡ receive_future_waits self.now }
-    {
-        self.receiving.is_waiting()
-    }
-
-    /// Begins the next receive, of a future that has answered. The spare waker stays.
-    pub(crate) fn restart(&mut self)
-        requires { receive_is_over self.old ≡ true }
-        ensures fresh { receive_is_over self.new ≡ false }
-        ensures source { receive_future_source self.new ≡ receive_future_source self.old }
-    {
-        self.receiving.restart(());
     }
 }
 

@@ -2,15 +2,15 @@
 //!
 //! Stands on the wait of a task. A message leaves by itself where it can; only where it can't the longer ways
 //! are gone.
-ghost use Rattle.std.specs.Prelude.{◌≡◌, ⊤, true, IfNone, IfSome, None, Option, Result, Some, codes};
+ghost use Rattle.std.specs.Prelude.{◌≡◌, ⊤, false, true, IfNone, IfSome, None, Option, Result, Some, codes};
 ghost use Rattle.std.specs.Option.{is_none};
 ghost use Rattle.futures.specs.Task.{Covers, Keeps};
 ghost use Rattle.futures.specs.Poll.{IfReady, OnPending};
 ghost use Rattle.kanal_core.specs.declared.error.ReceiveError.{ReceiveError};
 ghost use Rattle.kanal_history.specs.Handles.{Receives};
 ghost use Rattle.kanal_channel.specs.Locks.{IsQuiet};
-ghost use Rattle.kanal_futures.specs.Tasks.{begun_next};
-ghost use Rattle.kanal_futures.specs.Futures.{passes, receive_begun, receive_source, receive_waits};
+ghost use Rattle.kanal_futures.specs.Tasks.{begun_next, passes};
+ghost use Rattle.kanal_futures.specs.Futures.{receive_begun, receive_source, receive_waits};
 
 use crate::asks::{OfReceive, Opening};
 use crate::progress::{Next, Progress};
@@ -142,6 +142,26 @@ impl<'a, T: Drop, H: History<T>> Receiving<'a, T, H> {
         ensures { result ≡ receive_waits self.now }
     {
         matches!(self.state, Progress::Waiting(_) | Progress::Lost(_))
+    }
+
+    /// The pass, where no wait was started that was not polled to its end and it has not answered; a started
+    /// wait is withdrawn. It waits for nobody.
+    ///
+    /// # Examples
+    /// ```text
+    /// recv_in_task(&shared, pass).into_pass()   answers  Some(pass)   without a poll
+    /// ```
+    pub fn into_pass(self) -> Option<H::Pass>
+        ensures pass { receive_waits self.entry ≡ false → result ≡ receive_begun self.entry }
+    {
+        let Receiving {
+            shared,
+            state,
+            wakers,
+            pauses: _,
+        } = self;
+        drop(wakers);
+        state.into_pass(shared)
     }
 
     /// Begins the next receive by this pass, of a future that has answered. The spare waker stays.

@@ -1,14 +1,15 @@
 //! The messages of a channel in a task, one after the other.
 //!
-//! Stands on `receive`: each item is a receive of its own.
+//! Stands on `receiving`: each item is a receive of its own, by the pass that the stream carries.
 ghost use Rattle.std.specs.Prelude.{◌≡◌, ◌↔◌, ⊤, true, false, Some, None, Ok, IfSome, IfNone, IsSome, OnSome, codes};
 ghost use Rattle.futures.specs.Task.{Covers, Keeps};
 ghost use Rattle.futures.specs.Poll.{IfReady, OnPending};
 ghost use Rattle.futures.specs.Runs.{After, Within};
 ghost use Rattle.kanal_history.specs.Handles.{Receives};
-ghost use Rattle.kanal_futures.specs.Plain.{stream_is_over, stream_source, stream_waits};
+ghost use Rattle.kanal_futures.specs.Futures.{receive_begun};
+ghost use Rattle.kanal_futures.specs.Streams.{HasReceived, stream_is_over, stream_pass, stream_source, stream_waits};
 
-use crate::receive::{ReceiveFuture, receive_future};
+use crate::receiving::{Received, Receiving, recv_in_task};
 use futures::task::{Context, Poll};
 use futures::{Future, Stream};
 use kanal_channel::Shared;
@@ -19,33 +20,52 @@ use std::sync::Wait;
 
 /// The messages of a receiver, as `AsyncReceiver::stream` answers them.
 ///
-/// Each item is received with a wait of its own. A poll waits for nobody. After the first refusal the
-/// stream answers `None` for good, and `fault` tells it.
+/// Each item is received with a wait of its own, by the pass that the stream carries. A poll waits for
+/// nobody. After the first refusal the stream answers `None` for good, and `fault` tells it.
 #[derive(Drop)]
 pub struct ReceiveStream<'a, T, H: History<T> = NoHistory> {
-    future: ReceiveFuture<'a, T, H>,
+    receiving: Receiving<'a, T, H>,
     fault: Option<ReceiveError>,
 }
 
-/// The messages, one receive after the other, until one is refused. It waits for nobody.
+/// The messages, one receive by this pass after the other, until one is refused. It waits for nobody.
 ///
 /// # Examples
 /// ```text
-/// let mut stream = receive_stream(&shared);
+/// let mut stream = receive_stream(&shared, pass);
 /// block_on(&rt, stream.next())   gives  Some(7)   where 7 was sent
 /// ```
-pub fn receive_stream<T: Drop, H: History<T, Pass = ()>>(
+pub fn receive_stream<T: Drop, H: History<T>>(
     shared: &Shared<T, H>,
+    pass: H::Pass,
 ) -> ReceiveStream<'_, T, H>
     ensures fresh { stream_is_over result ≡ false }
+    ensures pass { stream_pass result ≡ Some pass }
 {
     ReceiveStream {
-        future: receive_future(shared),
+        receiving: recv_in_task(shared, pass),
         fault: None,
     }
 }
 
-impl<T: Drop, H: History<T, Pass = ()>> ReceiveStream<'_, T, H> {
+impl<T: Drop, H: History<T>> ReceiveStream<'_, T, H> {
+    /// The pass, where no wait was started that was not polled to its end; such a wait is withdrawn. It
+    /// waits for nobody.
+    ///
+    /// # Examples
+    /// ```text
+    /// stream.into_pass()   answers  Some(pass)   once the stream has answered `None`
+    /// ```
+    pub fn into_pass(self) -> Option<H::Pass>
+        ensures pass { stream_waits self.entry ≡ false → result ≡ stream_pass self.entry }
+    {
+        let ReceiveStream {
+            receiving,
+            fault: _,
+        } = self;
+        receiving.into_pass()
+    }
+
     /// The refusal that ended the stream; `None` while it has not ended. It waits for nobody.
     ///
     /// # Examples
@@ -58,6 +78,27 @@ impl<T: Drop, H: History<T, Pass = ()>> ReceiveStream<'_, T, H> {
         self.fault.as_ref()
     }
 
+    /// Takes an answer: the next receive begins by its pass, and a refusal ends the stream.
+    fn take(&mut self, received: Received<T, H>) -> Option<T>
+        requires over { receive_begun self.old.receiving ≡ None }
+        ensures received { IfSome result (λ m. Receives H.words received.0 received.1 (Ok m)) }
+        ensures pass { stream_pass self.new ≡ Some received.1 }
+        ensures ends { IfNone result (stream_is_over self.new ≡ true) }
+        ensures source { stream_source self.new ≡ stream_source self.old }
+    {
+        let (pass, answer) = received.into_parts();
+        self.receiving.restart(pass);
+        match answer {
+            Ok(message) => Some(message),
+            Err(error) => {
+                self.fault = Some(error);
+                None
+            },
+        }
+    }
+}
+
+impl<T: Drop, H: History<T, Pass = ()>> ReceiveStream<'_, T, H> {
     /// Whether the stream has ended, or will answer no message any more: true after `None`, false while
     /// a wait of its own was not polled to its end, and otherwise what the receiver answers. It may wait
     /// for the lock.
@@ -74,14 +115,14 @@ impl<T: Drop, H: History<T, Pass = ()>> ReceiveStream<'_, T, H> {
         if self.fault.is_some() {
             return true;
         }
-        if self.future.is_waiting() {
+        if self.receiving.is_waiting() {
             return false;
         }
-        self.future.shared().is_terminated(rt, &mut ())
+        self.receiving.shared().is_terminated(rt, &mut ())
     }
 }
 
-impl<T: Drop, H: History<T, Pass = ()>> Stream for ReceiveStream<'_, T, H> {
+impl<T: Drop, H: History<T>> Stream for ReceiveStream<'_, T, H> {
     type Item = T;
 
     ghost needs = { λ f s. s ≡ stream_source f };
@@ -102,23 +143,22 @@ impl<T: Drop, H: History<T, Pass = ()>> Stream for ReceiveStream<'_, T, H> {
         ensures same { OnPending result (Within {A = T} (λ _ _. ⊤) (λ _ _. ⊤)) }
         ensures registered { OnPending result (Covers cx.new (λ s. s ≡ stream_source self.new)) }
         ensures kept { Keeps cx.old cx.new }
-        ensures received { IfReady result (λ o. IfSome o (λ m. Receives H.words tt tt (Ok m))) }
+        ensures received { IfReady result (λ o. IfSome o (λ m.
+            HasReceived H.words (stream_pass self.old) (stream_pass self.new) m)) }
         ensures over { stream_is_over self.old ≡ true → (result ≡ Poll.Ready None)
             × (stream_is_over self.new ≡ true) }
         ensures ends { IfReady result (λ o. IfNone o (stream_is_over self.new ≡ true)) }
         ensures goes_on { OnPending result (stream_is_over self.new ≡ false) }
+        ensures stays { OnPending result (stream_pass self.new ≡ stream_pass self.old) }
     {
         if self.fault.is_some() {
             return Poll::Ready(None);
         }
-        match self.future.poll(cx) {
+        match self.receiving.poll(cx) {
             Poll::Pending => Poll::Pending,
-            Poll::Ready(Ok(message)) => {
-                self.future.restart();
-                Poll::Ready(Some(message))
-            },
-            Poll::Ready(Err(error)) => {
-                self.fault = Some(error);
+            Poll::Ready(Some(received)) => Poll::Ready(self.take(received)),
+            Poll::Ready(None) => {
+                self.fault = Some(ReceiveError::Finished);
                 Poll::Ready(None)
             },
         }

@@ -1,0 +1,10 @@
+use Rattle.std.proofs.Common.{Ok, subst}
+use Rattle.kanal_history.specs.Handles.{Receives}
+use Rattle.kanal_futures.proofs.stream.ReceiveStream.take.Goals as goal
+
+pub returns-in-Ok-clause-received : goal.returns-in-Ok-clause-received
+returns-in-Ok-clause-received g c =
+    let w = g.H.History.words in
+    let told = c.into_parts-pass.ensures in
+    let parts = c.into_parts-pass.result in
+    subst (λ pass. Receives w c.args.received.0 pass (Ok c.in-Ok.message)) told.pass (subst (λ answer. Receives w c.args.received.0 parts.0 answer) c.in-Ok.is told.received)

@@ -5,9 +5,10 @@
 //! under the lock.
 //!
 //! `Receiving` and `Sending` carry a pass between their polls, and answer with it: `into_parts` says in the
-//! history's own words which call the pass made. `ReceiveFuture`, `SendFuture` and `ReceiveStream` do so with
-//! the pass of no content, for handles that have none. What both directions have in common stands once: the
-//! wait of a task in `started`, where a future is in `progress`, a task's wakers in `wakers`.
+//! history's own words which call the pass made. `ReceiveFuture` and `SendFuture` do so with the pass of no
+//! content, for handles that have none. `ReceiveStream` is one receive after the other, by a pass that it
+//! carries. What both directions have in common stands once: the wait of a task in `started`, where a future
+//! is in `progress`, a task's wakers in `wakers`.
 #![tactic(auto)]
 
 mod asks;

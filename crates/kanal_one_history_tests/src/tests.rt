@@ -3,6 +3,7 @@ mod deadlines;
 mod drained;
 mod exchange;
 mod given;
+mod handles;
 mod passes;
 mod rows;
 mod threads;

@@ -1,0 +1,161 @@
+//! Handles, futures and a stream of a channel with a history: each call is by a pass.
+ghost use Rattle.std.specs.Prelude.{◌≡◌, Some};
+ghost use Rattle.kanal_board.specs.Boards.{table_of};
+
+use crate::tests::given::{board, equal};
+use futures::stream::StreamExt;
+use futures::task::Poll;
+use futures::test::MockTask;
+use kanal::{AsyncReceiver, AsyncSender};
+use kanal_core::error::{NewError, ReceiveError};
+use kanal_core::internal::ChannelInternal;
+use kanal_events::event::{Ask, Side};
+use kanal_futures::{receive_stream, recv_in_task, send_in_task};
+use kanal_one_history::{Call, Channel, GhostHistory, Naming, Opened, Pass};
+use std::alloc::{AllocGlobal, Global};
+use std::marker::Brand;
+use std::process::Abort;
+use std::random::RandomSource;
+use std::sync::Wait;
+
+/// The first handles of a channel under a name, and a pass.
+type Handles<J> = (
+    AsyncSender<u64, GhostHistory<u64, J>>,
+    AsyncReceiver<u64, GhostHistory<u64, J>>,
+    Pass<u64, J>,
+);
+
+/// The first handles of a new channel with so many places, and a pass.
+fn handles<J: Naming>(
+    alloc: Global,
+    capacity: usize,
+    opened: Opened<Call<u64>>,
+) -> Result<Handles<J>, NewError>
+    requires name { table_of opened ≡ J.table }
+    requires capacity { J.capacity ≡ Some capacity }
+{
+    let core = ChannelInternal::new(alloc, capacity)?;
+    let (board, mut history) = GhostHistory::opened(opened);
+    let cleanup = history.pass(&board);
+    let pass = history.pass(&board);
+    let (sender, receiver) = kanal::over(alloc, core, history, cleanup, board)?;
+    Ok((sender, receiver, pass))
+}
+
+/// How many senders there are, with a clone and after its drop.
+fn clones<J: Naming, R: Wait>(
+    rt: &R,
+    sender: &AsyncSender<u64, GhostHistory<u64, J>>,
+    pass: &mut Pass<u64, J>,
+) -> (u32, u32) {
+    let clone = sender.clone_by(rt, pass);
+    let both = sender
+        .channel()
+        .ask_count(rt, pass, Side::Tx, Ask::SenderCount);
+    drop(clone);
+    let one = sender
+        .channel()
+        .ask_count(rt, pass, Side::Tx, Ask::SenderCount);
+    (both, one)
+}
+
+/// An option's message goes through the channel by calls that wait for nobody.
+fn at_once<J: Naming, R: Wait + Abort>(
+    rt: &R,
+    channel: &Channel<u64, J>,
+    pass: &mut Pass<u64, J>,
+) {
+    let mut option = Some(7);
+    equal(rt, channel.try_send_option(rt, pass, &mut option), Ok(true));
+    equal(rt, option, None);
+    equal(rt, channel.try_recv_realtime(pass), Ok(Some(7)));
+}
+
+/// A receive in a task waits for a send by another pass, and its pass comes back with the message.
+fn receive_waits<J: Naming, R: Wait + Abort>(
+    rt: &R,
+    task: &MockTask,
+    channel: &Channel<u64, J>,
+    pass: &mut Pass<u64, J>,
+) {
+    let mut receiving = recv_in_task(channel, pass.again(channel.board()));
+    equal(rt, task.poll(&mut receiving).is_pending(), true);
+    equal(rt, channel.send(rt, pass, 8), Ok(()));
+    let Poll::Ready(Some(received)) = task.poll(&mut receiving) else {
+        return equal(rt, "no answer", "an answer");
+    };
+    let (other, answer) = received.into_parts();
+    equal(rt, answer, Ok(8));
+    pass.learn(channel.board(), other);
+    pass.holds();
+}
+
+/// A send in a task waits for a place, and its pass comes back.
+fn send_waits<J: Naming, R: Wait + Abort>(
+    rt: &R,
+    task: &MockTask,
+    channel: &Channel<u64, J>,
+    pass: &mut Pass<u64, J>,
+) {
+    equal(rt, channel.send(rt, pass, 1), Ok(()));
+    let mut sending = send_in_task(channel, pass.again(channel.board()), 2);
+    equal(rt, task.poll(&mut sending).is_pending(), true);
+    equal(rt, channel.recv(rt, pass), Ok(1));
+    let Poll::Ready(Some(sent)) = task.poll(&mut sending) else {
+        return equal(rt, "no answer", "an answer");
+    };
+    let (other, answer) = sent.into_parts();
+    equal(rt, answer, Ok(()));
+    pass.learn(channel.board(), other);
+    pass.holds();
+}
+
+/// A stream answers what is there and the end, and gives its pass back.
+fn streamed<J: Naming, R: Abort>(
+    rt: &R,
+    task: &MockTask,
+    sender: AsyncSender<u64, GhostHistory<u64, J>>,
+    channel: &Channel<u64, J>,
+    pass: Pass<u64, J>,
+) {
+    let mut stream = receive_stream(channel, pass);
+    equal(rt, task.poll(&mut stream.next()), Poll::Ready(Some(2)));
+    equal(rt, task.poll(&mut stream.next()), Poll::Pending);
+    drop(sender);
+    equal(rt, task.poll(&mut stream.next()), Poll::Ready(None));
+    equal(rt, stream.fault(), Some(&ReceiveError::SendClosed));
+    equal(rt, stream.into_pass().is_some(), true);
+}
+
+/// All of these on one channel with one place.
+fn rows<J: Naming, R: Wait + Abort>(
+    rt: &R,
+    alloc: Global,
+    capacity: usize,
+    opened: Opened<Call<u64>>,
+    task: &MockTask,
+) -> Result<(u32, u32), NewError>
+    requires name { table_of opened ≡ J.table }
+    requires capacity { J.capacity ≡ Some capacity }
+{
+    let (sender, receiver, mut pass) = handles::<J>(alloc, capacity, opened)?;
+    let counts = clones(rt, &sender, &mut pass);
+    at_once(rt, receiver.channel(), &mut pass);
+    receive_waits(rt, task, receiver.channel(), &mut pass);
+    send_waits(rt, task, receiver.channel(), &mut pass);
+    streamed(rt, task, sender, receiver.channel(), pass);
+    Ok(counts)
+}
+
+/// A task that is polled by hand.
+fn new_task(rt: &(impl Abort + RandomSource + AllocGlobal)) -> MockTask {
+    MockTask::new(rt).expect(rt, "a task")
+}
+
+#[test]
+fn handles_futures_and_a_stream_by_passes(rt: HostRuntime) {
+    let opened = board(&rt, rt.alloc());
+    let task = new_task(&rt);
+    let counts = rows::<Brand, _>(&rt, rt.alloc(), 1, opened, &task);
+    equal(&rt, counts, Ok((2, 1)));
+}

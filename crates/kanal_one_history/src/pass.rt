@@ -6,7 +6,9 @@ ghost use Rattle.std.specs.Prelude.{◌≡◌, ◌++◌, ℕ, [], take};
 ghost use mathlib.Core.List.{IsPrefix};
 ghost use Rattle.kanal_board.specs.Views.{AreApart, AreDistinct, OneBegins, known};
 ghost use Rattle.kanal_journal.specs.Paired.{Paired};
+ghost use Rattle.kanal_one_history.specs.Accounts.{LeadsAsTold};
 ghost use Rattle.kanal_one_history.specs.Calls.{IsLegal, history_of};
+ghost use Rattle.kanal_one_history.specs.Puts.{EachEndsOnce, WaitsAsSettled};
 
 use kanal_board::{Board, Front, Naming};
 use kanal_history::Call;
@@ -38,15 +40,21 @@ impl<T, J: Naming> Pass<T, J> {
     ///
     /// One line of messages tells of the calls that the pass has seen what was told of them. At every cut of
     /// them the i-th kept message went to the i-th kept demand, by the definitions that `run` of the journal
-    /// cites.
+    /// cites. No ticket was settled and withdrawn, or one of both twice. A wait that was settled otherwise
+    /// than by an end was neither withdrawn nor ended, and was given what its settlement says. The events of
+    /// the calls lead a new channel to an account that tells the same, so each law of the journal can be
+    /// cited of them.
     ///
     /// # Examples
     /// ```text
-    /// pass.holds();   and the caller's proof has both facts
+    /// pass.holds();   and the caller's proof has these facts
     /// ```
     pub fn holds(&self)
         ensures legal { IsLegal J.capacity self.now.log }
         ensures paired { (n : ℕ) → Paired (history_of (take n self.now.log)) }
+        ensures ends_once { EachEndsOnce self.now.log }
+        ensures as_settled { WaitsAsSettled self.now.log }
+        ensures leads { LeadsAsTold J.capacity self.now.log }
     {
         let _ = &self.front;
     }

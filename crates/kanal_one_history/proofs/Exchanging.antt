@@ -17,13 +17,14 @@ use Rattle.kanal_events.specs.declared.event.Reply.{Reply}
 use Rattle.kanal_events.specs.declared.event.Reply.TheVariants.{Sent, Waits, Yes, No, Got, Nothing}
 use Rattle.kanal_journal.specs.Paired.{Demand, AtOnce, Later, Next, asked, cleared_by, demand_stays, receipts_from, send_stays, sent}
 use Rattle.kanal_history.specs.declared.call.Call.{Call}
-use Rattle.kanal_history.specs.Handles.{Receives, ReceivesInTime, Sends, SendsInTime, TriesToReceive, TriesToSend}
+use Rattle.kanal_history.specs.Handles.{Receives, ReceivesInTime, Sends, SendsInTime, TriesToReceive, TriesToReceiveNow, TriesToSend, TriesToSendNow}
 use Rattle.kanal_history.specs.Makes.{Finishes, IsReplied}
 use Rattle.kanal_history.specs.Results.{asked_by, entered_by, received_after, received_by, sent_after, sent_by, timed_received_after, timed_received_by, timed_sent_after, timed_sent_by}
 use Rattle.kanal_one_history.specs.Calls.{HasSettled, history_of}
 use Rattle.kanal_one_history.specs.History.{ghost_words, Makes}
-use Rattle.kanal_one_history.specs.Puts.{AreGot, ArePut, Exchanges, HasMade, IsSilent, WaitsAsSettled}
+use Rattle.kanal_one_history.specs.Puts.{AreGot, ArePut, Exchanges, HasMade, IsSilent, WaitsAsSettled, neither_puts_nor_gets}
 use Rattle.kanal_one_history.specs.Sound.{ghost_sound, settled_longer}
+use Rattle.kanal_one_history.proofs.Silent.{is_silent}
 
 module _ {T : Type 0} where
   -- what was put or got stays so in each longer history
@@ -225,6 +226,15 @@ module _ {T : Type 0} where
     tries_got (Ok (Some m)) c = replied-exchanges TryRecv asked_by (Ok (Some m)) (Got m) [] (m ∷ []) c (came-reply m c.call.reply c.reads) tt (refl, tt) refl
     tries_got (Ok None) c = replied-exchanges TryRecv asked_by (Ok None) Nothing [] [] c (nothing-reply c.call.reply c.reads) tt tt refl
 
+    -- and where the lock may be held by another
+    pub tries_now_put : (m : T) → TriesToSendNow (ghost_words capacity) old new m (Ok true) → Exchanges capacity old new (m ∷ []) []
+    tries_now_put m (inl s) = tries_put m (Ok true) s
+    tries_now_put m (inr none) = absurd (cc (none.1))
+
+    pub tries_now_got : (m : T) → TriesToReceiveNow (ghost_words capacity) old new (Ok (Some m)) → Exchanges capacity old new [] (m ∷ [])
+    tries_now_got m (inl r) = tries_got (Ok (Some m)) r
+    tries_now_got m (inr none) = absurd (cc (none.1))
+
     -- a send with a deadline, too
     pub sends_in_time_put : (answered : ℕ → Type 0) (duration : ℕ) (m : T) (answer : Result (Unit {0}) SendErrorTimeout)
         → SendsInTime (ghost_words capacity) old new answered duration m answer → IfOk answer (λ _. Exchanges capacity old new (m ∷ []) [])
@@ -255,3 +265,8 @@ module _ {T : Type 0} where
           gets = subst (λ ds. AreGot new.log ds []) (sym s.asks) tt;
           clears = s.clears;
         }
+
+    -- and so did a call of such an event, whatever it was answered
+    pub replied_silent : {R : Type 0} (event : Event T) (read : Reply T → R) (answer : R) → IsReplied (ghost_words capacity) old new event read answer
+        → neither_puts_nor_gets event ≡ true → Exchanges capacity old new [] []
+    replied_silent event read answer c silent = silent_exchanges c.call c.made (is_silent c.call c.told (ap neither_puts_nor_gets c.asked ∙ silent))

@@ -33,6 +33,10 @@ module _ {T : Type 0} where
   told-take (suc n) l [] told = tt
   told-take (suc n) l (c ∷ cs) told = (told.0, told-take n (step l c.event).line cs told.1)
 
-  -- and so is each beginning of it
+  -- each beginning of a legal history is legal
+  pub legal_take : (capacity : Option ℕ) (cs : List (Call T)) → IsLegal capacity cs → (n : ℕ) → IsLegal capacity (take n cs)
+  legal_take capacity cs legal n = told-take n (opening_line capacity) cs legal
+
+  -- and paired
   pub legal_paired_at : (capacity : Option ℕ) (cs : List (Call T)) → IsLegal capacity cs → (n : ℕ) → Paired (history_of (take n cs))
-  legal_paired_at capacity cs legal n = legal-paired capacity (take n cs) (told-take n (opening_line capacity) cs legal)
+  legal_paired_at capacity cs legal n = legal-paired capacity (take n cs) (legal_take capacity cs legal n)

@@ -1,6 +1,5 @@
 -- That a handle is counted, and that a future waits.
-use Rattle.std.specs.Prelude.{Bool, true, false, ℕ, Result, Ok, Err}
-use Rattle.logbook.specs.Pages.{Right, no_right, may_write, may_make, may_make_home}
+use Rattle.std.specs.Prelude.{Bool, true, false, ℕ, List, [], ◌∷◌, Result, Ok, Err}
 use Rattle.kanal_channel.specs.declared.counted.CountedReceiver.{CountedReceiver}
 use Rattle.kanal_channel.specs.declared.counted.CountedSender.{CountedSender}
 use Rattle.kanal_core.specs.declared.internal.outcome.Ticket.{Ticket}
@@ -8,24 +7,22 @@ use Rattle.kanal_channel.specs.declared.counted.CountedWait.{CountedWait}
 use Rattle.kanal_channel.specs.declared.counted.GoneReceivers.{GoneReceivers}
 use Rattle.kanal_channel.specs.declared.counted.GoneSenders.{GoneSenders}
 
--- the pen of which a token is made has a right
-abbrev pub has_right : Right → Bool
-has_right no_right = false
-has_right may_write = true
-has_right may_make = true
-has_right may_make_home = true
+-- the tag of which a token is made says that it has to be counted out
+abbrev pub stands : List ℕ → Bool
+stands [] = false
+stands (number ∷ numbers) = true
 
 -- whether the sender still has to be counted out
 abbrev pub has_sender : CountedSender → Bool
-has_sender counted = has_right counted.stands.nib.right
+has_sender counted = stands counted.stands.numbers
 
 -- whether the receiver still has to be counted out
 abbrev pub has_receiver : CountedReceiver → Bool
-has_receiver counted = has_right counted.stands.nib.right
+has_receiver counted = stands counted.stands.numbers
 
 -- whether the wait still has to be counted out
 abbrev pub has_wait : CountedWait → Bool
-has_wait counted = has_right counted.stands.nib.right
+has_wait counted = stands counted.stands.numbers
 
 -- the ticket of the wait
 abbrev pub ticket_of : CountedWait → Ticket

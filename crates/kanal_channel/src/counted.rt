@@ -1,6 +1,6 @@
 //! That a handle is counted, and that a future waits: tokens of no bytes, each of which has to be counted out.
 //!
-//! Stands on the kit's pen. The prover refuses to let one go. A sender's is counted out by evidence that its
+//! Stands on the kit's tag. The prover refuses to let one go. A sender's is counted out by evidence that its
 //! drop was made as a call of the cleanup pass, or into the notices of its own kind. Who takes the notices
 //! has the tokens again: each of those that left by notice is counted out by a call, or put back. Nothing
 //! else makes a token but a new channel and a call that counts one more.
@@ -16,43 +16,31 @@ ghost use Rattle.kanal_channel.specs.Counts.{gone_receivers, gone_senders, has_r
 
 use crate::delivered::Delivered;
 use crate::seat::Core;
+use boxcar::tag::{Names, Tag};
 use kanal_core::internal::{Ticket, Waiter};
 use kanal_events::event::Event;
 use kanal_events::made::Made;
 use kanal_history::History;
-use logbook::{Pen, Rule, Seen, Start};
 use std::snapshot::Snapshot;
 use std::sync::atomic::AtomicU64;
 use std::sync::atomic::Ordering::SeqCst;
 
-/// A rule that asks nothing.
-pub struct Any;
+/// What a token is made of: the kit's tag, which has no bytes, goes to other threads and is shared by them,
+/// and of which nothing is known here.
+type Stands = Tag;
 
-impl Rule<u64, ()> for Any {
-    ghost use Rattle.std.specs.Prelude.{[]};
-    ghost use base.Fml.{ftrue};
+/// What a tag says that has to be counted out.
+struct Standing;
 
-    ghost holds = { λ cells log. Unit {0} };
+impl Names<()> for Standing {
+    ghost use Rattle.std.specs.Prelude.{[], ◌∷◌};
 
-    ghost first = { [] };
-
-    ghost hinted = { λ n log. Unit {0} };
-
-    ghost shows = { λ log. [] };
-
-    ghost keeps = { λ names log. ftrue };
-
-    ghost moves = { λ ask before after answer. Unit {0} };
+    ghost numbers = { λ _. 0 ∷ [] };
 }
-
-/// What a token is made of: the kit's pen, which has no bytes and goes to other threads, and of which
-/// nothing is known here.
-type Stands = Pen;
 
 /// One more token.
 fn stands() -> Stands {
-    let (_seen, pen, _other) = Seen::<u64, (), Any>::open(Start::alone(), 0, 0);
-    pen
+    Tag::of::<(), Standing>(&())
 }
 
 /// A sender that is counted.

@@ -6,8 +6,8 @@ ghost use Rattle.kanal_events.specs.declared.event.Event.{Event};
 ghost use Rattle.kanal_events.specs.declared.event.Event.TheVariants.{Send, Recv};
 ghost use Rattle.kanal_events.specs.Made.{may_wait};
 
+use crate::earlier::Earlier;
 use kanal_events::event::Event;
-use std::snapshot::Snapshot;
 
 /// What is asked with a message, or with none.
 pub(crate) trait Asks<T, M> {
@@ -51,8 +51,8 @@ impl<T> Asks<T, ()> for OfReceive {
 /// What a call in a task began with, for proofs alone: the pass as it was, and what was asked.
 #[derive(Drop)]
 pub(crate) struct Opening<P, M> {
-    pub(crate) pass: Snapshot<P>,
-    pub(crate) asked: Snapshot<M>,
+    pub(crate) pass: Earlier<P>,
+    pub(crate) asked: Earlier<M>,
 }
 
 impl<P, M> Opening<P, M> {
@@ -62,8 +62,8 @@ impl<P, M> Opening<P, M> {
         ensures asked { result.asked.value ≡ asked.now }
     {
         Opening {
-            pass: Snapshot::of(pass),
-            asked: Snapshot::of(asked),
+            pass: Earlier::of(pass),
+            asked: Earlier::of(asked),
         }
     }
 }

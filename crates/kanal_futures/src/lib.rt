@@ -12,6 +12,7 @@
 #![tactic(auto)]
 
 mod asks;
+mod earlier;
 mod progress;
 mod receive;
 mod receiving;

@@ -60,11 +60,7 @@ fn clones<J: Naming, R: Wait>(
 }
 
 /// An option's message goes through the channel by calls that wait for nobody.
-fn at_once<J: Naming, R: Wait + Abort>(
-    rt: &R,
-    channel: &Channel<u64, J>,
-    pass: &mut Pass<u64, J>,
-) {
+fn at_once<J: Naming, R: Wait + Abort>(rt: &R, channel: &Channel<u64, J>, pass: &mut Pass<u64, J>) {
     let mut option = Some(7);
     equal(rt, channel.try_send_option(rt, pass, &mut option), Ok(true));
     equal(rt, option, None);

@@ -7,6 +7,7 @@ use kanal::AsyncSender;
 use kanal_channel::Shared;
 use kanal_core::error::{ReceiveError, SendError};
 use kanal_events::event::{Event, Reply};
+use kanal_events::made::Tried;
 use kanal_futures::{receive_future, send_future};
 use kanal_history::NoHistory;
 use std::process::Abort;
@@ -167,13 +168,30 @@ fn a_poll_whose_entry_is_gone_asks_for_another(rt: HostRuntime) {
 }
 
 /// Sends 7 under the lock, beside a drop of the sender that leaves a notice.
-fn serve_beside_a_notice<R: Wait + Abort>(
+fn serve_beside_a_notice<R: Abort>(
     rt: &R,
     shared: &Shared<u64, NoHistory>,
     sender: AsyncSender<u64>,
 ) {
-    let reply = tell_late(rt, shared, Event::Send(7), || drop(sender), || {});
-    holds(rt, matches!(reply, Some(Reply::Sent)));
+    let Some((mut locked, left)) = shared.try_hold() else {
+        return equal(rt, "the lock is held", "the lock is free");
+    };
+    let mut pass = ();
+    match locked
+        .state
+        .start(shared.board(), &mut pass, Event::Send(7))
+    {
+        Tried::Told(made) => {
+            drop(sender);
+            let reply = shared.give_back_left(locked, left, &mut pass, made);
+            holds(rt, matches!(reply, Reply::Sent));
+        },
+        Tried::MustWait(_event) => {
+            locked.release();
+            shared.tell_left(left);
+            equal(rt, "it must wait", "it is told");
+        },
+    }
 }
 
 /// The step under the lock owes one receive its message, and a notice ends the other: the way out tells

@@ -20,13 +20,9 @@ impl<T> History<T> for NoHistory {
 
     type Prefix = ();
 
-    type Cleanup = ();
-
     ghost stands = { λ _ _. Unit {0} };
 
     ghost words = { nothing_told };
-
-    ghost cleans = { nothing_told };
 
     ghost shows = { λ _ _. Unit {0} };
 
@@ -38,18 +34,6 @@ impl<T> History<T> for NoHistory {
         _about: &X,
         _answer: &Y,
     ) {}
-
-    #[inline(always)]
-    fn append_silent<X, Y, M: EntryOf<X, Y, Call<T>>>(
-        &mut self,
-        _board: &(),
-        _cleanup: &mut (),
-        _about: &X,
-        _answer: &Y,
-    ) {}
-
-    #[inline(always)]
-    fn cleanup_prefix(_board: &(), _cleanup: &mut ()) {}
 
     #[inline(always)]
     fn show(&mut self, _board: &(), _pass: &mut ()) {}
@@ -64,6 +48,4 @@ impl<T> History<T> for NoHistory {
     fn learn(_board: &(), _pass: &mut (), _prefix: ()) {}
 
     ghost sound = { nothing_sound };
-
-    ghost cleans_sound = { nothing_sound };
 }

@@ -4,7 +4,6 @@
 //! of `kanal_channel`, each of which takes a pass.
 ghost use Rattle.std.specs.Prelude.{◌≡◌, ◌↔◌, [], IfOk, IsErrOf, None, Some};
 ghost use Rattle.kanal_board.specs.Boards.{table_of};
-ghost use Rattle.kanal_board.specs.Shares.{whole};
 ghost use Rattle.kanal_board.specs.Views.{known};
 ghost use Rattle.kanal_core.specs.Line.{last_word};
 
@@ -39,12 +38,13 @@ pub fn bounded<T: Drop, J: Naming>(
 ) -> Result<(Channel<T, J>, Pass<T, J>), NewError>
     requires name { table_of opened ≡ J.table }
     requires capacity { J.capacity ≡ Some capacity }
-    ensures fresh { IfOk result (λ r. r.1 ≡ known [] [] whole) }
+    ensures fresh { IfOk result (λ r. r.1 ≡ known [] []) }
     ensures large { IsErrOf result NewError.TooLarge ↔ (capacity ≡ last_word) }
 {
     let core = ChannelInternal::new(alloc, capacity)?;
-    let (board, mut history, pass) = GhostHistory::opened(opened);
-    let cleanup = history.cleanup(&board);
+    let (board, mut history) = GhostHistory::opened(opened);
+    let cleanup = history.pass(&board);
+    let pass = history.pass(&board);
     Ok((Shared::new(core, history, cleanup, board, alloc), pass))
 }
 
@@ -64,10 +64,11 @@ pub fn unbounded<T: Drop, J: Naming>(
 ) -> (Channel<T, J>, Pass<T, J>)
     requires name { table_of opened ≡ J.table }
     requires capacity { J.capacity ≡ None }
-    ensures fresh { result.1 ≡ known [] [] whole }
+    ensures fresh { result.1 ≡ known [] [] }
 {
     let core = ChannelInternal::unbounded(alloc);
-    let (board, mut history, pass) = GhostHistory::opened(opened);
-    let cleanup = history.cleanup(&board);
+    let (board, mut history) = GhostHistory::opened(opened);
+    let cleanup = history.pass(&board);
+    let pass = history.pass(&board);
     (Shared::new(core, history, cleanup, board, alloc), pass)
 }

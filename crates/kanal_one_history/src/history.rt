@@ -4,10 +4,9 @@
 //! line after them.
 ghost use Rattle.std.specs.Prelude.{◌≡◌, []};
 ghost use Rattle.kanal_board.specs.Boards.{table_of};
-ghost use Rattle.kanal_board.specs.Shares.{whole};
 ghost use Rattle.kanal_board.specs.Views.{known};
 
-use crate::pass::{Cleanup, Pass, Prefix};
+use crate::pass::{Pass, Prefix};
 use kanal_board::{Board, EntryOf, Keeper, Naming, Opened};
 use kanal_history::{Call, History};
 use std::marker::Model;
@@ -33,34 +32,33 @@ impl<T, J: Naming> Model for GhostHistory<T, J> {
 }
 
 impl<T, J: Naming> GhostHistory<T, J> {
-    /// The board under a name, a history of no calls on it, and its first pass, which has all of the right to
-    /// add calls. The caller knows that the name is this board's.
+    /// The board under a name, and a history of no calls on it. The caller knows that the name is this
+    /// board's.
     ///
     /// # Examples
     /// ```text
-    /// let (board, mut history, pass) = GhostHistory::<u64, J>::opened(opened);
-    /// pass   has seen nothing
+    /// let (board, mut history) = GhostHistory::<u64, J>::opened(opened);
+    /// history.pass(&board)   answers  a pass that has seen nothing
     /// ```
-    pub fn opened(opened: Opened<Call<T>>) -> (Board<Call<T>, J>, GhostHistory<T, J>, Pass<T, J>)
+    pub fn opened(opened: Opened<Call<T>>) -> (Board<Call<T>, J>, GhostHistory<T, J>)
         requires name { table_of opened ≡ J.table }
         ensures empty { result.1 ≡ [] }
-        ensures first { result.2 ≡ known [] [] whole }
     {
-        let (board, keeper, front) = opened.named::<J>();
-        (board, GhostHistory { keeper }, Pass { front })
+        let (board, keeper) = opened.named::<J>();
+        (board, GhostHistory { keeper })
     }
 
-    /// What makes the calls that are nobody's. It has seen all.
+    /// A pass that has seen all, and owns nothing.
     ///
     /// # Examples
     /// ```text
-    /// let cleanup = history.cleanup(&board);
+    /// history.pass(&board)   answers  a pass that has seen all calls
     /// ```
-    pub fn cleanup(&mut self, board: &Board<Call<T>, J>) -> Cleanup<T, J>
-        ensures all { result ≡ self.old }
+    pub fn pass(&mut self, board: &Board<Call<T>, J>) -> Pass<T, J>
+        ensures all { result ≡ known self.old [] }
         ensures same { self.new ≡ self.old }
     {
-        Cleanup {
+        Pass {
             front: self.keeper.read(board),
         }
     }
@@ -69,8 +67,8 @@ impl<T, J: Naming> GhostHistory<T, J> {
 impl<T, J: Naming> History<T> for GhostHistory<T, J> {
     ghost use Rattle.std.specs.Prelude.{◌≡◌};
     ghost use Rattle.kanal_one_history.specs.Calls.{HasSettled, line_after};
-    ghost use Rattle.kanal_one_history.specs.History.{cleanup_words, ghost_words};
-    ghost use Rattle.kanal_one_history.specs.Sound.{cleanup_sound, ghost_sound};
+    ghost use Rattle.kanal_one_history.specs.History.{ghost_words};
+    ghost use Rattle.kanal_one_history.specs.Sound.{ghost_sound};
 
     type Pass = Pass<T, J>;
 
@@ -78,13 +76,9 @@ impl<T, J: Naming> History<T> for GhostHistory<T, J> {
 
     type Prefix = Prefix<T, J>;
 
-    type Cleanup = Cleanup<T, J>;
-
     ghost stands = { λ calls line. line ≡ line_after J.capacity calls };
 
     ghost words = { ghost_words J.capacity };
-
-    ghost cleans = { cleanup_words J.capacity };
 
     ghost shows = { λ calls pair. HasSettled calls pair };
 
@@ -101,30 +95,13 @@ impl<T, J: Naming> History<T> for GhostHistory<T, J> {
     }
 
     #[inline(always)]
-    fn append_silent<X, Y, M: EntryOf<X, Y, Call<T>>>(
-        &mut self,
-        board: &Board<Call<T>, J>,
-        cleanup: &mut Cleanup<T, J>,
-        about: &X,
-        answer: &Y,
-    ) {
-        let keeper = &mut self.keeper;
-        keeper.append_quiet_of::<X, Y, M>(board, &mut cleanup.front, about, answer);
-    }
-
-    #[inline(always)]
-    fn cleanup_prefix(board: &Board<Call<T>, J>, cleanup: &mut Cleanup<T, J>) -> Prefix<T, J> {
-        Prefix::of(board, &mut cleanup.front)
-    }
-
-    #[inline(always)]
     fn show(&mut self, board: &Board<Call<T>, J>, pass: &mut Pass<T, J>) {
         self.keeper.show(board, &mut pass.front);
     }
 
     #[inline(always)]
     fn prefix(board: &Board<Call<T>, J>, pass: &mut Pass<T, J>) -> Prefix<T, J> {
-        Prefix::of(board, &mut pass.front)
+        Prefix::of(board, pass)
     }
 
     #[inline(always)]
@@ -138,6 +115,4 @@ impl<T, J: Naming> History<T> for GhostHistory<T, J> {
     }
 
     ghost sound = { ghost_sound J.capacity };
-
-    ghost cleans_sound = { cleanup_sound J.capacity };
 }

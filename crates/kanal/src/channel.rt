@@ -25,8 +25,8 @@ fn handles<T: Drop>(
     over(alloc, core, NoHistory, (), ())
 }
 
-/// The two first handles over this core, and over what is kept of the calls that led to its line, with a pass
-/// for the calls that are nobody's. It is for channels with a history: `bounded` and its likes have none.
+/// The two first handles over this core, and over what is kept of the calls that led to its line, with what
+/// makes the calls that are nobody's. It is for channels with a history: `bounded` and its likes have none.
 ///
 /// # Errors
 /// `NoMemory` where there is no memory for the channel.
@@ -39,7 +39,7 @@ pub fn over<T: Drop, H: History<T>>(
     alloc: Global,
     core: Core<T, H>,
     history: H,
-    cleanup: H::Pass,
+    cleanup: H::Cleanup,
     board: H::Board,
 ) -> Result<(AsyncSender<T, H>, AsyncReceiver<T, H>), NewError>
     requires core { H.stands history (line_of core) }

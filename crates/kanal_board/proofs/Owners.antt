@@ -4,6 +4,7 @@ use mathlib.Core.Option.{some, some-ne-none, some-injective}
 use lib.ListN.{get_elem?}
 use Rattle.atomic_table.proofs.Lists.{at_set}
 use Rattle.kanal_board.specs.declared.rule.View.{View}
+use Rattle.kanal_board.specs.Shares.{nothing}
 use Rattle.kanal_board.specs.Views.{IsAmong, AreApart, HaveOneOwner, all_own, beside, reader}
 use Rattle.kanal_board.proofs.Places.{among-cases, among-right}
 
@@ -67,7 +68,7 @@ module _ {E : Type 0} (views : List (View E)) (own : HaveOneOwner views) (by : �
   module _ (other : ℕ) (w : View E) (there : get_elem? views other ≡ some w) where
     -- the views after the join
     abbrev joined : List (View E)
-    joined = set (set views by (beside v w)) other (reader [] [])
+    joined = set (set views by (beside v w)) other (reader [] [] nothing)
 
     -- the seat that took in, or one that had no part in it
     abbrev Stands : ℕ → View E → Type 0
@@ -76,13 +77,13 @@ module _ {E : Type 0} (views : List (View E)) (own : HaveOneOwner views) (by : �
     stands : (i : ℕ) (a : View E) → get_elem? joined i ≡ some a → (k : ℕ) → IsAmong k (all_own a) → Stands i a
     stands i a e k ka =
         ⊎_elim
-        (λ (x : (i ≡ other) × (reader [] [] ≡ a)). absurd (subst (λ (u : View E). IsAmong k (all_own u)) (sym x.1) ka))
+        (λ (x : (i ≡ other) × (reader [] [] nothing ≡ a)). absurd (subst (λ (u : View E). IsAmong k (all_own u)) (sym x.1) ka))
         (λ (x : (i ≢ other) × (get_elem? (set views by (beside v w)) i ≡ some a)).
         ⊎_elim
         (λ (y : (i ≡ by) × (beside v w ≡ a)). inl y)
         (λ (y : (i ≢ by) × (get_elem? views i ≡ some a)). inr (y.0, x.0, y.1))
         (at_set views by i (beside v w) a x.1))
-        (at_set (set views by (beside v w)) other i (reader [] []) a e)
+        (at_set (set views by (beside v w)) other i (reader [] [] nothing) a e)
 
     not-elsewhere : (k : ℕ) → IsAmong k (all_own (beside v w)) → (j : ℕ) (b : View E) → j ≢ by → j ≢ other → get_elem? views j ≡ some b → IsAmong k (all_own b) → ⊥
     not-elsewhere k both j b n m e kb =

@@ -3,15 +3,17 @@
 //! Stands on the rule. Fronts step their seats on the board that their type names, and on no other.
 ghost use Rattle.std.specs.Prelude.{◌≡◌, ◌++◌, ◌⊎◌, []};
 ghost use mathlib.Core.List.{IsPrefix};
-ghost use Rattle.kanal_board.specs.Views.{AreApart, AreDistinct, OneBegins, known, reader};
+ghost use Rattle.kanal_board.specs.Shares.{both, half, IsWhole, nothing};
+ghost use Rattle.kanal_board.specs.Views.{AreApart, AreDistinct, OneBegins, OwnsAllButQuiet, known, reader};
 
 use crate::board::Board;
-use crate::rule::{Compares, Goes, Learns, Meets, Naming, Parts, Reads, View};
+use crate::entry::Entry;
+use crate::rule::{Checks, Compares, Goes, Halves, Learns, Meets, Naming, Parts, Reads, View};
 use atomic_table::Seat;
 use std::marker::{Model, PhantomData};
 
-/// A beginning of the history that was seen, and the places in it that are its own. Contracts see both.
-/// It has no bytes.
+/// A beginning of the history that was seen, the places in it that are its own, and a share of the right to
+/// add entries. Contracts see all three. It has no bytes.
 #[derive(Drop)]
 pub struct Front<E, J: Naming> {
     pub(crate) seat: Seat<(), View<E>>,
@@ -24,18 +26,18 @@ impl<E, J: Naming> Model for Front<E, J> {
 
     ghost Value = { Known E };
 
-    ghost view = { λ f. known f.seat.me.0.log f.seat.me.0.own };
+    ghost view = { λ f. known f.seat.me.0.log f.seat.me.0.own f.seat.me.0.share };
 
     ghost invariant = { λ f. (f.seat.table_id ≡ J.table)
-        × (f.seat.me ≡ (reader f.seat.me.0.log f.seat.me.0.own, [])) };
+        × (f.seat.me ≡ (reader f.seat.me.0.log f.seat.me.0.own f.seat.me.0.share, [])) };
 }
 
-impl<E, J: Naming> Front<E, J> {
+impl<E: Entry, J: Naming> Front<E, J> {
     /// The front of this seat.
     pub(crate) fn over(seat: Seat<(), View<E>>) -> Self
         requires table { seat.table_id ≡ J.table }
-        requires reader { seat.me ≡ (reader seat.me.0.log seat.me.0.own, []) }
-        ensures { result ≡ known seat.me.0.log seat.me.0.own }
+        requires reader { seat.me ≡ (reader seat.me.0.log seat.me.0.own seat.me.0.share, []) }
+        ensures { result ≡ known seat.me.0.log seat.me.0.own seat.me.0.share }
     {
         Front {
             seat,
@@ -43,18 +45,48 @@ impl<E, J: Naming> Front<E, J> {
         }
     }
 
-    /// Another front that has seen as much, and owns nothing.
+    /// Another front that has seen as much, owns nothing, and has half of this one's share. This one keeps
+    /// the other half.
     ///
     /// # Examples
     /// ```text
     /// let other = front.again(&board);   for another thread
     /// ```
     pub fn again(&mut self, board: &Board<E, J>) -> Front<E, J>
-        ensures copy { result ≡ known self.old.log [] }
+        ensures copy { result ≡ known self.old.log [] (half self.old.share) }
+        ensures same { self.new ≡ known self.old.log self.old.own (half self.old.share) }
+    {
+        let seat = board.table.shared.split_seat::<Halves>(&mut self.seat);
+        Front::over(seat)
+    }
+
+    /// Another front that has seen as much, owns nothing, and has no share: it gets no entry of its own.
+    ///
+    /// # Examples
+    /// ```text
+    /// let other = front.read(&board);   tells another what was seen
+    /// ```
+    pub fn read(&mut self, board: &Board<E, J>) -> Front<E, J>
+        ensures copy { result ≡ known self.old.log [] nothing }
         ensures same { self.new ≡ self.old }
     {
         let seat = board.table.shared.split_seat::<Reads>(&mut self.seat);
         Front::over(seat)
+    }
+
+    /// A front that has all of the right to add entries owns each entry that it has seen, but for the quiet
+    /// ones. It changes nothing.
+    ///
+    /// # Examples
+    /// ```text
+    /// front.owns_all(&board);   where all other fronts with a share came back by `learn`
+    /// ```
+    pub fn owns_all(&mut self, board: &Board<E, J>)
+        requires whole { IsWhole self.old.share }
+        ensures same { self.new ≡ self.old }
+        ensures each { OwnsAllButQuiet E.quiet self.old.log self.old.own }
+    {
+        board.table.shared.load::<Checks>(&mut self.seat, 0);
     }
 
     /// Two fronts have seen beginnings of one history, and no entry is own to both, or twice to one.
@@ -77,7 +109,8 @@ impl<E, J: Naming> Front<E, J> {
         *other = Front::over(seat);
     }
 
-    /// Goes on to what the other front has seen, where that is more, and owns what both did.
+    /// Goes on to what the other front has seen, where that is more. It owns what both did, and has the
+    /// shares of both.
     ///
     /// # Examples
     /// ```text
@@ -88,6 +121,7 @@ impl<E, J: Naming> Front<E, J> {
         ensures that { IsPrefix other.log self.new.log }
         ensures one { (self.new.log ≡ self.old.log) ⊎ (self.new.log ≡ other.log) }
         ensures own { self.new.own ≡ other.own ++ self.old.own }
+        ensures share { self.new.share ≡ both other.share self.old.share }
     {
         let Front { seat, of: _ } = other;
         let shared = &board.table.shared;

@@ -1,6 +1,7 @@
 //! What a seat of a board knows, the rule of all views, and the names of the steps.
 //!
 //! Only the board and its fronts step a seat by these.
+use crate::entry::{Entry, More};
 use atomic_table::{Join, Play, Split, TableRule};
 use std::collections::LinkedList;
 use std::marker::{Brand, PhantomData};
@@ -26,51 +27,49 @@ impl Naming for Brand {
     ghost capacity = { None };
 }
 
-/// What a seat knows: the keeper the whole history, another a beginning; and which places are its own.
+/// A share of the right to add entries: so many of the equal parts into which so many halvings cut all of it.
+/// No value of it is made, so that its numbers have no bound.
+pub struct Share {
+    pub count: u64,
+    pub halvings: u64,
+}
+
+/// What a seat knows: the keeper the whole history, another a beginning; which places are its own; and
+/// its share of the right to add entries.
 /// What another seat has put into it stands apart, until it is taken back. No value of it is made.
 pub struct View<E> {
     pub keeps: bool,
     pub log: LinkedList<E>,
     pub own: LinkedList<u64>,
+    pub share: Share,
     pub other: LinkedList<E>,
     pub others_own: LinkedList<u64>,
+    pub others_share: Share,
 }
 
 /// The board's rule.
 pub struct Law;
 
-impl<E> TableRule<(), View<E>, ()> for Law {
-    ghost use Rattle.kanal_board.specs.Views.{keeper, Kept};
+impl<E: Entry> TableRule<(), View<E>, ()> for Law {
+    ghost use Rattle.kanal_board.specs.Shares.{whole};
+    ghost use Rattle.kanal_board.specs.Views.{keeper_with, Kept};
 
-    ghost holds = { λ k s. Kept s.views };
+    ghost holds = { λ k s. Kept E.quiet s.views };
 
-    ghost first = { λ k. keeper [] };
+    ghost first = { λ k. keeper_with [] whole };
 
     ghost use Rattle.std.specs.Prelude.{[]};
 }
 
-/// Entries that a call picks.
-pub(crate) trait More<E> {
-    ghost use Rattle.std.specs.Prelude.{List};
-
-    ghost more: { List E };
-}
-
-impl<E> More<E> for Brand {
-    ghost use Rattle.std.specs.Prelude.{[]};
-
-    ghost more = { [] };
-}
-
-/// The keeper adds entries, and shows all to the front that was put into it.
+/// The keeper adds to the history, and shows all to the front that was put into it.
 pub(crate) struct Extends<N> {
     of: PhantomData<N>,
 }
 
-impl<E, N: More<E>> Play<(), View<E>> for Extends<N> {
+impl<E: Entry, N: More<E>> Play<(), View<E>> for Extends<N> {
     ghost use Rattle.kanal_board.specs.Views.{Extended};
 
-    ghost then = { λ s v n w. Extended N.more v w };
+    ghost then = { λ s v n w. Extended E.quiet N.more v w };
 }
 
 /// A front is compared with the one that was put into it.
@@ -91,16 +90,52 @@ impl<E> Play<(), View<E>> for Learns {
     ghost then = { λ s v n w. Learned v w };
 }
 
-/// A new front that has seen as much, and owns nothing.
+/// A front that has all of the right owns all that it has seen, but for the quiet entries.
+pub(crate) struct Checks;
+
+impl<E: Entry> Play<(), View<E>> for Checks {
+    ghost use Rattle.kanal_board.specs.Views.{Checked};
+
+    ghost then = { λ s v n w. Checked E.quiet v w };
+}
+
+/// The first front, which has all of the right.
+pub(crate) struct Founds;
+
+impl<E> Split<View<E>> for Founds {
+    ghost use Rattle.std.specs.Prelude.{[]};
+    ghost use Rattle.kanal_board.specs.Shares.{nothing};
+    ghost use Rattle.kanal_board.specs.Views.{reader, with_share};
+
+    ghost left = { λ v. with_share v nothing };
+
+    ghost right = { λ v. reader v.log [] v.share };
+}
+
+/// A new front that has seen as much, owns nothing, and has half of the share.
+pub(crate) struct Halves;
+
+impl<E> Split<View<E>> for Halves {
+    ghost use Rattle.std.specs.Prelude.{[]};
+    ghost use Rattle.kanal_board.specs.Shares.{half};
+    ghost use Rattle.kanal_board.specs.Views.{reader, with_share};
+
+    ghost left = { λ v. with_share v (half v.share) };
+
+    ghost right = { λ v. reader v.log [] (half v.share) };
+}
+
+/// A new front that has seen as much, owns nothing, and has no share.
 pub(crate) struct Reads;
 
 impl<E> Split<View<E>> for Reads {
     ghost use Rattle.std.specs.Prelude.{[]};
+    ghost use Rattle.kanal_board.specs.Shares.{nothing};
     ghost use Rattle.kanal_board.specs.Views.{reader};
 
     ghost left = { λ v. v };
 
-    ghost right = { λ v. reader v.log [] };
+    ghost right = { λ v. reader v.log [] nothing };
 }
 
 /// Moves a view to a new seat; the old one knows nothing then.
@@ -108,9 +143,10 @@ pub(crate) struct Goes;
 
 impl<E> Split<View<E>> for Goes {
     ghost use Rattle.std.specs.Prelude.{[]};
+    ghost use Rattle.kanal_board.specs.Shares.{nothing};
     ghost use Rattle.kanal_board.specs.Views.{reader};
 
-    ghost left = { λ v. reader [] [] };
+    ghost left = { λ v. reader [] [] nothing };
 
     ghost right = { λ v. v };
 }
@@ -123,7 +159,7 @@ impl<E> Split<View<E>> for Parts {
 
     ghost left = { alone };
 
-    ghost right = { λ v. reader v.other v.others_own };
+    ghost right = { λ v. reader v.other v.others_own v.others_share };
 }
 
 /// A seat is put into another.
@@ -131,9 +167,10 @@ pub(crate) struct Meets;
 
 impl<E> Join<View<E>> for Meets {
     ghost use Rattle.std.specs.Prelude.{[]};
+    ghost use Rattle.kanal_board.specs.Shares.{nothing};
     ghost use Rattle.kanal_board.specs.Views.{beside, reader};
 
     ghost both = { beside };
 
-    ghost spent = { reader [] [] };
+    ghost spent = { reader [] [] nothing };
 }

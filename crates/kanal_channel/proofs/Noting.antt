@@ -5,14 +5,14 @@ use Rattle.kanal_core.specs.declared.internal.outcome.Reason.TheVariants.{SendCl
 use Rattle.kanal_core.specs.Line.{Entry, Line, has_place, last_word}
 use Rattle.kanal_core.specs.Moves.{end_all, enter, quiet, wait_recv, wait_send}
 use Rattle.kanal_events.specs.declared.event.Event.{Event}
-use Rattle.kanal_events.specs.declared.event.Event.TheVariants.{Send, TrySend, Recv, TryRecv, DropTx, DropRx}
+use Rattle.kanal_events.specs.declared.event.Event.TheVariants.{Send, TrySend, Recv, RecvLate, TryRecv, Drain, Withdraw, CloneTx, CloneRx, DropTx, DropRx, Seal, Close, Ask, Terminated}
 use Rattle.kanal_events.specs.declared.event.Reply.{Reply}
 use Rattle.kanal_events.specs.declared.event.Reply.TheVariants.{Sent, Yes, Got, Nothing, Refused, Waits}
 use Rattle.kanal_events.specs.declared.event.Refusal.TheVariants.{Closed, ReceiveClosed, Sealed, SendClosed, TooMany}
 use Rattle.kanal_events.specs.declared.made.Made.{Made}
 use Rattle.kanal_events.specs.Steps.{Told, step, Tells, is_no_memory, moving, nothing_there, only, take_front, wait}
 use Rattle.kanal_events.specs.Made.{entered, got, reply_of, told_of}
-use Rattle.kanal_history.specs.Calls.{IsToldOn, call_of, line_by}
+use Rattle.kanal_history.specs.Calls.{IsDrop, IsSilent, IsToldOn, call_of, line_by}
 use Rattle.kanal_history.specs.Entries.{call_from, tried_entry, tried_receipt}
 use Rattle.kanal_history.proofs.Telling.{tells_step, tells_refused}
 
@@ -20,6 +20,45 @@ module _ {T : Type 0} where
   -- a call that was told the line's step is told so on that line
   pub told-on : (l : Line T) (e : Event T) (told : Told T) → told ≡ step l e → call_of e told ≡ call_of e (step l e)
   told-on l e told is = ap (call_of e) is
+
+module _ {T : Type 0} where
+  -- the drop of a handle is never refused for memory
+  pub drop_told : (l : Line T) (e : Event T) (told : Told T) → IsDrop e → Tells l e told → told ≡ step l e
+  drop_told l DropTx told drops (inl is) = is
+  drop_told l DropTx told drops (inr m) = absurd m.0
+  drop_told l DropRx told drops (inl is) = is
+  drop_told l DropRx told drops (inr m) = absurd m.0
+  drop_told l (Send m) told drops tells = absurd drops
+  drop_told l (TrySend m) told drops tells = absurd drops
+  drop_told l Recv told drops tells = absurd drops
+  drop_told l RecvLate told drops tells = absurd drops
+  drop_told l TryRecv told drops tells = absurd drops
+  drop_told l Drain told drops tells = absurd drops
+  drop_told l (Withdraw t) told drops tells = absurd drops
+  drop_told l CloneTx told drops tells = absurd drops
+  drop_told l CloneRx told drops tells = absurd drops
+  drop_told l Seal told drops tells = absurd drops
+  drop_told l Close told drops tells = absurd drops
+  drop_told l (Ask side ask) told drops tells = absurd drops
+  drop_told l Terminated told drops tells = absurd drops
+
+  -- it is silent
+  pub drop_silent : (e : Event T) → IsDrop e → IsSilent e
+  drop_silent DropTx drops = tt
+  drop_silent DropRx drops = tt
+  drop_silent (Send m) drops = absurd drops
+  drop_silent (TrySend m) drops = absurd drops
+  drop_silent Recv drops = absurd drops
+  drop_silent RecvLate drops = absurd drops
+  drop_silent TryRecv drops = absurd drops
+  drop_silent Drain drops = absurd drops
+  drop_silent (Withdraw t) drops = tt
+  drop_silent CloneTx drops = tt
+  drop_silent CloneRx drops = tt
+  drop_silent Seal drops = tt
+  drop_silent Close drops = absurd drops
+  drop_silent (Ask side ask) drops = tt
+  drop_silent Terminated drops = tt
 
 module _ {T : Type 0} where
   -- the drop of a sender that is not the last settles nobody's wait
@@ -37,6 +76,12 @@ module _ {T : Type 0} where
   quiet_rx l told (inr m) more = absurd m.0
 
 module _ {T W : Type 0} where
+  -- a drop that was made is told so on the line that it found
+  pub drop_on : (l new : Line T) (event asked : Event T) (m : Made T W) → asked ≡ event → IsDrop event → Tells l event (told_of new m) → IsToldOn l (call_from asked m) × IsSilent asked
+  drop_on l new event asked m was drops tells =
+      let told : call_from event m ≡ call_of event (step l event) = told-on l event (told_of new m) (drop_told l event (told_of new m) drops tells) in
+      subst (λ e. (call_from e m ≡ call_of e (step l e)) × IsSilent e) (sym was) (told, drop_silent event drops)
+
   -- the same of a call that was noted and not refused
   pub noted-on : (l new : Line T) (event : Event T) (m : Made T W) → Tells l event (told_of new m) → is_no_memory (reply_of m) ≡ false → call_from event m ≡ call_of event (step l event)
   noted-on l new event m tells clear = told-on l event (told_of new m) (tells_step l event (told_of new m) tells clear)

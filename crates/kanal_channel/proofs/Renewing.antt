@@ -38,7 +38,7 @@ module _ {T W : Type 0} (t : Ticket) (old : List (Waiter T W)) (was now : W) (Q 
       (now, refl, subst (λ v. P v now) same holds)
 
 -- who waits with the ticket brought a seat that swapped its waker
-pub renews : {T H P B S : Type 0} {G : Ghosts H T P B S} (t : Ticket) (spare after : Option Waker) (old : List (Waiter T (Seat T H P B S G))) (was now : Seat T H P B S G)
+pub renews : {T H P B S C : Type 0} {G : Ghosts H T P B S C} (t : Ticket) (spare after : Option Waker) (old : List (Waiter T (Seat T H P B S C G))) (was now : Seat T H P B S C G)
     → Some was ≡ option_map (λ w. w.w) (waiter_of t old) → Swaps spare was now after → Renews t spare old (with_w t now old) after
 renews t spare after old was now e swaps =
     found t old was now ((with_w t now old ≡ old) × (after ≡ spare)) (λ a b. Swaps spare a b after) (waiter_of t old) e swaps

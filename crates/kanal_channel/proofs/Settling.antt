@@ -39,6 +39,10 @@ module _ {T P : Type 0} (w : Words T P) (sound : AreSound w) where
   all-settled old new call m (pair ∷ pairs) among =
       (sound.makes_settled old new call m pair (among pair (inl refl)), all-settled old new call m pairs (λ p i. among p (inr i)))
 
+  -- and so has whoever made it
+  pub made_settled : (old new : P) (call : Call T) → w.makes old new call → HaveSettled w new call.settled
+  made_settled old new call m = all-settled old new call m call.settled (λ p i. i)
+
   pub noted_settled : {W : Type 0} (old new : P) (event : Event T) (made : Made T W) → IsNoted w old new event made → HaveSettled w new (settled_of made)
   noted_settled old new event made n =
       elim (cases_Bool (is_no_memory (reply_of made))) [
@@ -79,13 +83,13 @@ module _ {T P : Type 0} (w : Words T P) (sound : AreSound w) where
   pub lacks_wait : (old new : P) (event : Event T) → w.looks old new → SeesWait w new event → Lacks w old new event
   lacks_wait old new event looks sees = record { looks = looks; line = sees.line; ends = sees.ends; may = inr sees.must }
 
-  begun-on : {H B S : Type 0} (old mid new : P) (event : Event T) (begun : Begun T H P B S) → w.looks old mid → HasBegun w mid new event begun → HasBegun w old new event begun
+  begun-on : {H B S C : Type 0} (old mid new : P) (event : Event T) (begun : Begun T H P B S C) → w.looks old mid → HasBegun w mid new event begun → HasBegun w old new event begun
   begun-on old mid new event (BegunReplied reply) looks c = (answered-from old mid new event reply looks c.0, c.1)
   begun-on old mid new event (BegunWaits ticket waiting) looks c = replied-from old mid new event (λ reply. reply) _ looks c
   begun-on old mid new event (BegunLacking back) looks c = (c.0, lacks-from old mid new event looks c.1)
 
   -- what the start of a wait came to that began where the pass had looked
-  pub begun_from : {H B S : Type 0} (old mid new : P) (event back : Event T) (begun : Begun T H P B S) → back ≡ event → w.looks old mid → HasBegun w mid new back begun → HasBegun w old new event begun
+  pub begun_from : {H B S C : Type 0} (old mid new : P) (event back : Event T) (begun : Begun T H P B S C) → back ≡ event → w.looks old mid → HasBegun w mid new back begun → HasBegun w old new event begun
   begun_from old mid new event back begun same looks c = subst (λ e. HasBegun w old new e begun) same (begun-on old mid new back begun looks c)
 
 module _ {T P : Type 0} (w : Words T P) where

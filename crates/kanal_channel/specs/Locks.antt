@@ -5,20 +5,20 @@ use Rattle.kanal_history.specs.declared.history.History.{Ghosts}
 use Rattle.kanal_channel.specs.declared.shared.locked.Left.{Left}
 use Rattle.kanal_channel.specs.declared.shared.locked.Locked.{Locked}
 
-module _ {T H P B S : Type 0} where
+module _ {T H P B S C : Type 0} where
   -- whether the lock still has to be given back
-  abbrev pub is_held : Locked T H P B S → Bool
+  abbrev pub is_held : Locked T H P B S C → Bool
   is_held locked = locked.held
 
-  -- the cleanup pass has made no call since the lock was got
-  abbrev pub IsQuiet : Locked T H P B S → Type 0
+  -- no call of nobody's was made since the lock was got
+  abbrev pub IsQuiet : Locked T H P B S C → Type 0
   IsQuiet locked = locked.state.value.0 ≡ locked.cleanup.value
 
   -- the line of the core that the lock lends
-  abbrev pub line_under : Locked T H P B S → Line T
+  abbrev pub line_under : Locked T H P B S C → Line T
   line_under locked = locked.state.value.1
 
-module _ {T H P B S : Type 0} {G : Ghosts H T P B S} where
+module _ {T H P B S C : Type 0} {G : Ghosts H T P B S C} where
   -- the notices took nothing out
-  abbrev pub takes_nothing : Left T H P B S G → Type 0
+  abbrev pub takes_nothing : Left T H P B S C G → Type 0
   takes_nothing left = left.taken ≡ None

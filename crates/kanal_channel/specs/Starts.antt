@@ -31,17 +31,17 @@ module _ {T P : Type 0} where
   HasLooked w old new event (LookReplied reply) = HasReplied w old new event reply
   HasLooked w old new event (LookMustWait back) = (back ≡ event) × w.looks old new × SeesWait w new event
 
-module _ {T H P B S : Type 0} {G : Ghosts H T P B S} where
+module _ {T H P B S C : Type 0} {G : Ghosts H T P B S C} where
   -- what the start of a wait came to, with what the step told
-  abbrev pub HasStarted : Words T P → P → P → Event T → Starting T H P B S G → Type 0
+  abbrev pub HasStarted : Words T P → P → P → Event T → Starting T H P B S C G → Type 0
   HasStarted w old new event (StartMade made) = IsNoted w old new event made × (IsWait (reply_of made) → ⊥)
   HasStarted w old new event (StartWaits made ticket end) =
       IsNoted w old new event made × (reply_of made ≡ Waits (number_of ticket)) × MaySleep (wait_view end)
   HasStarted w old new event (StartLacking back) = (back ≡ event) × Lacks w old new event
 
-module _ {T H P B S : Type 0} where
+module _ {T H P B S C : Type 0} where
   -- the same, once those are told whose waits the step settled
-  abbrev pub HasBegun : Words T P → P → P → Event T → Begun T H P B S → Type 0
+  abbrev pub HasBegun : Words T P → P → P → Event T → Begun T H P B S C → Type 0
   HasBegun w old new event (BegunReplied reply) = HasReplied w old new event reply
   HasBegun w old new event (BegunWaits ticket waiting) = IsReplied w old new event (λ reply. reply) (Waits (number_of ticket))
   HasBegun w old new event (BegunLacking back) = (back ≡ event) × Lacks w old new event

@@ -1,7 +1,7 @@
 //! That a handle is counted, and that a future waits: tokens of no bytes, each of which has to be counted out.
 //!
 //! Stands on the kit's tag. The prover refuses to let one go. A sender's is counted out by evidence that its
-//! drop was made as a call of the cleanup pass, or into the notices of its own kind. Who takes the notices
+//! drop was made as a call of nobody's, or into the notices of its own kind. Who takes the notices
 //! has the tokens again: each of those that left by notice is counted out by a call, or put back. Nothing
 //! else makes a token but a new channel and a call that counts one more.
 ghost use Rattle.std.specs.Prelude.{◌≡◌, ◌<◌, true, false, IfNone, IfSome};
@@ -10,8 +10,7 @@ ghost use Rattle.kanal_core.specs.Channel.{line_of};
 ghost use Rattle.kanal_core.specs.Waiters.{IsPlaced};
 ghost use Rattle.kanal_events.specs.Made.{not_waiting};
 ghost use Rattle.kanal_events.specs.Steps.{Tells};
-ghost use Rattle.kanal_history.specs.Entries.{withdrawal};
-ghost use Rattle.kanal_history.specs.Makes.{IsNoted};
+ghost use Rattle.kanal_history.specs.Entries.{call_from, withdrawal};
 ghost use Rattle.kanal_channel.specs.Counts.{gone_receivers, gone_senders, has_receiver, has_sender, has_wait, ticket_of};
 
 use crate::delivered::Delivered;
@@ -83,14 +82,14 @@ impl CountedSender {
         drop(stands);
     }
 
-    /// Counts the sender out: its drop was made by the cleanup pass.
+    /// Counts the sender out: its drop was made as a call of nobody's.
     pub(crate) fn count_out<T, W, H: History<T>>(
         self,
-        before: &Snapshot<H::Pass>,
-        after: &H::Pass,
+        before: &Snapshot<H::Cleanup>,
+        after: &H::Cleanup,
         made: &Made<T, W>,
     )
-        requires noted { IsNoted H.words before.now.value after.now Event.DropTx made.now }
+        requires made { H.cleans.makes before.now.value after.now (call_from Event.DropTx made.now) }
     {
         let CountedSender { stands } = self;
         let _ = before;
@@ -112,14 +111,14 @@ impl CountedReceiver {
         drop(stands);
     }
 
-    /// Counts the receiver out: its drop was made by the cleanup pass.
+    /// Counts the receiver out: its drop was made as a call of nobody's.
     pub(crate) fn count_out<T, W, H: History<T>>(
         self,
-        before: &Snapshot<H::Pass>,
-        after: &H::Pass,
+        before: &Snapshot<H::Cleanup>,
+        after: &H::Cleanup,
         made: &Made<T, W>,
     )
-        requires noted { IsNoted H.words before.now.value after.now Event.DropRx made.now }
+        requires made { H.cleans.makes before.now.value after.now (call_from Event.DropRx made.now) }
     {
         let CountedReceiver { stands } = self;
         let _ = before;
@@ -129,7 +128,7 @@ impl CountedReceiver {
     }
 }
 
-/// That a future waits with this ticket. It is counted out by evidence that the cleanup pass took the wait
+/// That a future waits with this ticket. It is counted out by evidence that a call of nobody's took the wait
 /// back, that nobody waits with the ticket, or that the future was told what became of the wait; or into the
 /// notices of its kind.
 pub struct CountedWait {
@@ -170,14 +169,14 @@ impl CountedWait {
         drop(stands);
     }
 
-    /// Counts the wait out: the cleanup pass took it back.
+    /// Counts the wait out: a call of nobody's took it back.
     pub(crate) fn taken_back<T, W, H: History<T>>(
         self,
-        before: &Snapshot<H::Pass>,
-        after: &H::Pass,
+        before: &Snapshot<H::Cleanup>,
+        after: &H::Cleanup,
         waiter: &Waiter<T, W>,
     )
-        requires made { H.words.makes before.now.value after.now
+        requires made { H.cleans.makes before.now.value after.now
             (withdrawal (number_of (ticket_of self)) waiter.now.message) }
     {
         let CountedWait { ticket: _, stands } = self;

@@ -47,8 +47,8 @@ pub type Halves<T, H> = (
 );
 
 impl<T: Drop, H: History<T>> Shared<T, H> {
-    /// A free lock round the core and what is kept of the calls that led to its line, with a pass for the
-    /// calls that are nobody's, and no notices. The memory of waits is asked of `alloc`.
+    /// A free lock round the core and what is kept of the calls that led to its line, with what makes
+    /// the calls that are nobody's, and no notices. The memory of waits is asked of `alloc`.
     ///
     /// # Examples
     /// ```text
@@ -58,7 +58,7 @@ impl<T: Drop, H: History<T>> Shared<T, H> {
     pub fn new(
         core: Core<T, H>,
         history: H,
-        cleanup: H::Pass,
+        cleanup: H::Cleanup,
         board: H::Board,
         alloc: Global,
     ) -> Self
@@ -90,7 +90,7 @@ impl<T: Drop, H: History<T>> Shared<T, H> {
     pub fn halves(
         core: Core<T, H>,
         history: H,
-        cleanup: H::Pass,
+        cleanup: H::Cleanup,
         board: H::Board,
         alloc: Global,
     ) -> Result<Halves<T, H>, NewError>

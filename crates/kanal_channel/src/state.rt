@@ -95,22 +95,22 @@ impl<T, W> EntryOf<Ticket, Waiter<T, W>, Call<T>> for OfWithdrawal {
     ghost entry = { λ ticket waiter. withdrawal (number_of ticket) waiter.message };
 }
 
-/// The core, the history of the calls on its line, and the pass by which the calls are made that are
-/// nobody's: of a handle that is gone, or of a wait that was left. Contracts see that pass, and the line.
+/// The core, the history of the calls on its line, and what makes the calls that are nobody's: of a handle
+/// that is gone, or of a wait that was left. Contracts see what makes those, and the line.
 ///
 /// Its type keeps that what is kept led to that line.
 #[derive(Drop)]
 pub struct State<T, H: History<T>> {
     core: Core<T, H>,
     history: H,
-    cleanup: H::Pass,
+    cleanup: H::Cleanup,
 }
 
 impl<T, H: History<T>> Model for State<T, H> {
     ghost use Rattle.kanal_core.specs.Channel.{line_of};
     ghost use Rattle.kanal_core.specs.Line.{Line};
 
-    ghost Value = { H.Pass × Line T };
+    ghost Value = { H.Cleanup × Line T };
 
     ghost view = { λ s. (s.cleanup, line_of s.core) };
 
@@ -192,7 +192,7 @@ fn note<T: Drop, W: Drop, H: History<T>>(
 
 impl<T: Drop, H: History<T>> State<T, H> {
     /// A core, and what is kept of the calls that led to its line.
-    pub(crate) fn new(core: Core<T, H>, history: H, cleanup: H::Pass) -> State<T, H>
+    pub(crate) fn new(core: Core<T, H>, history: H, cleanup: H::Cleanup) -> State<T, H>
         requires core { H.stands history (line_of core) }
     {
         State {

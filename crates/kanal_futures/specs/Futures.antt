@@ -4,23 +4,23 @@ use Rattle.kanal_futures.specs.declared.receiving.Receiving.{Receiving}
 use Rattle.kanal_futures.specs.declared.sending.Sending.{Sending}
 use Rattle.kanal_futures.specs.Tasks.{begun_by, is_waiting, passes, source_of}
 
-module _ {T H P B S : Type 0} where
+module _ {T H P B S C : Type 0} where
   -- what the pass of a receive was at first, if it has not answered
-  abbrev pub receive_begun : Receiving T H P B S → Option P
+  abbrev pub receive_begun : Receiving T H P B S C → Option P
   receive_begun f = passes (begun_by f.state)
 
   -- what the pass of a send was at first, and its message, if it has not answered
-  abbrev pub send_begun : Sending T H P B S → Option (P × T)
+  abbrev pub send_begun : Sending T H P B S C → Option (P × T)
   send_begun f = begun_by f.state
 
   -- a receive whose wait was started, and not polled to its end
-  abbrev pub receive_waits : Receiving T H P B S → Bool
+  abbrev pub receive_waits : Receiving T H P B S C → Bool
   receive_waits f = is_waiting f.state
 
   -- the name of what a receive waits for
-  abbrev pub receive_source : Receiving T H P B S → ℕ
+  abbrev pub receive_source : Receiving T H P B S C → ℕ
   receive_source f = source_of f.wakers
 
   -- the name of what a send waits for
-  abbrev pub send_source : Sending T H P B S → ℕ
+  abbrev pub send_source : Sending T H P B S C → ℕ
   send_source f = source_of f.wakers

@@ -5,21 +5,21 @@ use Rattle.kanal_history.specs.Words.{Words}
 use Rattle.kanal_futures.specs.declared.stream.ReceiveStream.{ReceiveStream}
 use Rattle.kanal_futures.specs.Futures.{receive_begun, receive_source, receive_waits}
 
-module _ {T H P B S : Type 0} where
+module _ {T H P B S C : Type 0} where
   -- a stream that has answered that there is no more
-  abbrev pub stream_is_over : ReceiveStream T H P B S → Bool
+  abbrev pub stream_is_over : ReceiveStream T H P B S C → Bool
   stream_is_over s = is_some s.fault
 
   -- a stream with a wait of its own that was not polled to its end
-  abbrev pub stream_waits : ReceiveStream T H P B S → Bool
+  abbrev pub stream_waits : ReceiveStream T H P B S C → Bool
   stream_waits s = receive_waits s.receiving
 
   -- the name of what a stream waits for
-  abbrev pub stream_source : ReceiveStream T H P B S → ℕ
+  abbrev pub stream_source : ReceiveStream T H P B S C → ℕ
   stream_source s = receive_source s.receiving
 
   -- the pass of a stream's next receive, as it was before that
-  abbrev pub stream_pass : ReceiveStream T H P B S → Option P
+  abbrev pub stream_pass : ReceiveStream T H P B S C → Option P
   stream_pass s = receive_begun s.receiving
 
 module _ {T P : Type 0} where

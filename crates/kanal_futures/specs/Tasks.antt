@@ -20,23 +20,23 @@ passes (Some begun) = Some begun.0
 abbrev pub source_of : Wakers → ℕ
 source_of wakers = wakers.source.id
 
-module _ {T H M A P B S : Type 0} where
+module _ {T H M A P B S C : Type 0} where
   -- what the pass was at first, and what was asked, of a call that has not answered
-  abbrev pub begun_by : Progress T H M A P B S → Option (P × M)
+  abbrev pub begun_by : Progress T H M A P B S C → Option (P × M)
   begun_by (Zero pass asked) = Some (pass, asked)
   begun_by (Waiting started) = Some started
   begun_by (Lost lost) = Some (opened lost.opening)
   begun_by Done = None
 
   -- there is a wait that has to be counted out
-  abbrev pub is_waiting : Progress T H M A P B S → Bool
+  abbrev pub is_waiting : Progress T H M A P B S C → Bool
   is_waiting (Zero pass asked) = false
   is_waiting (Waiting started) = true
   is_waiting (Lost lost) = true
   is_waiting Done = false
 
   -- the same, of how the next poll goes on
-  abbrev pub begun_next : Next T H M A P B S → Option (P × M)
+  abbrev pub begun_next : Next T H M A P B S C → Option (P × M)
   begun_next (Begins pass asked) = Some (pass, asked)
   begun_next (Looks started) = Some started
   begun_next (Stays lost) = Some (opened lost.opening)

@@ -3,6 +3,7 @@ use Rattle.std.specs.Prelude.{◌≡◌, ℕ, ◌⊎◌, List, [], ◌∷◌}
 use Rattle.kanal_core.specs.declared.internal.outcome.Outcome.{Outcome}
 use Rattle.kanal_core.specs.Line.{Line}
 use Rattle.kanal_events.specs.declared.event.Event.{Event}
+use Rattle.kanal_events.specs.declared.event.Event.TheVariants.{Withdraw, CloneTx, CloneRx, DropTx, DropRx, Seal, Ask as Asks, Terminated}
 use Rattle.kanal_events.specs.Steps.{Told, step}
 use Rattle.kanal_history.specs.declared.call.Call.{Call}
 
@@ -18,6 +19,24 @@ module _ {T : Type 0} where
   -- some line tells of the call what was told of it: what is known of a call whatever is kept
   abbrev pub IsTold : Call T → Type 0
   IsTold call = (line : Line T) × IsToldOn line call
+
+  -- a call of this event puts no message, asks for none and clears none, whatever it is answered
+  abbrev pub IsSilent : Event T → Type 0
+  IsSilent (Withdraw ticket) = Unit {0}
+  IsSilent CloneTx = Unit {0}
+  IsSilent CloneRx = Unit {0}
+  IsSilent DropTx = Unit {0}
+  IsSilent DropRx = Unit {0}
+  IsSilent Seal = Unit {0}
+  IsSilent (Asks side ask) = Unit {0}
+  IsSilent Terminated = Unit {0}
+  IsSilent event = ⊥
+
+  -- the event is the drop of a handle
+  abbrev pub IsDrop : Event T → Type 0
+  IsDrop DropTx = Unit {0}
+  IsDrop DropRx = Unit {0}
+  IsDrop event = ⊥
 
   -- the line after the call
   abbrev pub line_by : Call T → Line T → Line T

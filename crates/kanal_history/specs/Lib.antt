@@ -6,3 +6,4 @@ pub mod Results
 pub mod Timed
 pub mod Handles
 pub mod Refusals
+pub mod Exchanges

@@ -1,6 +1,7 @@
 //! A call, as a history has it.
 //!
 //! Events, replies and outcomes are those of the events and of the core; nothing is defined anew.
+use kanal_board::Entry;
 use kanal_core::internal::Outcome;
 use kanal_events::event::{Event, Reply};
 use std::collections::LinkedList;
@@ -17,4 +18,10 @@ pub struct Call<T> {
     pub drained: LinkedList<T>,
     /// The messages that it cleared.
     pub cleared: LinkedList<T>,
+}
+
+impl<T> Entry for Call<T> {
+    ghost use Rattle.kanal_history.specs.Calls.{IsSilent};
+
+    ghost quiet = { λ call. IsSilent call.event };
 }

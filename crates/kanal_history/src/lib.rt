@@ -7,7 +7,7 @@
 //! call that the line's step tells so.
 //!
 //! Stands on `kanal_events` for what events and replies are and what a step told, and on `kanal_board` for
-//! how an entry is picked. Nothing here takes a lock, and no step is made here.
+//! how an entry is picked, and which is quiet. Nothing here takes a lock, and no step is made here.
 #![tactic(auto)]
 
 mod call;

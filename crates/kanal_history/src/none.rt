@@ -12,6 +12,7 @@ use kanal_board::EntryOf;
 pub struct NoHistory;
 
 impl<T> History<T> for NoHistory {
+    ghost use Rattle.kanal_history.specs.Exchanges.{nothing_exchanged};
     ghost use Rattle.kanal_history.specs.Words.{nothing_told, nothing_sound};
 
     type Pass = ();
@@ -20,9 +21,15 @@ impl<T> History<T> for NoHistory {
 
     type Prefix = ();
 
+    type Cleanup = ();
+
     ghost stands = { λ _ _. Unit {0} };
 
     ghost words = { nothing_told };
+
+    ghost cleans = { nothing_told };
+
+    ghost exchanges = { λ _ _ _ _. Unit {0} };
 
     ghost shows = { λ _ _. Unit {0} };
 
@@ -34,6 +41,18 @@ impl<T> History<T> for NoHistory {
         _about: &X,
         _answer: &Y,
     ) {}
+
+    #[inline(always)]
+    fn append_silent<X, Y, M: EntryOf<X, Y, Call<T>>>(
+        &mut self,
+        _board: &(),
+        _cleanup: &mut (),
+        _about: &X,
+        _answer: &Y,
+    ) {}
+
+    #[inline(always)]
+    fn cleanup_prefix(_board: &(), _cleanup: &mut ()) {}
 
     #[inline(always)]
     fn show(&mut self, _board: &(), _pass: &mut ()) {}
@@ -48,4 +67,8 @@ impl<T> History<T> for NoHistory {
     fn learn(_board: &(), _pass: &mut (), _prefix: ()) {}
 
     ghost sound = { nothing_sound };
+
+    ghost cleans_sound = { nothing_sound };
+
+    ghost tells_exchanges = { nothing_exchanged };
 }

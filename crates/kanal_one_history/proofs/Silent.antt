@@ -1,22 +1,22 @@
 -- Calls that put nothing, ask for nothing and clear nothing.
-use Rattle.std.proofs.Common.{◌≡◌, ℕ, true, ◌==◌, List, [], ◌∷◌, refl, ap, ◌∙◌, inl, inr}
-use Rattle.std.proofs.lemmas.Bool.{cases_Bool, false≢true}
+use Rattle.std.proofs.Common.{◌≡◌, ℕ, ◌==◌, List, [], ◌∷◌, refl, ap, ◌∙◌, inl, inr}
+use Rattle.std.proofs.lemmas.Bool.{cases_Bool}
 use Rattle.kanal_core.specs.Line.{Line, found, has}
 use Rattle.kanal_core.specs.Moves.{last_count}
 use Rattle.kanal_events.specs.declared.event.Ask.{Ask}
 use Rattle.kanal_events.specs.declared.event.Ask.TheVariants.{IsBounded, Len, IsEmpty, IsFull, Capacity, ReceiverCount, SenderCount, IsClosed, IsDisconnected}
 use Rattle.kanal_events.specs.declared.event.Event.{Event}
-use Rattle.kanal_events.specs.declared.event.Event.TheVariants.{Withdraw, CloneTx, CloneRx, DropTx, DropRx, Seal, Ask as Asks, Terminated}
+use Rattle.kanal_events.specs.declared.event.Event.TheVariants.{Send, TrySend, Recv, RecvLate, TryRecv, Drain, Withdraw, CloneTx, CloneRx, DropTx, DropRx, Seal, Close, Ask as Asks, Terminated}
 use Rattle.kanal_events.specs.declared.event.Reply.{Reply}
 use Rattle.kanal_events.specs.declared.event.Side.{Side}
 use Rattle.kanal_events.specs.Steps.{answer, step, withdraw}
 use Rattle.kanal_journal.specs.Paired.{asked, cleared_by, sent}
 use Rattle.kanal_history.specs.declared.call.Call.{Call}
-use Rattle.kanal_history.specs.Calls.{IsTold}
-use Rattle.kanal_one_history.specs.Puts.{IsSilent, neither_puts_nor_gets}
+use Rattle.kanal_history.specs.Calls.{IsSilent, IsTold}
+use Rattle.kanal_one_history.specs.Puts.{ExchangesNothing}
 
 module _ {T : Type 0} where
-  puts-nothing : (e : Event T) (r : Reply T) → neither_puts_nor_gets e ≡ true → (sent e r ≡ []) × (asked e r ≡ [])
+  puts-nothing : (e : Event T) (r : Reply T) → IsSilent e → (sent e r ≡ []) × (asked e r ≡ [])
   puts-nothing (Withdraw t) r h = (refl, refl)
   puts-nothing CloneTx r h = (refl, refl)
   puts-nothing CloneRx r h = (refl, refl)
@@ -25,7 +25,13 @@ module _ {T : Type 0} where
   puts-nothing Seal r h = (refl, refl)
   puts-nothing (Asks side ask) r h = (refl, refl)
   puts-nothing Terminated r h = (refl, refl)
-  puts-nothing e r h = absurd (false≢true h)
+  puts-nothing (Send m) r h = absurd h
+  puts-nothing (TrySend m) r h = absurd h
+  puts-nothing Recv r h = absurd h
+  puts-nothing RecvLate r h = absurd h
+  puts-nothing TryRecv r h = absurd h
+  puts-nothing Drain r h = absurd h
+  puts-nothing Close r h = absurd h
 
   withdraws-nothing : (l : Line T) (t : ℕ) (ms : List T) → cleared_by (withdraw l t ms).reply ≡ 0
   withdraws-nothing l t [] = elim (cases_Bool (has t l.demands)) [ inl e ↦ rw e refl | inr e ↦ rw e refl ]
@@ -42,7 +48,7 @@ module _ {T : Type 0} where
   answers-nothing l side IsClosed = refl
   answers-nothing l side IsDisconnected = refl
 
-  clears-nothing : (l : Line T) (e : Event T) → neither_puts_nor_gets e ≡ true → cleared_by (step l e).reply ≡ 0
+  clears-nothing : (l : Line T) (e : Event T) → IsSilent e → cleared_by (step l e).reply ≡ 0
   clears-nothing l (Withdraw t) h = withdraws-nothing l t (found t l.line)
   clears-nothing l CloneTx h = elim (cases_Bool (l.senders == last_count)) [ inl e ↦ rw e refl | inr e ↦ rw e refl ]
   clears-nothing l CloneRx h = elim (cases_Bool (l.receivers == last_count)) [ inl e ↦ rw e refl | inr e ↦ rw e refl ]
@@ -51,10 +57,16 @@ module _ {T : Type 0} where
   clears-nothing l Seal h = elim (cases_Bool (l.senders == 0)) [ inl e ↦ rw e refl | inr e ↦ rw e refl ]
   clears-nothing l (Asks side ask) h = answers-nothing l side ask
   clears-nothing l Terminated h = refl
-  clears-nothing l e h = absurd (false≢true h)
+  clears-nothing l (Send m) h = absurd h
+  clears-nothing l (TrySend m) h = absurd h
+  clears-nothing l Recv h = absurd h
+  clears-nothing l RecvLate h = absurd h
+  clears-nothing l TryRecv h = absurd h
+  clears-nothing l Drain h = absurd h
+  clears-nothing l Close h = absurd h
 
-  -- a withdrawal, a clone, a drop, a seal or a question is silent, whoever made it
-  pub is_silent : (c : Call T) → IsTold c → neither_puts_nor_gets c.event ≡ true → IsSilent c
-  is_silent c told h =
+  -- a call of a silent event put no message, asked for none and cleared none, whoever made it
+  pub exchanges_nothing : (c : Call T) → IsTold c → IsSilent c.event → ExchangesNothing c
+  exchanges_nothing c told h =
       let p = puts-nothing c.event c.reply h in
       record { sends = p.0; asks = p.1; clears = ap (λ (x : Call T). cleared_by x.reply) told.1 ∙ clears-nothing told.0 c.event h }

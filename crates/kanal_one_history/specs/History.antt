@@ -15,12 +15,21 @@ module _ {T : Type 0} where
     pub seen : IsPrefix old.log before
     pub last : new.log ≡ before ++ call ∷ []
     pub own : new.own ≡ length before ∷ old.own
+    pub share : new.share ≡ old.share
     pub told : call ≡ call_of call.event (step (line_after capacity before) call.event)
 
   -- the pass has seen more of the history, and made no call
   pub record Looks (old new : Known (Call T)) : Type 0 where
     pub seen : IsPrefix old.log new.log
     pub own : new.own ≡ old.own
+    pub share : new.share ≡ old.share
+
+  -- nobody's call was made: it is the last of a history that goes on from what was seen before, and one line of messages tells so after all the calls before it
+  pub record Cleans (capacity : Option ℕ) (old new : List (Call T)) (call : Call T) : Type 0 where
+    pub before : List (Call T)
+    pub seen : IsPrefix old before
+    pub last : new ≡ before ++ call ∷ []
+    pub told : call ≡ call_of call.event (step (line_after capacity before) call.event)
 
   -- what passes tell of a history on a line of this capacity
   abbrev pub ghost_words : Option ℕ → Words T (Known (Call T))
@@ -30,4 +39,14 @@ module _ {T : Type 0} where
         looks = Looks;
         ends = λ pass line. line ≡ line_after capacity pass.log;
         settled = λ pass pair. HasSettled pass.log pair;
+      }
+
+  -- what is told of calls that are nobody's
+  abbrev pub cleanup_words : Option ℕ → Words T (List (Call T))
+  cleanup_words capacity =
+      record {
+        makes = Cleans capacity;
+        looks = λ old new. IsPrefix old new;
+        ends = λ seen line. line ≡ line_after capacity seen;
+        settled = λ seen pair. HasSettled seen pair;
       }

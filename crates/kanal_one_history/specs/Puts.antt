@@ -1,10 +1,8 @@
 -- What the waits of a history came to, and which messages its calls put and got.
-use Rattle.std.specs.Prelude.{◌≡◌, ℕ, Bool, true, false, List, [], ◌∷◌, Option, Some, None}
+use Rattle.std.specs.Prelude.{◌≡◌, ℕ, false, List, [], ◌∷◌, Option, Some, None}
 use Rattle.kanal_board.specs.Views.{Known}
 use Rattle.kanal_core.specs.declared.internal.outcome.Outcome.{Outcome}
 use Rattle.kanal_core.specs.declared.internal.outcome.Outcome.TheVariants.{Taken, Given}
-use Rattle.kanal_events.specs.declared.event.Event.{Event}
-use Rattle.kanal_events.specs.declared.event.Event.TheVariants.{Withdraw, CloneTx, CloneRx, DropTx, DropRx, Seal, Ask as Asks, Terminated}
 use Rattle.kanal_journal.specs.Paired.{Demand, AtOnce, Later, Next, asked, cleared_by, given, gift_of, is_ended, is_gone, sent}
 use Rattle.kanal_journal.specs.Laws.{EndsOnce}
 use Rattle.kanal_history.specs.declared.call.Call.{Call}
@@ -54,19 +52,7 @@ module _ {T : Type 0} where
     pub clears : cleared_by call.reply ≡ 0
 
   -- the call put no message, asked for none, and cleared none
-  pub record IsSilent (call : Call T) : Type 0 where
+  pub record ExchangesNothing (call : Call T) : Type 0 where
     pub sends : sent call.event call.reply ≡ []
     pub asks : asked call.event call.reply ≡ []
     pub clears : cleared_by call.reply ≡ 0
-
-  -- a call of this event puts no message, asks for none and clears none, whatever it is answered
-  abbrev pub neither_puts_nor_gets : Event T → Bool
-  neither_puts_nor_gets (Withdraw t) = true
-  neither_puts_nor_gets CloneTx = true
-  neither_puts_nor_gets CloneRx = true
-  neither_puts_nor_gets DropTx = true
-  neither_puts_nor_gets DropRx = true
-  neither_puts_nor_gets Seal = true
-  neither_puts_nor_gets (Asks side ask) = true
-  neither_puts_nor_gets Terminated = true
-  neither_puts_nor_gets event = false

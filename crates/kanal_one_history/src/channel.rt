@@ -4,6 +4,7 @@
 //! of `kanal_channel`, each of which takes a pass.
 ghost use Rattle.std.specs.Prelude.{◌≡◌, ◌↔◌, [], IfOk, IsErrOf, None, Some};
 ghost use Rattle.kanal_board.specs.Boards.{table_of};
+ghost use Rattle.kanal_board.specs.Shares.{whole};
 ghost use Rattle.kanal_board.specs.Views.{known};
 ghost use Rattle.kanal_core.specs.Line.{last_word};
 
@@ -38,13 +39,12 @@ pub fn bounded<T: Drop, J: Naming>(
 ) -> Result<(Channel<T, J>, Pass<T, J>), NewError>
     requires name { table_of opened ≡ J.table }
     requires capacity { J.capacity ≡ Some capacity }
-    ensures fresh { IfOk result (λ r. r.1 ≡ known [] []) }
+    ensures fresh { IfOk result (λ r. r.1 ≡ known [] [] whole) }
     ensures large { IsErrOf result NewError.TooLarge ↔ (capacity ≡ last_word) }
 {
     let core = ChannelInternal::new(alloc, capacity)?;
-    let (board, mut history) = GhostHistory::opened(opened);
-    let cleanup = history.pass(&board);
-    let pass = history.pass(&board);
+    let (board, mut history, pass) = GhostHistory::opened(opened);
+    let cleanup = history.cleanup(&board);
     Ok((Shared::new(core, history, cleanup, board, alloc), pass))
 }
 
@@ -64,11 +64,10 @@ pub fn unbounded<T: Drop, J: Naming>(
 ) -> (Channel<T, J>, Pass<T, J>)
     requires name { table_of opened ≡ J.table }
     requires capacity { J.capacity ≡ None }
-    ensures fresh { result.1 ≡ known [] [] }
+    ensures fresh { result.1 ≡ known [] [] whole }
 {
     let core = ChannelInternal::unbounded(alloc);
-    let (board, mut history) = GhostHistory::opened(opened);
-    let cleanup = history.pass(&board);
-    let pass = history.pass(&board);
+    let (board, mut history, pass) = GhostHistory::opened(opened);
+    let cleanup = history.cleanup(&board);
     (Shared::new(core, history, cleanup, board, alloc), pass)
 }

@@ -4,9 +4,10 @@
 //! line after them.
 ghost use Rattle.std.specs.Prelude.{◌≡◌, []};
 ghost use Rattle.kanal_board.specs.Boards.{table_of};
+ghost use Rattle.kanal_board.specs.Shares.{whole};
 ghost use Rattle.kanal_board.specs.Views.{known};
 
-use crate::pass::{Pass, Prefix};
+use crate::pass::{Cleanup, Pass, Prefix};
 use kanal_board::{Board, EntryOf, Keeper, Naming, Opened};
 use kanal_history::{Call, History};
 use std::marker::Model;
@@ -32,33 +33,34 @@ impl<T, J: Naming> Model for GhostHistory<T, J> {
 }
 
 impl<T, J: Naming> GhostHistory<T, J> {
-    /// The board under a name, and a history of no calls on it. The caller knows that the name is this
-    /// board's.
+    /// The board under a name, a history of no calls on it, and its first pass, which has all of the right to
+    /// add calls. The caller knows that the name is this board's.
     ///
     /// # Examples
     /// ```text
-    /// let (board, mut history) = GhostHistory::<u64, J>::opened(opened);
-    /// history.pass(&board)   answers  a pass that has seen nothing
+    /// let (board, mut history, pass) = GhostHistory::<u64, J>::opened(opened);
+    /// pass   has seen nothing
     /// ```
-    pub fn opened(opened: Opened<Call<T>>) -> (Board<Call<T>, J>, GhostHistory<T, J>)
+    pub fn opened(opened: Opened<Call<T>>) -> (Board<Call<T>, J>, GhostHistory<T, J>, Pass<T, J>)
         requires name { table_of opened ≡ J.table }
         ensures empty { result.1 ≡ [] }
+        ensures first { result.2 ≡ known [] [] whole }
     {
-        let (board, keeper) = opened.named::<J>();
-        (board, GhostHistory { keeper })
+        let (board, keeper, front) = opened.named::<J>();
+        (board, GhostHistory { keeper }, Pass { front })
     }
 
-    /// A pass that has seen all, and owns nothing.
+    /// What makes the calls that are nobody's. It has seen all.
     ///
     /// # Examples
     /// ```text
-    /// history.pass(&board)   answers  a pass that has seen all calls
+    /// let cleanup = history.cleanup(&board);
     /// ```
-    pub fn pass(&mut self, board: &Board<Call<T>, J>) -> Pass<T, J>
-        ensures all { result ≡ known self.old [] }
+    pub fn cleanup(&mut self, board: &Board<Call<T>, J>) -> Cleanup<T, J>
+        ensures all { result ≡ self.old }
         ensures same { self.new ≡ self.old }
     {
-        Pass {
+        Cleanup {
             front: self.keeper.read(board),
         }
     }
@@ -67,8 +69,10 @@ impl<T, J: Naming> GhostHistory<T, J> {
 impl<T, J: Naming> History<T> for GhostHistory<T, J> {
     ghost use Rattle.std.specs.Prelude.{◌≡◌};
     ghost use Rattle.kanal_one_history.specs.Calls.{HasSettled, line_after};
-    ghost use Rattle.kanal_one_history.specs.History.{ghost_words};
-    ghost use Rattle.kanal_one_history.specs.Sound.{ghost_sound};
+    ghost use Rattle.kanal_one_history.specs.Exchanged.{ghost_exchanges};
+    ghost use Rattle.kanal_one_history.specs.History.{cleanup_words, ghost_words};
+    ghost use Rattle.kanal_one_history.specs.Puts.{Exchanges};
+    ghost use Rattle.kanal_one_history.specs.Sound.{cleanup_sound, ghost_sound};
 
     type Pass = Pass<T, J>;
 
@@ -76,9 +80,15 @@ impl<T, J: Naming> History<T> for GhostHistory<T, J> {
 
     type Prefix = Prefix<T, J>;
 
+    type Cleanup = Cleanup<T, J>;
+
     ghost stands = { λ calls line. line ≡ line_after J.capacity calls };
 
     ghost words = { ghost_words J.capacity };
+
+    ghost cleans = { cleanup_words J.capacity };
+
+    ghost exchanges = { Exchanges J.capacity };
 
     ghost shows = { λ calls pair. HasSettled calls pair };
 
@@ -95,13 +105,30 @@ impl<T, J: Naming> History<T> for GhostHistory<T, J> {
     }
 
     #[inline(always)]
+    fn append_silent<X, Y, M: EntryOf<X, Y, Call<T>>>(
+        &mut self,
+        board: &Board<Call<T>, J>,
+        cleanup: &mut Cleanup<T, J>,
+        about: &X,
+        answer: &Y,
+    ) {
+        let keeper = &mut self.keeper;
+        keeper.append_quiet_of::<X, Y, M>(board, &mut cleanup.front, about, answer);
+    }
+
+    #[inline(always)]
+    fn cleanup_prefix(board: &Board<Call<T>, J>, cleanup: &mut Cleanup<T, J>) -> Prefix<T, J> {
+        Prefix::of(board, &mut cleanup.front)
+    }
+
+    #[inline(always)]
     fn show(&mut self, board: &Board<Call<T>, J>, pass: &mut Pass<T, J>) {
         self.keeper.show(board, &mut pass.front);
     }
 
     #[inline(always)]
     fn prefix(board: &Board<Call<T>, J>, pass: &mut Pass<T, J>) -> Prefix<T, J> {
-        Prefix::of(board, pass)
+        Prefix::of(board, &mut pass.front)
     }
 
     #[inline(always)]
@@ -115,4 +142,8 @@ impl<T, J: Naming> History<T> for GhostHistory<T, J> {
     }
 
     ghost sound = { ghost_sound J.capacity };
+
+    ghost cleans_sound = { cleanup_sound J.capacity };
+
+    ghost tells_exchanges = { ghost_exchanges J.capacity };
 }

@@ -4,7 +4,9 @@
 //! itself: the calls are the channel's, which has the board and the lock.
 ghost use Rattle.std.specs.Prelude.{◌≡◌, ◌++◌, ℕ, [], take};
 ghost use mathlib.Core.List.{IsPrefix};
-ghost use Rattle.kanal_board.specs.Views.{AreApart, AreDistinct, OneBegins, known};
+ghost use Rattle.kanal_board.specs.Shares.{IsWhole, both, half};
+ghost use Rattle.kanal_board.specs.Views.{AreApart, AreDistinct, OneBegins, OwnsAllButQuiet, known};
+ghost use Rattle.kanal_history.specs.Calls.{IsSilent};
 ghost use Rattle.kanal_journal.specs.Paired.{Paired};
 ghost use Rattle.kanal_one_history.specs.Accounts.{LeadsAsTold};
 ghost use Rattle.kanal_one_history.specs.Calls.{IsLegal, history_of};
@@ -16,14 +18,16 @@ use std::marker::Model;
 
 /// What a caller has seen of a channel's history, and which calls of it are its own. It takes no bytes.
 ///
-/// Contracts see the calls as `log`, and the places of its own ones, the latest first, as `own`. Dropping a
-/// pass ends nothing: the counts of a channel change by calls alone.
+/// Contracts see the calls as `log`, the places of its own ones, the latest first, as `own`, and as `share` its
+/// share of the right to add calls, which it always has. Dropping a pass ends nothing: the counts of a channel
+/// change by calls alone.
 #[derive(Drop)]
 pub struct Pass<T, J: Naming> {
     pub(crate) front: Front<Call<T>, J>,
 }
 
 impl<T, J: Naming> Model for Pass<T, J> {
+    ghost use Rattle.kanal_board.specs.Shares.{HasShare};
     ghost use Rattle.kanal_board.specs.Views.{Known};
     ghost use Rattle.kanal_history.specs.declared.call.Call.{Call};
     ghost use Rattle.kanal_one_history.specs.Calls.{IsLegal};
@@ -32,7 +36,7 @@ impl<T, J: Naming> Model for Pass<T, J> {
 
     ghost view = { λ p. p.front };
 
-    ghost invariant = { λ p. IsLegal J.capacity p.front.log };
+    ghost invariant = { λ p. IsLegal J.capacity p.front.log × HasShare p.front.share };
 }
 
 impl<T, J: Naming> Pass<T, J> {
@@ -59,24 +63,24 @@ impl<T, J: Naming> Pass<T, J> {
         let _ = &self.front;
     }
 
-    /// A pass for another thread, which has seen as much and owns no call. It is no call itself, counts no
-    /// sender and no receiver, and waits for nobody.
+    /// A pass for another thread, which has seen as much and owns no call. Each of the two has half of the
+    /// share. It is no call itself, counts no sender and no receiver, and waits for nobody.
     ///
     /// # Examples
     /// ```text
     /// let other = pass.again(&board);   goes to another thread
     /// ```
     pub fn again(&mut self, board: &Board<Call<T>, J>) -> Self
-        ensures copy { result ≡ known self.old.log [] }
-        ensures same { self.new ≡ self.old }
+        ensures copy { result ≡ known self.old.log [] (half self.old.share) }
+        ensures same { self.new ≡ known self.old.log self.old.own (half self.old.share) }
     {
         Pass {
             front: self.front.again(board),
         }
     }
 
-    /// Hands on what another pass has seen: this one has seen it, too, and owns the calls of both. It
-    /// waits for nobody.
+    /// Hands on what another pass has seen: this one has seen it, too, owns the calls of both, and has both
+    /// shares. It waits for nobody.
     ///
     /// Each later call of this pass stands in the history after all that it has learnt of.
     ///
@@ -89,9 +93,25 @@ impl<T, J: Naming> Pass<T, J> {
         ensures that { IsPrefix other.log self.new.log }
         ensures one { OneBegins self.old.log other.log }
         ensures own { self.new.own ≡ other.own ++ self.old.own }
+        ensures share { self.new.share ≡ both other.share self.old.share }
     {
         let Pass { front } = other;
         self.front.learn(board, front);
+    }
+
+    /// A pass that has all of the right to add calls owns each call that it has seen, but for calls of nobody's,
+    /// which put no message, ask for none and clear none. It changes nothing, and waits for nobody.
+    ///
+    /// # Examples
+    /// ```text
+    /// one.owns_all(&board);   where all other passes came back by `learn`
+    /// ```
+    pub fn owns_all(&mut self, board: &Board<Call<T>, J>)
+        requires whole { IsWhole self.old.share }
+        ensures same { self.new ≡ self.old }
+        ensures each { OwnsAllButQuiet (λ call. IsSilent call.event) self.old.log self.old.own }
+    {
+        self.front.owns_all(board);
     }
 
     /// Two passes have seen beginnings of one history: one of the two begins with the other. It changes
@@ -129,28 +149,32 @@ impl<T, J: Naming> Pass<T, J> {
 /// see the calls.
 #[derive(Drop)]
 pub struct Prefix<T, J: Naming> {
-    pass: Pass<T, J>,
+    front: Front<Call<T>, J>,
 }
 
 impl<T, J: Naming> Model for Prefix<T, J> {
     ghost use Rattle.std.specs.Prelude.{◌≡◌, List, []};
+    ghost use Rattle.kanal_board.specs.Shares.{nothing};
     ghost use Rattle.kanal_history.specs.declared.call.Call.{Call};
+    ghost use Rattle.kanal_one_history.specs.Calls.{IsLegal};
 
     ghost Value = { List (Call T) };
 
-    ghost view = { λ p. p.pass.log };
+    ghost view = { λ p. p.front.log };
 
-    ghost invariant = { λ p. p.pass.own ≡ [] };
+    ghost invariant = { λ p. IsLegal J.capacity p.front.log × (p.front.own ≡ [])
+        × (p.front.share ≡ nothing) };
 }
 
 impl<T, J: Naming> Prefix<T, J> {
-    /// What the pass has seen.
-    pub(crate) fn of(board: &Board<Call<T>, J>, pass: &mut Pass<T, J>) -> Self
-        ensures seen { result ≡ pass.old.log }
-        ensures same { pass.new ≡ pass.old }
+    /// What the front has seen.
+    pub(crate) fn of(board: &Board<Call<T>, J>, front: &mut Front<Call<T>, J>) -> Self
+        requires legal { IsLegal J.capacity front.old.log }
+        ensures seen { result ≡ front.old.log }
+        ensures same { front.new ≡ front.old }
     {
         Prefix {
-            pass: pass.again(board),
+            front: front.read(board),
         }
     }
 
@@ -159,9 +183,7 @@ impl<T, J: Naming> Prefix<T, J> {
         ensures seen { result ≡ self.old }
         ensures same { self.new ≡ self.old }
     {
-        Prefix {
-            pass: self.pass.again(board),
-        }
+        Prefix::of(board, &mut self.front)
     }
 
     /// The pass learns it, and makes no call.
@@ -169,8 +191,28 @@ impl<T, J: Naming> Prefix<T, J> {
         ensures this { IsPrefix pass.old.log pass.new.log }
         ensures that { IsPrefix self pass.new.log }
         ensures own { pass.new.own ≡ pass.old.own }
+        ensures share { pass.new.share ≡ pass.old.share }
     {
-        let Prefix { pass: seen } = self;
-        pass.learn(board, seen);
+        let Prefix { front } = self;
+        pass.front.learn(board, front);
     }
+}
+
+/// What makes the calls that are nobody's: the drops of handles, and the withdrawals of waits that were left.
+/// It takes no bytes, and contracts see the calls that it has seen.
+#[derive(Drop)]
+pub struct Cleanup<T, J: Naming> {
+    pub(crate) front: Front<Call<T>, J>,
+}
+
+impl<T, J: Naming> Model for Cleanup<T, J> {
+    ghost use Rattle.std.specs.Prelude.{List};
+    ghost use Rattle.kanal_history.specs.declared.call.Call.{Call};
+    ghost use Rattle.kanal_one_history.specs.Calls.{IsLegal};
+
+    ghost Value = { List (Call T) };
+
+    ghost view = { λ c. c.front.log };
+
+    ghost invariant = { λ c. IsLegal J.capacity c.front.log };
 }

@@ -45,7 +45,7 @@ pub struct Locked<'a, T, H: History<T>> {
     shared: &'a Shared<T, H>,
     /// What the lock lends.
     pub state: MutexGuard<'a, State<T, H>>,
-    cleanup: Snapshot<H::Pass>,
+    cleanup: Snapshot<H::Cleanup>,
     held: bool,
 }
 
@@ -115,7 +115,7 @@ impl<T: Drop, H: History<T>> Locked<'_, T, H> {
         }
     }
 
-    /// Releases the lock after a call of a caller's pass: the cleanup pass made none.
+    /// Releases the lock after a call of a caller's pass: no call of nobody's was made.
     ///
     /// # Examples
     /// ```text
@@ -129,7 +129,7 @@ impl<T: Drop, H: History<T>> Locked<'_, T, H> {
         self.release_after();
     }
 
-    /// Releases the lock after a call of the cleanup pass.
+    /// Releases the lock after a call of nobody's.
     #[inline]
     pub(crate) fn release_after(self) {
         let Locked {

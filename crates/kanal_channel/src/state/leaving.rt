@@ -1,16 +1,17 @@
 //! The calls that are nobody's: of a handle that is gone, and of a wait that was left.
 //!
-//! Stands on the state and on the tokens of `counted`. They are made by the cleanup pass, and only here: what
-//! a handle's drop or a notice counts out, it counts out by such a call.
-ghost use Rattle.std.specs.Prelude.{◌≡◌, IfNone, IfSome, true};
+//! Stands on the state and on the tokens of `counted`. They are made here alone: what a handle's drop or a
+//! notice counts out, it counts out by such a call.
+ghost use Rattle.std.specs.Prelude.{◌≡◌, IfNone, IfSome};
 ghost use Rattle.kanal_core.specs.Channel.{line_of};
 ghost use Rattle.kanal_core.specs.Tickets.{number_of};
 ghost use Rattle.kanal_events.specs.Steps.{Tells};
-ghost use Rattle.kanal_events.specs.Made.{is_plain, settled_of, told_of, withdrawn};
-ghost use Rattle.kanal_history.specs.Makes.{IsNoted};
+ghost use Rattle.kanal_events.specs.Made.{settled_of, told_of, withdrawn};
+ghost use Rattle.kanal_history.specs.Calls.{IsDrop};
+ghost use Rattle.kanal_history.specs.Entries.{call_from};
 ghost use Rattle.kanal_history.specs.Words.{HaveShown};
 
-use super::{Asked, OfCall, OfWithdrawal, State, note};
+use super::{Asked, OfCall, OfWithdrawal, State};
 use crate::counted::{
     CountedReceiver, CountedSender, CountedWait, GoneReceivers, GoneSenders, GoneWaits,
 };
@@ -28,7 +29,7 @@ use std::snapshot::Snapshot;
 /// How many waits that were left are withdrawn at most at once: more are never there.
 const MOST: u64 = 1 << 62;
 
-/// What the drop of a last handle ended, with what the cleanup pass has seen of it. It has to be told.
+/// What the drop of a last handle ended, with what was seen of it. It has to be told.
 pub(crate) struct Gone<T, H: History<T>> {
     made: Made<T, Seat<T, H>>,
     prefix: H::Prefix,
@@ -63,22 +64,28 @@ fn take_room<T: Drop, H: History<T>>(core: &mut Core<T, H>, ticket: Ticket) -> O
 }
 
 impl<T: Drop, H: History<T>> State<T, H> {
-    /// Makes a call of nobody's that never waits, and answers what the cleanup pass has seen then.
-    fn by_cleanup(&mut self, board: &H::Board, event: Event<T>) -> (Made<T, Seat<T, H>>, H::Prefix)
-        requires plain { is_plain event ≡ true }
-        ensures noted { IsNoted H.words self.old.0 self.new.0 event result.0 }
+    /// Makes the drop of a handle as a call of nobody's, and answers what was seen then.
+    fn by_nobody(&mut self, board: &H::Board, event: Event<T>) -> (Made<T, Seat<T, H>>, H::Prefix)
+        requires drops { IsDrop event }
+        ensures made { H.cleans.makes self.old.0 self.new.0 (call_from event result.0) }
         ensures told { Tells self.old.1 event (told_of self.new.1 result.0) }
         ensures seen { HaveShown H.shows result.1 (settled_of result.0) }
     {
         let asked = Snapshot::of(&event);
         let made = steps::make(&mut self.core, event);
-        note(&mut self.history, board, &mut self.cleanup, &asked, &made);
-        let prefix = H::prefix(board, &mut self.cleanup);
+        let history = &mut self.history;
+        history.append_silent::<Asked<T>, Made<T, Seat<T, H>>, OfCall>(
+            board,
+            &mut self.cleanup,
+            &asked,
+            &made,
+        );
+        let prefix = H::cleanup_prefix(board, &mut self.cleanup);
         (made, prefix)
     }
 
     /// Takes the wait with this ticket back, if it waits, as a call of nobody's.
-    fn withdraw_by_cleanup(
+    fn withdraw_by_nobody(
         &mut self,
         board: &H::Board,
         ticket: Ticket,
@@ -89,7 +96,7 @@ impl<T: Drop, H: History<T>> State<T, H> {
     {
         let waiter = steps::withdraw(&mut self.core, ticket)?;
         let history = &mut self.history;
-        history.append::<Ticket, Waiter<T, Seat<T, H>>, OfWithdrawal>(
+        history.append_silent::<Ticket, Waiter<T, Seat<T, H>>, OfWithdrawal>(
             board,
             &mut self.cleanup,
             &ticket,
@@ -111,7 +118,7 @@ impl<T: Drop, H: History<T>> State<T, H> {
         };
         let before = Snapshot::of(&self.cleanup);
         let history = &mut self.history;
-        history.append::<Ticket, Waiter<T, Seat<T, H>>, OfWithdrawal>(
+        history.append_silent::<Ticket, Waiter<T, Seat<T, H>>, OfWithdrawal>(
             board,
             &mut self.cleanup,
             &ticket,
@@ -121,7 +128,7 @@ impl<T: Drop, H: History<T>> State<T, H> {
         Some(waiter)
     }
 
-    /// Makes the drop of this sender as a call of nobody's, and answers what the cleanup pass has seen then.
+    /// Makes the drop of this sender as a call of nobody's, and answers what was seen then.
     fn sender_out(
         &mut self,
         board: &H::Board,
@@ -131,12 +138,12 @@ impl<T: Drop, H: History<T>> State<T, H> {
         ensures seen { HaveShown H.shows result.1 (settled_of result.0) }
     {
         let before = Snapshot::of(&self.cleanup);
-        let (made, prefix) = self.by_cleanup(board, Event::DropTx);
+        let (made, prefix) = self.by_nobody(board, Event::DropTx);
         counted.count_out::<T, Seat<T, H>, H>(&before, &self.cleanup, &made);
         (made, prefix)
     }
 
-    /// Makes the drop of this receiver as a call of nobody's, and answers what the cleanup pass has seen then.
+    /// Makes the drop of this receiver as a call of nobody's, and answers what was seen then.
     fn receiver_out(
         &mut self,
         board: &H::Board,
@@ -146,7 +153,7 @@ impl<T: Drop, H: History<T>> State<T, H> {
         ensures seen { HaveShown H.shows result.1 (settled_of result.0) }
     {
         let before = Snapshot::of(&self.cleanup);
-        let (made, prefix) = self.by_cleanup(board, Event::DropRx);
+        let (made, prefix) = self.by_nobody(board, Event::DropRx);
         counted.count_out::<T, Seat<T, H>, H>(&before, &self.cleanup, &made);
         (made, prefix)
     }
@@ -167,8 +174,8 @@ impl<T: Drop, H: History<T>> State<T, H> {
         Gone { made, prefix }
     }
 
-    /// What the cleanup pass is now, for proofs alone.
-    pub(crate) fn cleanup(&self) -> Snapshot<H::Pass>
+    /// What makes the calls of nobody's as it is now, for proofs alone.
+    pub(crate) fn cleanup(&self) -> Snapshot<H::Cleanup>
         ensures { result.value ≡ self.now.0 }
     {
         Snapshot::of(&self.cleanup)
@@ -231,7 +238,7 @@ impl<T: Drop, H: History<T>> State<T, H> {
             let Some(room) = take_room(&mut self.core, ticket) else {
                 return leavers;
             };
-            let Some(waiter) = self.withdraw_by_cleanup(board, ticket) else {
+            let Some(waiter) = self.withdraw_by_nobody(board, ticket) else {
                 drop(room);
                 return leavers;
             };

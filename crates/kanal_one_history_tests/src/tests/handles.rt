@@ -35,9 +35,8 @@ fn handles<J: Naming>(
     requires capacity { J.capacity ≡ Some capacity }
 {
     let core = ChannelInternal::new(alloc, capacity)?;
-    let (board, mut history) = GhostHistory::opened(opened);
-    let cleanup = history.pass(&board);
-    let pass = history.pass(&board);
+    let (board, mut history, pass) = GhostHistory::opened(opened);
+    let cleanup = history.cleanup(&board);
     let (sender, receiver) = kanal::over(alloc, core, history, cleanup, board)?;
     Ok((sender, receiver, pass))
 }

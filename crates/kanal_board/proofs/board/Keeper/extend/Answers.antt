@@ -1,11 +1,12 @@
-use Rattle.std.proofs.Common.{sym, ◌∙◌, ap, [], false, refl}
+use Rattle.std.proofs.Common.{◌≡◌, sym, ◌∙◌, ap, subst}
+use Rattle.kanal_board.specs.Views.{MayAdd}
 use Rattle.kanal_board.proofs.Moves.{goes, meets, extends, parts}
 use Rattle.kanal_board.proofs.board.Keeper.extend.Goals as goal
 
 pub split_seat-whole-requires : goal.split_seat-whole-requires
 split_seat-whole-requires g c =
     let b = c.args.board.now in
-    (c.front.invariant.0 ∙ sym b.named, b.words, goes c.front.inside.seat.id c.front.inside.seat.me.0 (ap (λ m. m.0.keeps) c.front.invariant.1))
+    (c.front.invariant.0 ∙ sym b.named, b.words, goes g.E.Entry.quiet c.front.inside.seat.id c.front.inside.seat.me.0 (ap (λ m. m.0.keeps) c.front.invariant.1))
 
 pub join_seat-requires : goal.join_seat-requires
 join_seat-requires g c =
@@ -16,21 +17,25 @@ join_seat-requires g c =
       s.3 ∙ c.front.invariant.0 ∙ sym b.named,
       ap (λ m. m.1) s.4,
       b.words,
-      meets c.self.inside.seat.id c.self.inside.seat.me.0 whole.id whole.me.0,
+      meets g.E.Entry.quiet c.self.inside.seat.id c.self.inside.seat.me.0 whole.id whole.me.0 (ap (λ m. m.0.others_own) c.self.invariant.1) (ap (λ m. m.0.others_own) s.4 ∙ ap (λ m. m.0.others_own) c.front.invariant.1),
     )
 
 pub load-requires : goal.load-requires
 load-requires g c =
     let b = c.args.board.now in
     let j = c.join_seat.ensures in
-    let me = c.join_seat.new.seat.me in (
+    let me = c.join_seat.new.seat.me in
+    let joined : c.join_seat.new.seat.me.0.others_share ≡ c.split_seat-whole.result.me.0.share = ap (λ m. m.0.others_share) j.2 in
+    let went : c.split_seat-whole.result.me.0.share ≡ c.front.inside.seat.me.0.share = ap (λ m. m.0.share) c.split_seat-whole.ensures.4 in
+    let seen : c.front.inside.seat.me.0.share ≡ c.args.front.now.share = ap (λ k. k.share) c.front.view_is in (
       j.0 ∙ c.self.invariant.0 ∙ sym b.named,
       b.words,
-      extends b.table.shared.table_id.slots c.join_seat.new.seat.id 0 me g.N.More.more (ap (λ m. m.0.keeps) j.2 ∙ ap (λ m. m.0.keeps) c.self.invariant.1),
+      extends g.E.Entry.quiet b.table.shared.table_id.slots c.join_seat.new.seat.id 0 me g.N.More.more (ap (λ m. m.0.keeps) j.2 ∙ ap (λ m. m.0.keeps) c.self.invariant.1)
+          (subst (λ x. MayAdd g.E.Entry.quiet x g.N.More.more) (sym (joined ∙ went ∙ seen)) c.requires.may),
     )
 
 pub split_seat-seat-requires : goal.split_seat-seat-requires
 split_seat-seat-requires g c =
     let b = c.args.board.now in
     let l = c.load.ensures in
-    (l.0 ∙ c.join_seat.ensures.0 ∙ c.self.invariant.0 ∙ sym b.named, b.words, parts c.load.new.seat.id c.load.new.seat.me.0)
+    (l.0 ∙ c.join_seat.ensures.0 ∙ c.self.invariant.0 ∙ sym b.named, b.words, parts g.E.Entry.quiet c.load.new.seat.id c.load.new.seat.me.0)

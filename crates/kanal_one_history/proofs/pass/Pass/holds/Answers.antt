@@ -8,19 +8,19 @@ use Rattle.kanal_one_history.proofs.pass.Pass.holds.Goals as goal
 pub returns-clause-paired : goal.returns-clause-paired
 returns-clause-paired g c n =
     let capacity = g.J.Naming.capacity in
-    legal_paired_at capacity c.args.self.now.log (subst (λ k. IsLegal capacity k.log) c.self.view_is c.self.invariant) n
+    legal_paired_at capacity c.args.self.now.log (subst (λ k. IsLegal capacity k.log) c.self.view_is c.self.invariant.0) n
 
 pub returns-clause-ends_once : goal.returns-clause-ends_once
 returns-clause-ends_once g c =
     let capacity = g.J.Naming.capacity in
-    each_ends_once capacity c.args.self.now.log (subst (λ k. IsLegal capacity k.log) c.self.view_is c.self.invariant)
+    each_ends_once capacity c.args.self.now.log (subst (λ k. IsLegal capacity k.log) c.self.view_is c.self.invariant.0)
 
 pub returns-clause-as_settled : goal.returns-clause-as_settled
 returns-clause-as_settled g c =
     let capacity = g.J.Naming.capacity in
-    waits_as_settled capacity c.args.self.now.log (subst (λ k. IsLegal capacity k.log) c.self.view_is c.self.invariant)
+    waits_as_settled capacity c.args.self.now.log (subst (λ k. IsLegal capacity k.log) c.self.view_is c.self.invariant.0)
 
 pub returns-clause-leads : goal.returns-clause-leads
 returns-clause-leads g c =
     let capacity = g.J.Naming.capacity in
-    leads_as_told capacity c.args.self.now.log (subst (λ k. IsLegal capacity k.log) c.self.view_is c.self.invariant)
+    leads_as_told capacity c.args.self.now.log (subst (λ k. IsLegal capacity k.log) c.self.view_is c.self.invariant.0)

@@ -1,0 +1,14 @@
+use Rattle.kanal_core.specs.Channel.{line_of}
+use Rattle.kanal_channel.proofs.Noting.{drop_on}
+use Rattle.kanal_channel.proofs.Settling.{all_shown, made_settled}
+use Rattle.kanal_channel.proofs.state.State.by_nobody.Goals as goal
+
+pub append_silent-requires : goal.append_silent-requires
+append_silent-requires g c =
+    let on = drop_on (line_of c.self.inside.core) _ c.args.event c.of-asked.result.value c.make-made.result c.of-asked.ensures c.requires.drops c.make-made.ensures.told in
+    record { told = (line_of c.self.inside.core, c.self.invariant, on.0); silent = on.1 }
+
+pub returns-clause-seen : goal.returns-clause-seen
+returns-clause-seen g c =
+    let w = g.H.History.cleans in
+    all_shown w g.H.History.shows c.append_silent.new.cleanup c.cleanup_prefix-prefix.result c.cleanup_prefix-prefix.ensures.settled _ (made_settled w g.met.H.History.cleans_sound c.self.inside.cleanup c.append_silent.new.cleanup _ c.append_silent.ensures.made)

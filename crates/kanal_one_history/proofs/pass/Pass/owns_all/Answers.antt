@@ -1,0 +1,7 @@
+use Rattle.std.proofs.Common.{subst}
+use Rattle.kanal_board.specs.Views.{OwnsAllButQuiet}
+use Rattle.kanal_history.specs.Calls.{IsSilent}
+use Rattle.kanal_one_history.proofs.pass.Pass.owns_all.Goals as goal
+
+pub returns-clause-each : goal.returns-clause-each
+returns-clause-each g c = subst (λ k. OwnsAllButQuiet (λ call. IsSilent call.event) k.log k.own) c.self.view_is c.owns_all.ensures.each

@@ -2,7 +2,8 @@
 //!
 //! Stands on `blocking` and `timed`. Each call here is one event, and its answer is what the reply reads as. A
 //! message leaves by itself where it can; only where it can't the longer ways are gone.
-ghost use Rattle.std.specs.Prelude.{◌≡◌, Err, IfErr, IsErrOf, OnErr};
+ghost use Rattle.std.specs.Prelude.{◌≡◌, ◌∷◌, [], Err, IfErr, IfOk, IsErrOf, OnErr};
+ghost use Rattle.std.specs.Option.{option_to_list};
 ghost use Rattle.std.specs.Duration.{as_nanos};
 ghost use Rattle.std.specs.Vec.{vec_capacity, vec_len};
 ghost use Rattle.kanal_history.specs.Handles.{Drains, Receives, ReceivesInTime, TriesToReceive, TriesToReceiveNow};
@@ -43,6 +44,7 @@ impl<T: Drop, H: History<T>> Shared<T, H> {
     #[inline]
     pub fn recv<R: Wait>(&self, rt: &R, pass: &mut H::Pass) -> Result<T, ReceiveError>
         ensures received { Receives H.words pass.old pass.new result }
+        ensures got { IfOk result (λ message. H.exchanges pass.old pass.new [] (message ∷ [])) }
     {
         let mut locked = self.hold(rt);
         match locked.state.pop(&self.board, pass) {
@@ -83,8 +85,11 @@ impl<T: Drop, H: History<T>> Shared<T, H> {
     /// shared.try_recv(&rt, &mut pass)   answers  Ok(None)   in a new channel
     /// ```
     #[inline]
+    #[tactic(auto, using(kanal_history::proofs::Exchanging::tries_got))]
     pub fn try_recv<R: Wait>(&self, rt: &R, pass: &mut H::Pass) -> Result<Option<T>, ReceiveError>
         ensures received { TriesToReceive H.words pass.old pass.new result }
+        ensures got { IfOk result (λ came.
+            H.exchanges pass.old pass.new [] (option_to_list came)) }
     {
         let mut locked = self.hold(rt);
         match locked.state.try_pop(&self.board, pass) {
@@ -149,7 +154,7 @@ impl<T: Drop, H: History<T>> Shared<T, H> {
     /// shared.recv_timeout(&rt, &mut pass, Duration::from_nanos(1), &clock)
     ///     answers  Err(Timeout)   where nobody sends
     /// ```
-    #[tactic(auto, using(crate::proofs::Settling::free_replied))]
+    #[tactic(auto, using(crate::proofs::Settling::free_replied, kanal_history::proofs::Exchanging::receives_in_time_got))]
     pub fn recv_timeout<R: Wait + time::Clock, C: Clock>(
         &self,
         rt: &R,
@@ -159,6 +164,7 @@ impl<T: Drop, H: History<T>> Shared<T, H> {
     ) -> Result<T, ReceiveErrorTimeout>
         ensures received { ReceivesInTime H.words pass.old pass.new (C.answers clock.now)
             (as_nanos duration) result }
+        ensures got { IfOk result (λ message. H.exchanges pass.old pass.new [] (message ∷ [])) }
     {
         let moment = clock.now();
         let Some(deadline) = later(moment, duration) else {

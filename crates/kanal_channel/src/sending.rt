@@ -2,7 +2,7 @@
 //!
 //! Stands on `blocking` and `timed`. Each call here is one event, and its answer is what the reply reads as. A
 //! message enters by itself where it can; only where it can't the longer ways are gone.
-ghost use Rattle.std.specs.Prelude.{◌≡◌, ◌≢◌, IfErr, IfSome, IsSome, None, Ok, true};
+ghost use Rattle.std.specs.Prelude.{◌≡◌, ◌≢◌, ◌∷◌, [], cond, IfErr, IfOk, IfSome, IsSome, None, Ok, true};
 ghost use Rattle.std.specs.Duration.{as_nanos};
 ghost use Rattle.kanal_history.specs.Handles.{Sends, SendsInTime, TriesToSend, TriesToSendNow};
 ghost use Rattle.kanal_history.specs.Makes.{Comes};
@@ -54,6 +54,7 @@ impl<T: Drop, H: History<T>> Shared<T, H> {
     #[inline]
     pub fn send<R: Wait>(&self, rt: &R, pass: &mut H::Pass, message: T) -> Result<(), SendError>
         ensures sent { Sends H.words pass.old pass.new message result }
+        ensures put { IfOk result (λ _. H.exchanges pass.old pass.new (message ∷ []) []) }
     {
         let mut locked = self.hold(rt);
         match locked.state.push(&self.board, pass, message) {
@@ -104,6 +105,8 @@ impl<T: Drop, H: History<T>> Shared<T, H> {
         message: T,
     ) -> Result<bool, SendError>
         ensures sent { TriesToSend H.words pass.old pass.new message result }
+        ensures put { IfOk result (λ entered.
+            H.exchanges pass.old pass.new (cond entered (message ∷ []) []) []) }
     {
         let mut back = None;
         self.offer(rt, pass, message, &mut back)
@@ -274,6 +277,7 @@ impl<T: Drop, H: History<T>> Shared<T, H> {
     ) -> Result<(), SendErrorTimeout>
         ensures sent { SendsInTime H.words pass.old pass.new (C.answers clock.now)
             (as_nanos duration) message result }
+        ensures put { IfOk result (λ _. H.exchanges pass.old pass.new (message ∷ []) []) }
     {
         let mut back = None;
         self.send_before(rt, pass, message, &mut back, duration, clock)

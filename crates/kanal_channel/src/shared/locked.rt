@@ -3,8 +3,8 @@
 //! Stands on the lock, the state and the notices. Whoever gets the lock has all notices applied before its
 //! own step. A call that may wait for the lock then releases it where they took something out, tells that,
 //! and waits for the lock anew; one that may not makes its step at once. The way out releases the lock, tells
-//! what the notices took out and then who has to be told of the step, and looks for new notices. No other
-//! module releases the lock.
+//! what the notices took out and who has to be told of the step, and looks for new notices. No other module
+//! releases the lock.
 ghost use Rattle.std.specs.Prelude.{◌≡◌, false, IfSome};
 ghost use Rattle.kanal_channel.specs.Locks.{IsQuiet, is_held, takes_nothing};
 

@@ -1,9 +1,16 @@
+use Rattle.std.proofs.Common.{Ok}
+use Rattle.kanal_history.proofs.Exchanging.{receives_got}
 use Rattle.kanal_channel.proofs.Settling.{received_at_once, received_from}
 use Rattle.kanal_channel.proofs.shared.Shared.recv.Goals as goal
 
 pub returns-in-Some : goal.returns-in-Some
-returns-in-Some g c = record { received = received_at_once g.H.History.words c.args.pass.now c.pop.new.pass c.in-Some.message c.in-Some.ensures.made c.in-Some.ensures.told }
+returns-in-Some g c =
+    let h = g.H.History in
+    let received = received_at_once h.words c.args.pass.now c.pop.new.pass c.in-Some.message c.in-Some.ensures.made c.in-Some.ensures.told in
+    record { received = received; got = receives_got h.words h.exchanges g.met.H.History.tells_exchanges c.args.pass.now c.pop.new.pass (Ok c.in-Some.message) received }
 
 pub returns-in-None : goal.returns-in-None
 returns-in-None g c =
-    record { received = received_from g.H.History.words c.args.pass.now c.pop.new.pass c.recv_held.new.pass c.recv_held.result c.in-None.ensures.refused c.recv_held.ensures.received }
+    let h = g.H.History in
+    let received = received_from h.words c.args.pass.now c.pop.new.pass c.recv_held.new.pass c.recv_held.result c.in-None.ensures.refused c.recv_held.ensures.received in
+    record { received = received; got = receives_got h.words h.exchanges g.met.H.History.tells_exchanges c.args.pass.now c.recv_held.new.pass c.recv_held.result received }

@@ -1,6 +1,8 @@
 use Rattle.std.proofs.Common.{◌<◌, ◌^◌, refl, inl, subst}
 use Rattle.kanal_events.specs.declared.event.Event.TheVariants.{Recv}
-use Rattle.kanal_history.specs.Handles.{ReceivesBy}
+use Rattle.std.specs.Duration.{as_nanos}
+use Rattle.kanal_history.specs.Handles.{ReceivesBy, ReceivesInTime}
+use Rattle.kanal_history.proofs.Exchanging.{receives_in_time_got}
 use Rattle.kanal_history.specs.Results.{receive_in_time}
 use Rattle.kanal_channel.proofs.Ending.{finishes_by}
 use Rattle.kanal_channel.proofs.shared.Shared.recv_timeout.Goals as goal
@@ -15,10 +17,9 @@ returns g c =
     let result = c.received_in_time.result in
     let finishes = finishes_by w answered c.in-Some.deadline old new Recv receive_in_time c.recv_until.result result c.recv_until.ensures.passed refl c.received_in_time.ensures in
     let sum = c.in-Some.ensures.sum in
-    record {
-      received = (
-        c.now-moment.result,
-        c.now-moment.ensures.answered,
-        inl (subst (λ n. n < 2 ^ 64) sum.0 sum.1, subst (λ n. ReceivesBy w old new answered n result) sum.0 (inl finishes)),
-      );
-    }
+    let received : ReceivesInTime w old new answered (as_nanos c.args.duration) result = (
+      c.now-moment.result,
+      c.now-moment.ensures.answered,
+      inl (subst (λ n. n < 2 ^ 64) sum.0 sum.1, subst (λ n. ReceivesBy w old new answered n result) sum.0 (inl finishes)),
+    ) in
+    record { received = received; got = receives_in_time_got w g.H.History.exchanges g.met.H.History.tells_exchanges old new answered (as_nanos c.args.duration) result received }

@@ -1,10 +1,11 @@
--- Where a call in a task is, and what it began with.
-use Rattle.std.specs.Prelude.{ℕ, Bool, true, false, Option, Some, None}
+-- Where a call in a task is, what it began with, and what is left of a poll.
+use Rattle.std.specs.Prelude.{◌≡◌, ℕ, Bool, true, false, Option, Some, None}
+use Rattle.kanal_channel.specs.Locks.{IsQuiet}
 use Rattle.kanal_futures.specs.declared.asks.Opening.{Opening}
-use Rattle.kanal_futures.specs.declared.progress.Next.{Next}
-use Rattle.kanal_futures.specs.declared.progress.Next.TheVariants.{Begins, Looks, Stays, Ends}
 use Rattle.kanal_futures.specs.declared.progress.Progress.{Progress}
-use Rattle.kanal_futures.specs.declared.progress.Progress.TheVariants.{Zero, Waiting, Lost, Done}
+use Rattle.kanal_futures.specs.declared.progress.Progress.TheVariants.{Zero, Waiting, Done}
+use Rattle.kanal_futures.specs.declared.progress.Rest.{Rest}
+use Rattle.kanal_futures.specs.declared.progress.Rest.TheVariants.{Held, Refused, Begun}
 use Rattle.kanal_futures.specs.declared.wakers.Wakers.{Wakers}
 
 -- the pass as it was, and what was asked
@@ -25,19 +26,28 @@ module _ {T H M A P B S C : Type 0} where
   abbrev pub begun_by : Progress T H M A P B S C → Option (P × M)
   begun_by (Zero pass asked) = Some (pass, asked)
   begun_by (Waiting started) = Some started
-  begun_by (Lost lost) = Some (opened lost.opening)
   begun_by Done = None
 
   -- there is a wait that has to be counted out
   abbrev pub is_waiting : Progress T H M A P B S C → Bool
   is_waiting (Zero pass asked) = false
   is_waiting (Waiting started) = true
-  is_waiting (Lost lost) = true
   is_waiting Done = false
 
-  -- the same, of how the next poll goes on
-  abbrev pub begun_next : Next T H M A P B S C → Option (P × M)
-  begun_next (Begins pass asked) = Some (pass, asked)
-  begun_next (Looks started) = Some started
-  begun_next (Stays lost) = Some (opened lost.opening)
-  begun_next Ends = None
+  -- there is a call that was not made yet
+  abbrev pub is_fresh : Progress T H M A P B S C → Bool
+  is_fresh (Zero pass asked) = true
+  is_fresh (Waiting started) = false
+  is_fresh Done = false
+
+  -- what a call began with of whose poll this is left, beside where its future is
+  abbrev pub begun_with : Rest T H M P B S C → Progress T H M A P B S C → Option (P × M)
+  begun_with (Held locked pass asked) state = Some (pass, asked)
+  begun_with (Refused pass asked) state = Some (pass, asked)
+  begun_with Begun state = begun_by state
+
+  -- a call that was taken out is in the rest alone, and one that was not taken out was made
+  abbrev pub Fits : Rest T H M P B S C → Progress T H M A P B S C → Type 0
+  Fits (Held locked pass asked) state = (begun_by state ≡ None) × IsQuiet locked
+  Fits (Refused pass asked) state = begun_by state ≡ None
+  Fits Begun state = is_fresh state ≡ false

@@ -1,19 +1,15 @@
 //! Where a call in a task is, and what it leaves behind when its future goes.
 //!
-//! Stands on the started wait. The prover refuses to let one go that still waits.
-ghost use Rattle.std.specs.Prelude.{◌≡◌, false};
-ghost use Rattle.kanal_futures.specs.Tasks.{begun_by, begun_next, is_waiting, passes};
+//! Stands on the started wait. The prover refuses to let one go that still waits. A first poll takes the call
+//! out, and makes it where it needs no more than the lock; what more it needs is told by `Rest`.
+ghost use Rattle.std.specs.Prelude.{◌≡◌, false, true, IfNone, IfSome, Some, None};
+ghost use Rattle.kanal_futures.specs.Tasks.{begun_by, is_fresh, is_waiting, passes};
 
-use crate::asks::{Asks, Opening};
+use crate::asks::Asks;
 use crate::started::Started;
-use kanal_channel::{CountedWait, Shared};
+use kanal_channel::{Locked, Shared};
 use kanal_history::History;
-
-/// A wait whose cell told what became of another's wait. No run has shown one; it never answers.
-pub(crate) struct Lost<T, H: History<T>, M> {
-    pub(crate) opening: Opening<H::Pass, M>,
-    pub(crate) counted: CountedWait,
-}
+use std::mem;
 
 /// Where a call in a task is.
 pub(crate) enum Progress<T, H: History<T>, M, A: Asks<T, M>> {
@@ -21,32 +17,18 @@ pub(crate) enum Progress<T, H: History<T>, M, A: Asks<T, M>> {
     Zero(H::Pass, M),
     /// It waits.
     Waiting(Started<T, H, M, A>),
-    /// It was told what became of another's wait.
-    Lost(Lost<T, H, M>),
     /// It has answered.
     Done,
 }
 
-/// The same, taken apart: how the next poll goes on.
-pub(crate) enum Next<T, H: History<T>, M, A: Asks<T, M>> {
-    /// It makes the call.
-    Begins(H::Pass, M),
-    /// It looks for the end of the wait.
-    Looks(Started<T, H, M, A>),
-    /// It never answers.
-    Stays(Lost<T, H, M>),
-    /// It has answered.
-    Ends,
-}
-
-impl<T: Drop, H: History<T>, M: Drop> Lost<T, H, M> {
-    /// Gives the wait up: nobody's call withdraws it, or a notice is left.
-    #[cold]
-    fn leave(self, shared: &Shared<T, H>) {
-        let Lost { opening, counted } = self;
-        drop(opening);
-        shared.leave(counted);
-    }
+/// What is left of a poll that did not answer at once.
+pub(crate) enum Rest<'a, T, H: History<T>, M> {
+    /// The call, with the lock held: there are notices, or no message enters or leaves by itself.
+    Held(Locked<'a, T, H>, H::Pass, M),
+    /// The call: another holds the lock.
+    Refused(H::Pass, M),
+    /// The call was made before.
+    Begun,
 }
 
 impl<T: Drop, H: History<T>, M: Drop, A: Asks<T, M>> Drop for Progress<T, H, M, A> {
@@ -59,29 +41,55 @@ impl<T: Drop, H: History<T>, M: Drop, A: Asks<T, M>> Drop for Progress<T, H, M, 
                 drop(asked);
             },
             Progress::Waiting(_started) => unreachable!(),
-            Progress::Lost(_lost) => unreachable!(),
             Progress::Done => {},
         }
     }
 }
 
 impl<T: Drop, H: History<T>, M: Drop, A: Asks<T, M>> Progress<T, H, M, A> {
-    /// How the next poll goes on from here.
+    /// Takes out the call, where it was not made yet.
     #[inline]
-    pub(crate) fn next(self) -> Next<T, H, M, A>
-        ensures begun { begun_next result ≡ begun_by self }
+    pub(crate) fn take(&mut self) -> Option<(H::Pass, M)>
+        ensures taken { IfSome result (λ call. begun_by self.old ≡ Some call) }
+        ensures over { IfSome result (λ _. begun_by self.new ≡ None) }
+        ensures stays { IfNone result (self.new ≡ self.old) }
+        ensures made { IfNone result (is_fresh self.old ≡ false) }
+    {
+        if !matches!(self, Progress::Zero(_, _)) {
+            return None;
+        }
+        let fresh = mem::replace(self, Progress::Done);
+        Some(fresh.into_call())
+    }
+
+    /// The call that was not made yet.
+    #[inline]
+    fn into_call(self) -> (H::Pass, M)
+        requires fresh { is_fresh self ≡ true }
+        ensures { begun_by self ≡ Some result }
     {
         match self {
-            Progress::Zero(pass, asked) => Next::Begins(pass, asked),
-            Progress::Waiting(started) => Next::Looks(started),
-            Progress::Lost(lost) => Next::Stays(lost),
-            Progress::Done => Next::Ends,
+            Progress::Zero(pass, asked) => (pass, asked),
+            Progress::Waiting(_started) => unreachable!(),
+            Progress::Done => unreachable!(),
         }
     }
 
-    /// Gives up what waits. It waits for nobody.
-    pub(crate) fn leave(self, shared: &Shared<T, H>) {
-        drop(self.into_pass(shared));
+    /// The wait, if there is one.
+    #[inline]
+    pub(crate) fn into_wait(self) -> Option<Started<T, H, M, A>>
+        ensures waits { IfSome result (λ started. begun_by self ≡ Some started) }
+        ensures answered { is_fresh self ≡ false → IfNone result (begun_by self ≡ None) }
+    {
+        match self {
+            Progress::Zero(pass, asked) => {
+                drop(pass);
+                drop(asked);
+                None
+            },
+            Progress::Waiting(started) => Some(started),
+            Progress::Done => None,
+        }
     }
 
     /// The pass, where no call was made yet; what waits is given up. It waits for nobody.
@@ -94,7 +102,6 @@ impl<T: Drop, H: History<T>, M: Drop, A: Asks<T, M>> Progress<T, H, M, A> {
                 return Some(pass);
             },
             Progress::Waiting(started) => started.leave(shared),
-            Progress::Lost(lost) => lost.leave(shared),
             Progress::Done => {},
         }
         None

@@ -2,11 +2,14 @@
 //!
 //! Stands on `receiving`, for each history whose pass has no content.
 ghost use Rattle.std.specs.Prelude.{◌≡◌, ⊤, true, false, Some, Err, Result, codes};
+ghost use Rattle.std.specs.Option.{is_none};
 ghost use Rattle.futures.specs.Task.{Covers, Keeps};
 ghost use Rattle.futures.specs.Poll.{IfReady, OnPending};
 ghost use Rattle.kanal_history.specs.Handles.{Receives};
 ghost use Rattle.kanal_futures.specs.Plain.{receive_future_source, receive_is_over};
+ghost use Rattle.kanal_futures.specs.Tasks.{Fits, begun_with, passes};
 
+use crate::progress::Rest;
 use crate::receiving::{Receiving, recv_in_task};
 use futures::Future;
 use futures::task::{Context, Poll};
@@ -45,6 +48,38 @@ pub fn receive_future<T: Drop, H: History<T, Pass = ()>>(
     }
 }
 
+impl<'a, T: Drop, H: History<T, Pass = ()>> ReceiveFuture<'a, T, H> {
+    /// Goes on with a poll that did not answer at once.
+    #[cold]
+    fn go_on(
+        &mut self,
+        rest: Rest<'a, T, H, ()>,
+        cx: &mut Context<'_>,
+    ) -> Poll<Result<T, ReceiveError>>
+        requires fits { Fits rest self.old.receiving.state }
+        ensures received { IfReady result (λ r.
+            is_none (passes (begun_with rest.entry self.old.receiving.state)) ≡ false
+            → Receives H.words tt tt r) }
+        ensures over { is_none (passes (begun_with rest.entry self.old.receiving.state)) ≡ true
+            → (result ≡ Poll.Ready (Err ReceiveError.Finished))
+            × (receive_is_over self.new ≡ true) }
+        ensures ends { IfReady result (λ _. receive_is_over self.new ≡ true) }
+        ensures goes_on { OnPending result (receive_is_over self.new ≡ false) }
+        ensures registered { OnPending result
+            (Covers cx.new (λ s. s ≡ receive_future_source self.new)) }
+        ensures kept { Keeps cx.old cx.new }
+    {
+        match self.receiving.go_on(rest, cx) {
+            Poll::Ready(Some(received)) => {
+                let (_pass, answer) = received.into_parts();
+                Poll::Ready(answer)
+            },
+            Poll::Ready(None) => Poll::Ready(Err(ReceiveError::Finished)),
+            Poll::Pending => Poll::Pending,
+        }
+    }
+}
+
 impl<T: Drop, H: History<T, Pass = ()>> Future for ReceiveFuture<'_, T, H> {
     type Output = Result<T, ReceiveError>;
 
@@ -78,13 +113,12 @@ impl<T: Drop, H: History<T, Pass = ()>> Future for ReceiveFuture<'_, T, H> {
         ensures ends { IfReady result (λ _. receive_is_over self.new ≡ true) }
         ensures goes_on { OnPending result (receive_is_over self.new ≡ false) }
     {
-        match self.receiving.poll(cx) {
-            Poll::Ready(Some(received)) => {
+        match self.receiving.at_once() {
+            Ok(received) => {
                 let (_pass, answer) = received.into_parts();
                 Poll::Ready(answer)
             },
-            Poll::Ready(None) => Poll::Ready(Err(ReceiveError::Finished)),
-            Poll::Pending => Poll::Pending,
+            Err(rest) => self.go_on(rest, cx),
         }
     }
 }

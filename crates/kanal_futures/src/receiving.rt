@@ -2,18 +2,18 @@
 //!
 //! Stands on the wait of a task. A message leaves by itself where it can; only where it can't the longer ways
 //! are gone.
-ghost use Rattle.std.specs.Prelude.{◌≡◌, ⊤, false, true, IfNone, IfSome, None, Option, Result, Some, codes};
+ghost use Rattle.std.specs.Prelude.{◌≡◌, ⊤, false, true, IfErr, IfNone, IfOk, IfSome, None, Option, Result, Some, codes};
 ghost use Rattle.std.specs.Option.{is_none};
 ghost use Rattle.futures.specs.Task.{Covers, Keeps};
 ghost use Rattle.futures.specs.Poll.{IfReady, OnPending};
 ghost use Rattle.kanal_core.specs.declared.error.ReceiveError.{ReceiveError};
 ghost use Rattle.kanal_history.specs.Handles.{Receives};
 ghost use Rattle.kanal_channel.specs.Locks.{IsQuiet};
-ghost use Rattle.kanal_futures.specs.Tasks.{begun_next, passes};
+ghost use Rattle.kanal_futures.specs.Tasks.{Fits, begun_by, begun_with, is_fresh, passes};
 ghost use Rattle.kanal_futures.specs.Futures.{receive_begun, receive_source, receive_waits};
 
 use crate::asks::{OfReceive, Opening};
-use crate::progress::{Next, Progress};
+use crate::progress::{Progress, Rest};
 use crate::started::Started;
 use crate::wakers::Wakers;
 use futures::Future;
@@ -105,8 +105,12 @@ impl<T: Drop, H: History<T>> Drop for Receiving<'_, T, H> {
             wakers,
             pauses: _,
         } = self;
-        state.leave(shared);
-        drop(wakers);
+        if let Some(started) = state.into_wait() {
+            started.leave(shared);
+        }
+        if let Some(spare) = wakers.into_spare() {
+            drop(spare);
+        }
     }
 }
 
@@ -141,7 +145,7 @@ impl<'a, T: Drop, H: History<T>> Receiving<'a, T, H> {
     pub(crate) fn is_waiting(&self) -> bool
         ensures { result ≡ receive_waits self.now }
     {
-        matches!(self.state, Progress::Waiting(_) | Progress::Lost(_))
+        matches!(self.state, Progress::Waiting(_))
     }
 
     /// The pass, where no wait was started that was not polled to its end and it has not answered; a started
@@ -174,62 +178,56 @@ impl<'a, T: Drop, H: History<T>> Receiving<'a, T, H> {
         self.pauses = Pauses::new();
     }
 
-    /// Takes the front message, where the lock is free.
+    /// Takes the front message, where no call was made yet, the lock is free, and there is no notice.
     #[inline]
-    fn begin(&mut self, pass: H::Pass, cx: &mut Context<'_>) -> Poll<Received<T, H>>
-        requires over { receive_begun self.old ≡ None }
-        ensures begun { IfReady result (λ r. r.0 ≡ pass) }
-        ensures ends { IfReady result (λ _. receive_begun self.new ≡ None) }
-        ensures goes_on { OnPending result (receive_begun self.new ≡ Some pass) }
-        ensures registered { OnPending result (Covers cx.new (λ s. s ≡ receive_source self.new)) }
-        ensures kept { Keeps cx.old cx.new }
+    pub(crate) fn at_once(&mut self) -> Result<Received<T, H>, Rest<'a, T, H, ()>>
+        ensures begun { IfOk result (λ r. receive_begun self.old ≡ Some r.0) }
+        ensures ends { IfOk result (λ _. receive_begun self.new ≡ None) }
+        ensures rest { IfErr result (λ rest. begun_with rest self.new.state
+            ≡ begun_by self.old.state) }
+        ensures fits { IfErr result (λ rest. Fits rest self.new.state) }
         ensures source { receive_source self.new ≡ receive_source self.old }
     {
+        let Some((pass, ())) = self.state.take() else {
+            return Err(Rest::Begun);
+        };
         let Some(mut locked) = self.shared.try_lock() else {
-            self.state = Progress::Zero(pass, ());
-            if self.shared.has_buffer() {
-                self.pauses.pause();
-            }
-            return cx.yield_now();
+            return Err(Rest::Refused(pass, ()));
         };
         if !self.shared.is_quiet() {
-            return self.begin_noticed(locked, pass, cx);
+            return Err(Rest::Held(locked, pass, ()));
         }
         let opening = Opening::of(&pass, &());
         let mut pass = pass;
         match locked.state.pop(self.shared.board(), &mut pass) {
             Some(message) => {
                 locked.give_back_quiet();
-                Poll::Ready(Received::new(opening, pass, Ok(message)))
+                Ok(Received::new(opening, pass, Ok(message)))
             },
-            None => self.begin_quiet(locked, pass, cx),
+            None => Err(Rest::Held(locked, pass, ())),
         }
     }
 
-    /// The same, with the lock held, where there are notices.
+    /// Makes the call later, since another holds the lock.
     #[cold]
-    fn begin_noticed(
-        &mut self,
-        locked: Locked<'_, T, H>,
-        pass: H::Pass,
-        cx: &mut Context<'_>,
-    ) -> Poll<Received<T, H>>
+    fn retry(&mut self, pass: H::Pass, cx: &mut Context<'_>) -> Poll<Received<T, H>>
         requires over { receive_begun self.old ≡ None }
-        ensures begun { IfReady result (λ r. r.0 ≡ pass) }
-        ensures ends { IfReady result (λ _. receive_begun self.new ≡ None) }
-        ensures goes_on { OnPending result (receive_begun self.new ≡ Some pass) }
-        ensures registered { OnPending result (Covers cx.new (λ s. s ≡ receive_source self.new)) }
+        ensures pending { result ≡ Poll.Pending }
+        ensures goes_on { receive_begun self.new ≡ Some pass }
+        ensures registered { Covers cx.new (λ s. s ≡ receive_source self.new) }
         ensures kept { Keeps cx.old cx.new }
         ensures source { receive_source self.new ≡ receive_source self.old }
     {
-        let mut locked = locked;
-        let left = locked.take_left();
-        self.begin_held(locked, left, pass, cx)
+        self.state = Progress::Zero(pass, ());
+        if self.shared.has_buffer() {
+            self.pauses.pause();
+        }
+        cx.yield_now()
     }
 
-    /// The same, where there were none, and no message left the buffer by itself.
+    /// Applies the notices and goes on with the call, with the lock held.
     #[cold]
-    fn begin_quiet(
+    fn begin(
         &mut self,
         locked: Locked<'_, T, H>,
         pass: H::Pass,
@@ -244,7 +242,12 @@ impl<'a, T: Drop, H: History<T>> Receiving<'a, T, H> {
         ensures kept { Keeps cx.old cx.new }
         ensures source { receive_source self.new ≡ receive_source self.old }
     {
-        self.begin_held(locked, Left::nothing(), pass, cx)
+        if self.shared.is_quiet() {
+            return self.begin_held(locked, Left::nothing(), pass, cx);
+        }
+        let mut locked = locked;
+        let left = locked.take_left();
+        self.begin_held(locked, left, pass, cx)
     }
 
     /// Takes the front message, with the lock held and the notices applied; where there is none, the wait
@@ -298,39 +301,60 @@ impl<'a, T: Drop, H: History<T>> Receiving<'a, T, H> {
             Ok((opening, pass, outcome)) => {
                 Poll::Ready(Received::new(opening, pass, received_after(outcome)))
             },
-            Err(progress) => {
-                self.state = progress;
+            Err(waiting) => {
+                self.state = Progress::Waiting(waiting);
                 Poll::Pending
             },
         }
     }
 
-    /// Goes on as its state, which was taken out, has it.
-    fn go_on(
+    /// Goes on with a poll that did not answer at once.
+    #[cold]
+    pub(crate) fn go_on(
         &mut self,
-        next: Next<T, H, (), OfReceive>,
+        rest: Rest<'a, T, H, ()>,
         cx: &mut Context<'_>,
     ) -> Poll<Option<Received<T, H>>>
-        requires over { receive_begun self.old ≡ None }
-        ensures begun { IfReady result (λ r. IfSome r (λ x. passes (begun_next next) ≡ Some x.0)) }
-        ensures answered { IfReady result (λ r. IfNone r (passes (begun_next next) ≡ None)) }
+        requires fits { Fits rest self.old.state }
+        ensures begun { IfReady result (λ r. IfSome r (λ x.
+            passes (begun_with rest.entry self.old.state) ≡ Some x.0)) }
+        ensures answered { IfReady result (λ r. IfNone r (begun_with rest.entry self.old.state ≡ None)) }
         ensures ends { IfReady result (λ _. receive_begun self.new ≡ None) }
-        ensures goes_on { OnPending result (receive_begun self.new ≡ passes (begun_next next)) }
-        ensures over { is_none (passes (begun_next next)) ≡ true → result ≡ Poll.Ready None }
+        ensures goes_on { OnPending result (receive_begun self.new
+            ≡ passes (begun_with rest.entry self.old.state)) }
+        ensures over { is_none (begun_with rest.entry self.old.state) ≡ true → result ≡ Poll.Ready None }
         ensures registered { OnPending result (Covers cx.new (λ s. s ≡ receive_source self.new)) }
         ensures kept { Keeps cx.old cx.new }
         ensures source { receive_source self.new ≡ receive_source self.old }
     {
-        let answer = match next {
-            Next::Begins(pass, ()) => self.begin(pass, cx),
-            Next::Looks(started) => self.wait(started, cx),
-            Next::Stays(lost) => {
-                self.state = Progress::Lost(lost);
-                cx.yield_now()
-            },
-            Next::Ends => return Poll::Ready(None),
+        let answer = match rest {
+            Rest::Held(locked, pass, ()) => self.begin(locked, pass, cx),
+            Rest::Refused(pass, ()) => self.retry(pass, cx),
+            Rest::Begun => return self.look(cx),
         };
         match answer {
+            Poll::Ready(received) => Poll::Ready(Some(received)),
+            Poll::Pending => Poll::Pending,
+        }
+    }
+
+    /// Goes on with a call that was made.
+    fn look(&mut self, cx: &mut Context<'_>) -> Poll<Option<Received<T, H>>>
+        requires made { is_fresh self.old.state ≡ false }
+        ensures begun { IfReady result (λ r. IfSome r (λ x. receive_begun self.old ≡ Some x.0)) }
+        ensures answered { IfReady result (λ r. IfNone r (receive_begun self.old ≡ None)) }
+        ensures ends { IfReady result (λ _. receive_begun self.new ≡ None) }
+        ensures goes_on { OnPending result (receive_begun self.new ≡ receive_begun self.old) }
+        ensures over { is_none (receive_begun self.old) ≡ true → result ≡ Poll.Ready None }
+        ensures registered { OnPending result (Covers cx.new (λ s. s ≡ receive_source self.new)) }
+        ensures kept { Keeps cx.old cx.new }
+        ensures source { receive_source self.new ≡ receive_source self.old }
+    {
+        let made = mem::replace(&mut self.state, Progress::Done);
+        let Some(started) = made.into_wait() else {
+            return Poll::Ready(None);
+        };
+        match self.wait(started, cx) {
             Poll::Ready(received) => Poll::Ready(Some(received)),
             Poll::Pending => Poll::Pending,
         }
@@ -363,8 +387,10 @@ impl<T: Drop, H: History<T>> Future for Receiving<'_, T, H> {
         ensures goes_on { OnPending result (receive_begun self.new ≡ receive_begun self.old) }
         ensures over { is_none (receive_begun self.old) ≡ true → result ≡ Poll.Ready None }
     {
-        let state = mem::replace(&mut self.state, Progress::Done);
-        self.go_on(state.next(), cx)
+        match self.at_once() {
+            Ok(received) => Poll::Ready(Some(received)),
+            Err(rest) => self.go_on(rest, cx),
+        }
     }
 }
 

@@ -2,11 +2,15 @@
 //!
 //! Stands on `sending`, for each history whose pass has no content.
 ghost use Rattle.std.specs.Prelude.{◌≡◌, ⊤, true, false, IfSome, Some, Err, Result, codes};
+ghost use Rattle.std.specs.Option.{is_none};
 ghost use Rattle.futures.specs.Task.{Covers, Keeps};
 ghost use Rattle.futures.specs.Poll.{IfReady, OnPending};
 ghost use Rattle.kanal_history.specs.Handles.{Sends};
+ghost use Rattle.kanal_futures.specs.Futures.{send_begun};
 ghost use Rattle.kanal_futures.specs.Plain.{message_in, send_future_source, send_is_over};
+ghost use Rattle.kanal_futures.specs.Tasks.{Fits, begun_with};
 
+use crate::progress::Rest;
 use crate::sending::{Sending, send_in_task};
 use futures::Future;
 use futures::task::{Context, Poll};
@@ -46,6 +50,38 @@ pub fn send_future<T: Drop, H: History<T, Pass = ()>>(
     }
 }
 
+impl<'a, T: Drop, H: History<T, Pass = ()>> SendFuture<'a, T, H> {
+    /// Goes on with a poll that did not answer at once.
+    #[cold]
+    fn go_on(
+        &mut self,
+        rest: Rest<'a, T, H, T>,
+        cx: &mut Context<'_>,
+    ) -> Poll<Result<(), SendError>>
+        requires fits { Fits rest self.old.sending.state }
+        ensures sent { IfReady result (λ r. IfSome (begun_with rest.entry self.old.sending.state) (λ begun.
+            Sends H.words tt tt begun.1 r)) }
+        ensures stays { OnPending result (send_begun self.new.sending
+            ≡ begun_with rest.entry self.old.sending.state) }
+        ensures over { is_none (begun_with rest.entry self.old.sending.state) ≡ true
+            → (result ≡ Poll.Ready (Err SendError.Finished))
+            × (send_is_over self.new ≡ true) }
+        ensures ends { IfReady result (λ _. send_is_over self.new ≡ true) }
+        ensures goes_on { OnPending result (send_is_over self.new ≡ false) }
+        ensures registered { OnPending result (Covers cx.new (λ s. s ≡ send_future_source self.new)) }
+        ensures kept { Keeps cx.old cx.new }
+    {
+        match self.sending.go_on(rest, cx) {
+            Poll::Ready(Some(sent)) => {
+                let (_pass, answer) = sent.into_parts();
+                Poll::Ready(answer)
+            },
+            Poll::Ready(None) => Poll::Ready(Err(SendError::Finished)),
+            Poll::Pending => Poll::Pending,
+        }
+    }
+}
+
 impl<T: Drop, H: History<T, Pass = ()>> Future for SendFuture<'_, T, H> {
     type Output = Result<(), SendError>;
 
@@ -78,13 +114,12 @@ impl<T: Drop, H: History<T, Pass = ()>> Future for SendFuture<'_, T, H> {
         ensures ends { IfReady result (λ _. send_is_over self.new ≡ true) }
         ensures goes_on { OnPending result (send_is_over self.new ≡ false) }
     {
-        match self.sending.poll(cx) {
-            Poll::Ready(Some(sent)) => {
+        match self.sending.at_once() {
+            Ok(sent) => {
                 let (_pass, answer) = sent.into_parts();
                 Poll::Ready(answer)
             },
-            Poll::Ready(None) => Poll::Ready(Err(SendError::Finished)),
-            Poll::Pending => Poll::Pending,
+            Err(rest) => self.go_on(rest, cx),
         }
     }
 }

@@ -2,18 +2,18 @@
 //!
 //! Stands on the wait of a task. A message enters by itself where it can; only where it can't the longer ways
 //! are gone.
-ghost use Rattle.std.specs.Prelude.{◌≡◌, ⊤, true, IfNone, IfSome, None, Option, Result, Some, codes};
+ghost use Rattle.std.specs.Prelude.{◌≡◌, ⊤, false, true, IfErr, IfNone, IfOk, IfSome, None, Option, Result, Some, codes};
 ghost use Rattle.std.specs.Option.{is_none};
 ghost use Rattle.futures.specs.Task.{Covers, Keeps};
 ghost use Rattle.futures.specs.Poll.{IfReady, OnPending};
 ghost use Rattle.kanal_core.specs.declared.error.SendError.{SendError};
 ghost use Rattle.kanal_history.specs.Handles.{Sends};
 ghost use Rattle.kanal_channel.specs.Locks.{IsQuiet};
-ghost use Rattle.kanal_futures.specs.Tasks.{begun_next};
+ghost use Rattle.kanal_futures.specs.Tasks.{Fits, begun_with, is_fresh};
 ghost use Rattle.kanal_futures.specs.Futures.{send_begun, send_source};
 
 use crate::asks::{OfSend, Opening};
-use crate::progress::{Next, Progress};
+use crate::progress::{Progress, Rest};
 use crate::started::Started;
 use crate::wakers::Wakers;
 use futures::Future;
@@ -106,8 +106,12 @@ impl<T: Drop, H: History<T>> Drop for Sending<'_, T, H> {
             wakers,
             pauses: _,
         } = self;
-        state.leave(shared);
-        drop(wakers);
+        if let Some(started) = state.into_wait() {
+            started.leave(shared);
+        }
+        if let Some(spare) = wakers.into_spare() {
+            drop(spare);
+        }
     }
 }
 
@@ -133,64 +137,57 @@ pub fn send_in_task<T: Drop, H: History<T>>(
     }
 }
 
-impl<T: Drop, H: History<T>> Sending<'_, T, H> {
-    /// Offers the message, where the lock is free.
+impl<'a, T: Drop, H: History<T>> Sending<'a, T, H> {
+    /// Offers the message, where no call was made yet, the lock is free, and there is no notice.
     #[inline]
-    fn begin(&mut self, pass: H::Pass, message: T, cx: &mut Context<'_>) -> Poll<Sent<T, H>>
-        requires over { send_begun self.old ≡ None }
-        ensures begun { IfReady result (λ s. (s.0 ≡ pass) × (s.1 ≡ message)) }
-        ensures ends { IfReady result (λ _. send_begun self.new ≡ None) }
-        ensures goes_on { OnPending result (send_begun self.new ≡ Some (pass, message)) }
-        ensures registered { OnPending result (Covers cx.new (λ s. s ≡ send_source self.new)) }
-        ensures kept { Keeps cx.old cx.new }
+    pub(crate) fn at_once(&mut self) -> Result<Sent<T, H>, Rest<'a, T, H, T>>
+        ensures begun { IfOk result (λ s. send_begun self.old ≡ Some (s.0, s.1)) }
+        ensures ends { IfOk result (λ _. send_begun self.new ≡ None) }
+        ensures rest { IfErr result (λ rest. begun_with rest self.new.state
+            ≡ send_begun self.old) }
+        ensures fits { IfErr result (λ rest. Fits rest self.new.state) }
         ensures source { send_source self.new ≡ send_source self.old }
     {
+        let Some((pass, message)) = self.state.take() else {
+            return Err(Rest::Begun);
+        };
         let Some(mut locked) = self.shared.try_lock() else {
-            self.state = Progress::Zero(pass, message);
-            if self.shared.has_buffer() {
-                self.pauses.pause();
-            }
-            return cx.yield_now();
+            return Err(Rest::Refused(pass, message));
         };
         if !self.shared.is_quiet() {
-            return self.begin_noticed(locked, pass, message, cx);
+            return Err(Rest::Held(locked, pass, message));
         }
         let opening = Opening::of(&pass, &message);
         let mut pass = pass;
         match locked.state.push(self.shared.board(), &mut pass, message) {
             Ok(()) => {
                 locked.give_back_quiet();
-                Poll::Ready(Sent::new(opening, pass, Ok(())))
+                Ok(Sent::new(opening, pass, Ok(())))
             },
-            Err(message) => self.begin_quiet(locked, pass, message, cx),
+            Err(message) => Err(Rest::Held(locked, pass, message)),
         }
     }
 
-    /// The same, with the lock held, where there are notices.
+    /// Makes the call later, since another holds the lock.
     #[cold]
-    fn begin_noticed(
-        &mut self,
-        locked: Locked<'_, T, H>,
-        pass: H::Pass,
-        message: T,
-        cx: &mut Context<'_>,
-    ) -> Poll<Sent<T, H>>
+    fn retry(&mut self, pass: H::Pass, message: T, cx: &mut Context<'_>) -> Poll<Sent<T, H>>
         requires over { send_begun self.old ≡ None }
-        ensures begun { IfReady result (λ s. (s.0 ≡ pass) × (s.1 ≡ message)) }
-        ensures ends { IfReady result (λ _. send_begun self.new ≡ None) }
-        ensures goes_on { OnPending result (send_begun self.new ≡ Some (pass, message)) }
-        ensures registered { OnPending result (Covers cx.new (λ s. s ≡ send_source self.new)) }
+        ensures pending { result ≡ Poll.Pending }
+        ensures goes_on { send_begun self.new ≡ Some (pass, message) }
+        ensures registered { Covers cx.new (λ s. s ≡ send_source self.new) }
         ensures kept { Keeps cx.old cx.new }
         ensures source { send_source self.new ≡ send_source self.old }
     {
-        let mut locked = locked;
-        let left = locked.take_left();
-        self.begin_held(locked, left, pass, message, cx)
+        self.state = Progress::Zero(pass, message);
+        if self.shared.has_buffer() {
+            self.pauses.pause();
+        }
+        cx.yield_now()
     }
 
-    /// The same, where there were none, and the message did not enter by itself.
+    /// Applies the notices and goes on with the call, with the lock held.
     #[cold]
-    fn begin_quiet(
+    fn begin(
         &mut self,
         locked: Locked<'_, T, H>,
         pass: H::Pass,
@@ -206,7 +203,12 @@ impl<T: Drop, H: History<T>> Sending<'_, T, H> {
         ensures kept { Keeps cx.old cx.new }
         ensures source { send_source self.new ≡ send_source self.old }
     {
-        self.begin_held(locked, Left::nothing(), pass, message, cx)
+        if self.shared.is_quiet() {
+            return self.begin_held(locked, Left::nothing(), pass, message, cx);
+        }
+        let mut locked = locked;
+        let left = locked.take_left();
+        self.begin_held(locked, left, pass, message, cx)
     }
 
     /// Offers the message, with the lock held and the notices applied; where there is no place for it, the
@@ -258,40 +260,60 @@ impl<T: Drop, H: History<T>> Sending<'_, T, H> {
             Ok((opening, pass, outcome)) => {
                 Poll::Ready(Sent::new(opening, pass, sent_after(outcome)))
             },
-            Err(progress) => {
-                self.state = progress;
+            Err(waiting) => {
+                self.state = Progress::Waiting(waiting);
                 Poll::Pending
             },
         }
     }
 
-    /// Goes on as its state, which was taken out, has it.
-    fn go_on(
+    /// Goes on with a poll that did not answer at once.
+    #[cold]
+    pub(crate) fn go_on(
         &mut self,
-        next: Next<T, H, T, OfSend>,
+        rest: Rest<'a, T, H, T>,
         cx: &mut Context<'_>,
     ) -> Poll<Option<Sent<T, H>>>
-        requires over { send_begun self.old ≡ None }
-        ensures begun { IfReady result (λ r. IfSome r (λ x. begun_next next
+        requires fits { Fits rest self.old.state }
+        ensures begun { IfReady result (λ r. IfSome r (λ x. begun_with rest.entry self.old.state
             ≡ Some (x.0, x.1))) }
-        ensures answered { IfReady result (λ r. IfNone r (begun_next next ≡ None)) }
+        ensures answered { IfReady result (λ r. IfNone r (begun_with rest.entry self.old.state ≡ None)) }
         ensures ends { IfReady result (λ _. send_begun self.new ≡ None) }
-        ensures goes_on { OnPending result (send_begun self.new ≡ begun_next next) }
-        ensures over { is_none (begun_next next) ≡ true → result ≡ Poll.Ready None }
+        ensures goes_on { OnPending result (send_begun self.new
+            ≡ begun_with rest.entry self.old.state) }
+        ensures over { is_none (begun_with rest.entry self.old.state) ≡ true → result ≡ Poll.Ready None }
         ensures registered { OnPending result (Covers cx.new (λ s. s ≡ send_source self.new)) }
         ensures kept { Keeps cx.old cx.new }
         ensures source { send_source self.new ≡ send_source self.old }
     {
-        let answer = match next {
-            Next::Begins(pass, message) => self.begin(pass, message, cx),
-            Next::Looks(started) => self.wait(started, cx),
-            Next::Stays(lost) => {
-                self.state = Progress::Lost(lost);
-                cx.yield_now()
-            },
-            Next::Ends => return Poll::Ready(None),
+        let answer = match rest {
+            Rest::Held(locked, pass, message) => self.begin(locked, pass, message, cx),
+            Rest::Refused(pass, message) => self.retry(pass, message, cx),
+            Rest::Begun => return self.look(cx),
         };
         match answer {
+            Poll::Ready(sent) => Poll::Ready(Some(sent)),
+            Poll::Pending => Poll::Pending,
+        }
+    }
+
+    /// Goes on with a call that was made.
+    fn look(&mut self, cx: &mut Context<'_>) -> Poll<Option<Sent<T, H>>>
+        requires made { is_fresh self.old.state ≡ false }
+        ensures begun { IfReady result (λ r. IfSome r (λ x. send_begun self.old ≡ Some (x.0, x.1))) }
+        ensures answered { IfReady result (λ r. IfNone r (send_begun self.old ≡ None)) }
+        ensures ends { IfReady result (λ _. send_begun self.new ≡ None) }
+        ensures goes_on { OnPending result (send_begun self.new ≡ send_begun self.old) }
+        ensures over { is_none (send_begun self.old) ≡ true → result ≡ Poll.Ready None }
+        ensures registered { OnPending result (Covers cx.new (λ s. s ≡ send_source self.new)) }
+        ensures kept { Keeps cx.old cx.new }
+        ensures source { send_source self.new ≡ send_source self.old }
+    {
+        let made = mem::replace(&mut self.state, Progress::Done);
+        let Some(started) = made.into_wait() else {
+            return Poll::Ready(None);
+        };
+        match self.wait(started, cx) {
             Poll::Ready(sent) => Poll::Ready(Some(sent)),
             Poll::Pending => Poll::Pending,
         }
@@ -324,8 +346,10 @@ impl<T: Drop, H: History<T>> Future for Sending<'_, T, H> {
         ensures goes_on { OnPending result (send_begun self.new ≡ send_begun self.old) }
         ensures over { is_none (send_begun self.old) ≡ true → result ≡ Poll.Ready None }
     {
-        let state = mem::replace(&mut self.state, Progress::Done);
-        self.go_on(state.next(), cx)
+        match self.at_once() {
+            Ok(sent) => Poll::Ready(Some(sent)),
+            Err(rest) => self.go_on(rest, cx),
+        }
     }
 }
 

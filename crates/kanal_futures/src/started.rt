@@ -10,10 +10,9 @@ ghost use Rattle.kanal_core.specs.Tickets.{number_of};
 ghost use Rattle.kanal_events.specs.Made.{MustWait, may_wait};
 ghost use Rattle.kanal_history.specs.Makes.{HasReplied, HasWaited, IsReplied, SeesWait};
 ghost use Rattle.kanal_channel.specs.Locks.{IsQuiet, line_under};
-ghost use Rattle.kanal_futures.specs.Tasks.{begun_by, opened, source_of};
+ghost use Rattle.kanal_futures.specs.Tasks.{opened, source_of};
 
 use crate::asks::{Asks, Opening};
-use crate::progress::{Lost, Progress};
 use crate::wakers::Wakers;
 use futures::task::{Context, Poll};
 use kanal_cell::signal::WaitEnd;
@@ -99,16 +98,16 @@ impl<T: Drop, H: History<T>, M: Drop, A: Asks<T, M>> Started<T, H, M, A> {
         self.end.poll()
     }
 
-    /// The end of the call, where this became of its wait; where it is another's, the wait still stands.
-    fn finish(
-        self,
-        board: &H::Board,
-        delivered: Delivered<T, H>,
-    ) -> Result<Settled<T, H, M>, Lost<T, H, M>>
+    /// The end of the call, where this became of its wait; where it is another's, which no run has shown, the
+    /// wait goes on.
+    fn finish(self, board: &H::Board, delivered: Delivered<T, H>) -> Result<Settled<T, H, M>, Self>
         ensures begun { IfOk result (λ r. opened r.0 ≡ self) }
         ensures waited { IfOk result (λ r. HasWaited H.words self.0 r.1 (A.event self.1) r.2) }
-        ensures lost { IfErr result (λ lost. opened lost.opening ≡ self) }
+        ensures lost { IfErr result (λ started. started ≡ self) }
     {
+        if delivered.ticket() != self.counted.ticket().number() {
+            return Err(self);
+        }
         let Started {
             opening,
             pass,
@@ -117,9 +116,6 @@ impl<T: Drop, H: History<T>, M: Drop, A: Asks<T, M>> Started<T, H, M, A> {
             asks: _,
         } = self;
         drop(end);
-        if delivered.ticket() != counted.ticket().number() {
-            return Err(Lost { opening, counted });
-        }
         counted.told(&delivered);
         let mut pass = pass;
         let (outcome, prefix) = delivered.into_parts();
@@ -134,10 +130,10 @@ impl<T: Drop, H: History<T>, M: Drop, A: Asks<T, M>> Started<T, H, M, A> {
         wakers: &mut Wakers,
         shared: &Shared<T, H>,
         cx: &mut Context<'_>,
-    ) -> Result<Settled<T, H, M>, Progress<T, H, M, A>>
+    ) -> Result<Settled<T, H, M>, Self>
         ensures begun { IfOk result (λ r. opened r.0 ≡ self) }
         ensures waited { IfOk result (λ r. HasWaited H.words self.0 r.1 (A.event self.1) r.2) }
-        ensures goes_on { IfErr result (λ p. begun_by p ≡ Some self) }
+        ensures goes_on { IfErr result (λ started. started ≡ self) }
         ensures registered { IfErr result (λ _. Covers cx.new (λ s. s ≡ source_of wakers.new)) }
         ensures kept { Keeps cx.old cx.new }
         ensures source { source_of wakers.new ≡ source_of wakers.old }
@@ -145,13 +141,13 @@ impl<T: Drop, H: History<T>, M: Drop, A: Asks<T, M>> Started<T, H, M, A> {
         let mut started = self;
         let Some(delivered) = started.poll() else {
             wakers.renew(shared, started.ticket(), cx);
-            return Err(Progress::Waiting(started));
+            return Err(started);
         };
         match started.finish(shared.board(), delivered) {
             Ok(settled) => Ok(settled),
-            Err(lost) => {
+            Err(started) => {
                 let _: Poll<()> = cx.yield_now();
-                Err(Progress::Lost(lost))
+                Err(started)
             },
         }
     }

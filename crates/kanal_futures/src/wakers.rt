@@ -32,6 +32,12 @@ impl Wakers {
         }
     }
 
+    /// The waker that is in no entry, which wakes its task when it is dropped.
+    #[inline]
+    pub(crate) fn into_spare(self) -> Option<Waker> {
+        self.spare
+    }
+
     /// A fresh cell whose settling wakes the task, as a wait needs it; `None` where there is no memory
     /// for it.
     pub(crate) fn cell<T: Drop, H: History<T>>(

@@ -18,7 +18,7 @@ use crate::started::Started;
 use crate::wakers::Wakers;
 use futures::Future;
 use futures::task::{Context, Poll};
-use kanal_channel::{Left, Locked, Shared, received_after, received_by};
+use kanal_channel::{Locked, Shared, received_after, received_by};
 use kanal_core::error::ReceiveError;
 use kanal_history::History;
 use kanal_waits::Pauses;
@@ -209,7 +209,6 @@ impl<'a, T: Drop, H: History<T>> Receiving<'a, T, H> {
     }
 
     /// Makes the call later, since another holds the lock.
-    #[cold]
     fn retry(&mut self, pass: H::Pass, cx: &mut Context<'_>) -> Poll<Received<T, H>>
         requires over { receive_begun self.old ≡ None }
         ensures pending { result ≡ Poll.Pending }
@@ -225,8 +224,7 @@ impl<'a, T: Drop, H: History<T>> Receiving<'a, T, H> {
         cx.yield_now()
     }
 
-    /// Applies the notices and goes on with the call, with the lock held.
-    #[cold]
+    /// Goes on with the call, with the lock held.
     fn begin(
         &mut self,
         locked: Locked<'_, T, H>,
@@ -243,20 +241,40 @@ impl<'a, T: Drop, H: History<T>> Receiving<'a, T, H> {
         ensures source { receive_source self.new ≡ receive_source self.old }
     {
         if self.shared.is_quiet() {
-            return self.begin_held(locked, Left::nothing(), pass, cx);
+            return self.begin_held(locked, pass, cx);
         }
+        self.begin_noticed(locked, pass, cx)
+    }
+
+    /// The same, where there are notices: they are applied before the call, and what they took out is told
+    /// after it.
+    #[cold]
+    fn begin_noticed(
+        &mut self,
+        locked: Locked<'_, T, H>,
+        pass: H::Pass,
+        cx: &mut Context<'_>,
+    ) -> Poll<Received<T, H>>
+        requires over { receive_begun self.old ≡ None }
+        ensures begun { IfReady result (λ r. r.0 ≡ pass) }
+        ensures ends { IfReady result (λ _. receive_begun self.new ≡ None) }
+        ensures goes_on { OnPending result (receive_begun self.new ≡ Some pass) }
+        ensures registered { OnPending result (Covers cx.new (λ s. s ≡ receive_source self.new)) }
+        ensures kept { Keeps cx.old cx.new }
+        ensures source { receive_source self.new ≡ receive_source self.old }
+    {
         let mut locked = locked;
         let left = locked.take_left();
-        self.begin_held(locked, left, pass, cx)
+        let answer = self.begin_held(locked, pass, cx);
+        self.shared.tell_left(left);
+        answer
     }
 
     /// Takes the front message, with the lock held and the notices applied; where there is none, the wait
     /// is started.
-    #[cold]
     fn begin_held(
         &mut self,
         locked: Locked<'_, T, H>,
-        left: Left<T, H>,
         pass: H::Pass,
         cx: &mut Context<'_>,
     ) -> Poll<Received<T, H>>
@@ -269,7 +287,7 @@ impl<'a, T: Drop, H: History<T>> Receiving<'a, T, H> {
         ensures kept { Keeps cx.old cx.new }
         ensures source { receive_source self.new ≡ receive_source self.old }
     {
-        let begun = self.wakers.begin(self.shared, locked, left, pass, (), cx);
+        let begun = self.wakers.begin(self.shared, locked, pass, (), cx);
         match begun {
             Ok((opening, pass, reply)) => {
                 Poll::Ready(Received::new(opening, pass, received_by(reply)))
@@ -282,7 +300,6 @@ impl<'a, T: Drop, H: History<T>> Receiving<'a, T, H> {
     }
 
     /// Looks for the end of the wait.
-    #[cold]
     #[tactic(auto, using(crate::proofs::Answering::received_settled))]
     fn wait(
         &mut self,

@@ -18,7 +18,7 @@ use crate::started::Started;
 use crate::wakers::Wakers;
 use futures::Future;
 use futures::task::{Context, Poll};
-use kanal_channel::{Left, Locked, Shared, sent_after, sent_by};
+use kanal_channel::{Locked, Shared, sent_after, sent_by};
 use kanal_core::error::SendError;
 use kanal_history::History;
 use kanal_waits::Pauses;
@@ -169,7 +169,6 @@ impl<'a, T: Drop, H: History<T>> Sending<'a, T, H> {
     }
 
     /// Makes the call later, since another holds the lock.
-    #[cold]
     fn retry(&mut self, pass: H::Pass, message: T, cx: &mut Context<'_>) -> Poll<Sent<T, H>>
         requires over { send_begun self.old ≡ None }
         ensures pending { result ≡ Poll.Pending }
@@ -185,8 +184,7 @@ impl<'a, T: Drop, H: History<T>> Sending<'a, T, H> {
         cx.yield_now()
     }
 
-    /// Applies the notices and goes on with the call, with the lock held.
-    #[cold]
+    /// Goes on with the call, with the lock held.
     fn begin(
         &mut self,
         locked: Locked<'_, T, H>,
@@ -204,20 +202,41 @@ impl<'a, T: Drop, H: History<T>> Sending<'a, T, H> {
         ensures source { send_source self.new ≡ send_source self.old }
     {
         if self.shared.is_quiet() {
-            return self.begin_held(locked, Left::nothing(), pass, message, cx);
+            return self.begin_held(locked, pass, message, cx);
         }
+        self.begin_noticed(locked, pass, message, cx)
+    }
+
+    /// The same, where there are notices: they are applied before the call, and what they took out is told
+    /// after it.
+    #[cold]
+    fn begin_noticed(
+        &mut self,
+        locked: Locked<'_, T, H>,
+        pass: H::Pass,
+        message: T,
+        cx: &mut Context<'_>,
+    ) -> Poll<Sent<T, H>>
+        requires over { send_begun self.old ≡ None }
+        ensures begun { IfReady result (λ s. (s.0 ≡ pass) × (s.1 ≡ message)) }
+        ensures ends { IfReady result (λ _. send_begun self.new ≡ None) }
+        ensures goes_on { OnPending result (send_begun self.new ≡ Some (pass, message)) }
+        ensures registered { OnPending result (Covers cx.new (λ s. s ≡ send_source self.new)) }
+        ensures kept { Keeps cx.old cx.new }
+        ensures source { send_source self.new ≡ send_source self.old }
+    {
         let mut locked = locked;
         let left = locked.take_left();
-        self.begin_held(locked, left, pass, message, cx)
+        let answer = self.begin_held(locked, pass, message, cx);
+        self.shared.tell_left(left);
+        answer
     }
 
     /// Offers the message, with the lock held and the notices applied; where there is no place for it, the
     /// wait is started.
-    #[cold]
     fn begin_held(
         &mut self,
         locked: Locked<'_, T, H>,
-        left: Left<T, H>,
         pass: H::Pass,
         message: T,
         cx: &mut Context<'_>,
@@ -231,9 +250,7 @@ impl<'a, T: Drop, H: History<T>> Sending<'a, T, H> {
         ensures kept { Keeps cx.old cx.new }
         ensures source { send_source self.new ≡ send_source self.old }
     {
-        let begun = self
-            .wakers
-            .begin(self.shared, locked, left, pass, message, cx);
+        let begun = self.wakers.begin(self.shared, locked, pass, message, cx);
         match begun {
             Ok((opening, pass, reply)) => Poll::Ready(Sent::new(opening, pass, sent_by(reply))),
             Err(started) => {
@@ -244,7 +261,6 @@ impl<'a, T: Drop, H: History<T>> Sending<'a, T, H> {
     }
 
     /// Looks for the end of the wait.
-    #[cold]
     #[tactic(auto, using(crate::proofs::Answering::sent_settled))]
     fn wait(&mut self, started: Started<T, H, T, OfSend>, cx: &mut Context<'_>) -> Poll<Sent<T, H>>
         requires over { send_begun self.old ≡ None }

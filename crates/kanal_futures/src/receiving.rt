@@ -2,7 +2,7 @@
 //!
 //! Stands on the wait of a task. A message leaves by itself where it can; only where it can't the longer ways
 //! are gone.
-ghost use Rattle.std.specs.Prelude.{◌≡◌, ⊤, false, true, IfErr, IfNone, IfOk, IfSome, None, Option, Result, Some, codes};
+ghost use Rattle.std.specs.Prelude.{◌≡◌, ◌∷◌, ⊤, [], IfErr, IfNone, IfOk, IfSome, MatchOption, None, Option, Result, Some, codes, false, true};
 ghost use Rattle.std.specs.Option.{is_none};
 ghost use Rattle.futures.specs.Task.{Covers, Keeps};
 ghost use Rattle.futures.specs.Poll.{IfReady, OnPending};
@@ -68,6 +68,7 @@ impl<T: Drop, H: History<T>> Received<T, H> {
     /// ```
     pub fn into_parts(self) -> (H::Pass, Result<T, ReceiveError>)
         ensures received { Receives H.words self.0 result.0 result.1 }
+        ensures got { IfOk result.1 (λ message. H.exchanges self.0 result.0 [] (message ∷ [])) }
         ensures pass { result.0 ≡ self.1 }
         ensures answer { result.1 ≡ self.2 }
     {
@@ -381,7 +382,12 @@ impl<'a, T: Drop, H: History<T>> Receiving<'a, T, H> {
 impl<T: Drop, H: History<T>> Future for Receiving<'_, T, H> {
     type Output = Option<Received<T, H>>;
 
+    ghost use Rattle.std.specs.Prelude.{MatchOption};
+
     ghost needs = { λ f s. s ≡ receive_source f };
+
+    ghost gives = { λ f r. MatchOption r (receive_begun f ≡ None)
+        (λ x. receive_begun f ≡ Some x.0) };
 
     /// Polls the receive. It answers once, and `None` after that. It waits for nobody.
     ///
@@ -392,10 +398,12 @@ impl<T: Drop, H: History<T>> Future for Receiving<'_, T, H> {
     /// task.poll(&mut receiving)   answers  Ready(None)             after that
     /// ```
     fn poll(&mut self, cx: &mut Context<'_>) -> Poll<Option<Received<T, H>>>
-        ensures value { IfReady result (λ _. ⊤) }
+        ensures value { IfReady result (λ r. MatchOption r (receive_begun self.old ≡ None)
+            (λ x. receive_begun self.old ≡ Some x.0)) }
         ensures again { OnPending result ⊤ }
-        ensures same { OnPending result
-            ((x : Option (H.Pass × H.Pass × Result T ReceiveError)) → ⊤ → ⊤) }
+        ensures same { OnPending result ((x : Option (H.Pass × H.Pass × Result T ReceiveError))
+            → MatchOption x (receive_begun self.new ≡ None) (λ y. receive_begun self.new ≡ Some y.0)
+            → MatchOption x (receive_begun self.old ≡ None) (λ y. receive_begun self.old ≡ Some y.0)) }
         ensures registered { OnPending result (Covers cx.new (λ s. s ≡ receive_source self.new)) }
         ensures kept { Keeps cx.old cx.new }
         ensures begun { IfReady result (λ r. IfSome r (λ x. receive_begun self.old ≡ Some x.0)) }

@@ -2,7 +2,7 @@
 //!
 //! Stands on the wait of a task. A message enters by itself where it can; only where it can't the longer ways
 //! are gone.
-ghost use Rattle.std.specs.Prelude.{◌≡◌, ⊤, false, true, IfErr, IfNone, IfOk, IfSome, None, Option, Result, Some, codes};
+ghost use Rattle.std.specs.Prelude.{◌≡◌, ◌∷◌, ⊤, [], IfErr, IfNone, IfOk, IfSome, MatchOption, None, Option, Result, Some, codes, false, true};
 ghost use Rattle.std.specs.Option.{is_none};
 ghost use Rattle.futures.specs.Task.{Covers, Keeps};
 ghost use Rattle.futures.specs.Poll.{IfReady, OnPending};
@@ -69,6 +69,7 @@ impl<T: Drop, H: History<T>> Sent<T, H> {
     /// ```
     pub fn into_parts(self) -> (H::Pass, Result<(), SendError>)
         ensures sent { Sends H.words self.0 result.0 self.1 result.1 }
+        ensures put { IfOk result.1 (λ _. H.exchanges self.0 result.0 (self.1 ∷ []) []) }
         ensures pass { result.0 ≡ self.2 }
         ensures answer { result.1 ≡ self.3 }
     {
@@ -339,7 +340,12 @@ impl<'a, T: Drop, H: History<T>> Sending<'a, T, H> {
 impl<T: Drop, H: History<T>> Future for Sending<'_, T, H> {
     type Output = Option<Sent<T, H>>;
 
+    ghost use Rattle.std.specs.Prelude.{MatchOption};
+
     ghost needs = { λ f s. s ≡ send_source f };
+
+    ghost gives = { λ f r. MatchOption r (send_begun f ≡ None)
+        (λ x. send_begun f ≡ Some (x.0, x.1)) };
 
     /// Polls the send. It answers once, and `None` after that. It waits for nobody.
     ///
@@ -350,10 +356,15 @@ impl<T: Drop, H: History<T>> Future for Sending<'_, T, H> {
     /// task.poll(&mut sending)   answers  Ready(None)         after that
     /// ```
     fn poll(&mut self, cx: &mut Context<'_>) -> Poll<Option<Sent<T, H>>>
-        ensures value { IfReady result (λ _. ⊤) }
+        ensures value { IfReady result (λ r. MatchOption r (send_begun self.old ≡ None)
+            (λ x. send_begun self.old ≡ Some (x.0, x.1))) }
         ensures again { OnPending result ⊤ }
         ensures same { OnPending result
-            ((x : Option (H.Pass × T × H.Pass × Result (Unit {0}) SendError)) → ⊤ → ⊤) }
+            ((x : Option (H.Pass × T × H.Pass × Result (Unit {0}) SendError))
+            → MatchOption x (send_begun self.new ≡ None)
+            (λ y. send_begun self.new ≡ Some (y.0, y.1))
+            → MatchOption x (send_begun self.old ≡ None)
+            (λ y. send_begun self.old ≡ Some (y.0, y.1))) }
         ensures registered { OnPending result (Covers cx.new (λ s. s ≡ send_source self.new)) }
         ensures kept { Keeps cx.old cx.new }
         ensures begun { IfReady result (λ r. IfSome r (λ x. send_begun self.old ≡ Some (x.0, x.1))) }

@@ -1,88 +1,177 @@
-//! The two threads, and the third party.
+//! The exchange: one thread sends, another receives.
 //!
-//! Stands on a channel with one history. The third party is handed both passes when the threads have
-//! ended; what it says is proved from the passes' types, and nothing was recorded.
-ghost use Rattle.std.specs.Prelude.{◌≡◌, Some};
-ghost use mathlib.Core.List.{IsPrefix};
+//! Stands on a channel with one history. `overseen` is handed the passes of both threads when they have
+//! ended, and says that what was received is what was sent first. No other module sends or receives a list.
+ghost use Rattle.std.specs.Prelude.{◌≡◌, List, [], IfOk, take, length};
 ghost use Rattle.kanal_board.specs.Boards.{table_of};
-ghost use Rattle.kanal_exchange.specs.InOrder.{IsReceivedAsSent};
+ghost use Rattle.kanal_board.specs.Shares.{IsWhole, both, half, whole};
+ghost use Rattle.kanal_board.specs.Views.{known};
+ghost use Rattle.kanal_exchange.specs.Tales.{GetsOne, Tells};
 
-use kanal_core::error::NewError;
+use crate::error::{ExchangeError, both_of};
 use kanal_one_history::{Call, Channel, Naming, Opened, Pass};
 use std::alloc::Global;
 use std::sync::Wait;
 use std::thread;
 use std::thread::Threads;
 
-/// How many messages are exchanged.
-const MESSAGES: u64 = 1_000;
-
-/// Sends all numbers, and answers how many entered, with its pass.
-fn send_all<J: Naming, R: Wait>(
+/// Sends all messages, in order, and waits where there is no place.
+///
+/// # Errors
+/// Where a send is refused: the channel is closed then, and what is left of the messages is dropped.
+pub(crate) fn send_all<T: Drop, J: Naming, R: Wait>(
     rt: &R,
-    channel: &Channel<u64, J>,
-    mut pass: Pass<u64, J>,
-) -> (u64, Pass<u64, J>) {
-    let mut sent = 0u64;
-    for number in 0..MESSAGES {
-        if channel.send(rt, &mut pass, number).is_ok() {
-            sent = sent.wrapping_add(1);
+    channel: &Channel<T, J>,
+    mut pass: Pass<T, J>,
+    messages: Vec<T>,
+) -> Result<Pass<T, J>, ExchangeError>
+    requires fresh { pass.own ≡ [] }
+    ensures sent { IfOk result (λ p. Tells messages.items [] p) }
+    ensures share { IfOk result (λ p. p.share ≡ pass.share) }
+{
+    for message in messages {
+        if let Err(refused) = channel.send(rt, &mut pass, message) {
+            let _closed = channel.close(rt, &mut pass);
+            return Err(ExchangeError::Send(refused));
         }
     }
-    (sent, pass)
+    Ok(pass)
 }
 
-/// Receives as many, and answers how many came, with its pass.
-fn receive_all<J: Naming, R: Wait>(
+/// Receives one message, and puts it behind those that came before.
+fn receive_one<T: Drop, J: Naming, R: Wait>(
     rt: &R,
-    channel: &Channel<u64, J>,
-    mut pass: Pass<u64, J>,
-) -> (u64, Pass<u64, J>) {
-    let mut received = 0u64;
-    for _ in 0..MESSAGES {
-        if channel.recv(rt, &mut pass).is_ok() {
-            received = received.wrapping_add(1);
+    channel: &Channel<T, J>,
+    pass: &mut Pass<T, J>,
+    got: &mut Vec<T>,
+) -> Result<(), ExchangeError>
+    ensures received { IfOk result (λ _. GetsOne J.capacity pass.old pass.new got.old.items got.new.items) }
+{
+    let message = channel.recv(rt, pass)?;
+    got.push(message)?;
+    Ok(())
+}
+
+/// Receives so many messages, and waits where there is none.
+///
+/// # Errors
+/// Where a receive is refused, or there is no memory for the list: the channel is closed then, and what came
+/// is dropped.
+pub(crate) fn receive_all<T: Drop, J: Naming, R: Wait>(
+    rt: &R,
+    alloc: Global,
+    channel: &Channel<T, J>,
+    mut pass: Pass<T, J>,
+    count: usize,
+) -> Result<(Vec<T>, Pass<T, J>), ExchangeError>
+    requires fresh { pass.own ≡ [] }
+    ensures received { IfOk result (λ r. Tells [] r.0.items r.1) }
+    ensures share { IfOk result (λ r. r.1.share ≡ pass.share) }
+    ensures count { IfOk result (λ r. length r.0.items ≡ count) }
+{
+    let mut got = Vec::new(alloc);
+    for _number in 0..count {
+        if let Err(refused) = receive_one(rt, channel, &mut pass, &mut got) {
+            let _closed = channel.close(rt, &mut pass);
+            return Err(refused);
         }
     }
-    (received, pass)
+    Ok((got, pass))
 }
 
-/// The third party: it learns what both threads have seen of the channel's history, and says that in
-/// this history the i-th kept message went to the i-th kept receive.
-fn overseen<T: Drop, J: Naming>(
+/// Says of two threads that have ended, and whose passes have all of the right to make calls between them:
+/// what the one received is what the other sent first. It makes no call.
+pub(crate) fn overseen<T: Drop, J: Naming>(
     channel: &Channel<T, J>,
     sender: Pass<T, J>,
     receiver: Pass<T, J>,
-) -> Pass<T, J>
-    ensures sender { IsPrefix sender.log result.log }
-    ensures receiver { IsPrefix receiver.log result.log }
-    ensures in_order { IsReceivedAsSent result.log }
+)
+    requires all { IsWhole (both receiver.share sender.share) }
+    ensures in_order { (put got : List T) → Tells put [] sender → Tells [] got receiver
+        → got ≡ take (length got) put }
 {
+    let board = channel.board();
     let mut all = sender;
-    all.learn(channel.board(), receiver);
+    let mut other = receiver;
+    all.owns_once(board, &mut other);
+    all.learn(board, other);
     all.holds();
-    all
+    all.owns_all(board);
 }
 
-/// Lets one thread send and another receive, and then the third party look; how many were sent and
-/// received.
-pub fn run<J: Naming + Send + Sync, R: Threads + Wait + Sync>(
+/// Lets one thread send the messages and another receive them, on a channel whose only pass this is.
+fn between<T: Drop + Send, J: Naming + Send + Sync, R: Threads + Wait + Sync>(
     rt: &R,
     alloc: Global,
-    capacity: usize,
-    opened: Opened<Call<u64>>,
-) -> Result<(u64, u64), NewError>
-    requires name { table_of opened ≡ J.table }
-    requires capacity { J.capacity ≡ Some capacity }
+    channel: &Channel<T, J>,
+    pass: Pass<T, J>,
+    messages: Vec<T>,
+) -> Result<Vec<T>, ExchangeError>
+    requires first { pass ≡ known [] [] whole }
+    ensures exchanged { IfOk result (λ got. got.items ≡ messages.items) }
 {
-    let (channel, mut one) = kanal_one_history::bounded::<u64, J>(alloc, capacity, opened)?;
-    let channel = &channel;
-    let other = one.again(channel.board());
-    let ((sent, sender), (received, receiver)) = thread::join(
+    let mut sends = pass;
+    let receives = sends.again(channel.board());
+    let count = messages.len();
+    let (sent, received) = thread::join(
         rt,
-        move || -> (u64, Pass<u64, J>) { send_all(rt, channel, one) },
-        move || -> (u64, Pass<u64, J>) { receive_all(rt, channel, other) },
+        move || -> Result<Pass<T, J>, ExchangeError>
+            requires { (sends.share ≡ half whole) × (sends.own ≡ []) }
+            ensures { IfOk result (λ p. Tells messages.items [] p × (p.share ≡ half whole)) }
+        { send_all(rt, channel, sends, messages) },
+        move || -> Result<(Vec<T>, Pass<T, J>), ExchangeError>
+            requires { (receives.share ≡ half whole) × (receives.own ≡ []) }
+            ensures { IfOk result (λ r. Tells [] r.0.items r.1 × (r.1.share ≡ half whole)
+                × (length r.0.items ≡ count)) }
+        { receive_all(rt, alloc, channel, receives, count) },
     );
-    drop(overseen(channel, sender, receiver));
-    Ok((sent, received))
+    let (sender, (got, receiver)) = both_of(sent, received)?;
+    overseen(channel, sender, receiver);
+    Ok(got)
+}
+
+/// A channel of this capacity, or without limit, and its first pass.
+pub(crate) fn channel_of<T: Drop, J: Naming>(
+    alloc: Global,
+    capacity: Option<usize>,
+    opened: Opened<Call<T>>,
+) -> Result<(Channel<T, J>, Pass<T, J>), ExchangeError>
+    requires name { table_of opened ≡ J.table }
+    requires capacity { J.capacity ≡ capacity }
+    ensures first { IfOk result (λ r. r.1 ≡ known [] [] whole) }
+{
+    match capacity {
+        Some(capacity) => Ok(kanal_one_history::bounded(alloc, capacity, opened)?),
+        None => Ok(kanal_one_history::unbounded(alloc, opened)),
+    }
+}
+
+/// Sends the messages by one thread and receives them by another, on a channel of its own, of this capacity
+/// or without limit. What came out is what went in, in order.
+///
+/// It waits until both threads have ended. The caller picks the channel's name `J`, in proofs alone, as the
+/// page of `kanal_one_history` on calling shows: it is that of `opened`, and its capacity is this one.
+///
+/// # Errors
+/// `New` where the channel could not be made, `Send` where a send was refused, `Receive` where a receive was
+/// refused, and `NoMemory` where there was no memory for the list that is answered. All messages are
+/// dropped then, once each, those that came, too.
+///
+/// # Examples
+/// ```text
+/// exchanged::<_, Brand, _>(&rt, alloc, Some(4), Opened::new(alloc)?, messages)   answers  Ok of the same list
+/// ```
+pub fn exchanged<T: Drop + Send, J: Naming + Send + Sync, R: Threads + Wait + Sync>(
+    rt: &R,
+    alloc: Global,
+    capacity: Option<usize>,
+    opened: Opened<Call<T>>,
+    messages: Vec<T>,
+) -> Result<Vec<T>, ExchangeError>
+    requires name { table_of opened ≡ J.table }
+    requires capacity { J.capacity ≡ capacity }
+    ensures exchanged { IfOk result (λ got. got.items ≡ messages.items) }
+{
+    let (channel, pass) = channel_of::<T, J>(alloc, capacity, opened)?;
+    between(rt, alloc, &channel, pass, messages)
 }

@@ -1,13 +1,22 @@
-use Rattle.std.proofs.Common.{length, subst}
-use Rattle.std.proofs.Math.Seq.{take-length}
-use Rattle.kanal_journal.specs.Paired.{Paired, kept, receipts}
-use Rattle.kanal_one_history.specs.Calls.{history_of}
-use Rattle.kanal_exchange.proofs.Reading.{paired_at}
+use Rattle.std.proofs.Common.{◌≡◌, ◌++◌, ap, ◌∙◌, subst}
+use mathlib.Core.List.{IsPrefix}
+use Rattle.kanal_board.specs.Views.{Known, OwnsAllButQuiet}
+use Rattle.kanal_history.specs.declared.call.Call.{Call}
+use Rattle.kanal_history.specs.Calls.{IsSilent}
+use Rattle.kanal_exchange.proofs.Telling.{exchanged}
 use Rattle.kanal_exchange.proofs.exchange.overseen.Goals as goal
 
--- the history that is seen now is paired as a whole
-pub returns-clause-in_order : goal.returns-clause-in_order
-returns-clause-in_order g c i m is =
-    let seen = c.learn.new.self.log in
-    let paired : Paired (history_of seen) = subst (λ calls. Paired (history_of calls)) (take-length seen) (c.holds.ensures.paired (length seen)) in
-    paired_at (receipts (history_of seen)) (kept (history_of seen)) paired i m is
+pub returns : goal.returns
+returns g c =
+    let log = c.learn.new.self.log in
+    let same = c.owns_once.ensures.same in
+    let own : c.learn.new.self.own ≡ c.args.receiver.own ++ c.args.sender.own =
+    c.learn.ensures.own ∙ (ap (λ (k : Known (Call g.row.T.Denot)). k.own ++ c.owns_once.new.self.own) same.1 ∙ ap (λ (k : Known (Call g.row.T.Denot)). c.args.receiver.own ++ k.own) same.0) in
+    record {
+      in_order = λ put got tells hears.
+          exchanged g.J.Naming.capacity c.args.sender c.args.receiver log put got tells hears
+          (subst (λ (k : Known (Call g.row.T.Denot)). IsPrefix k.log log) same.0 c.learn.ensures.this)
+          (subst (λ (k : Known (Call g.row.T.Denot)). IsPrefix k.log log) same.1 c.learn.ensures.that)
+          c.owns_once.ensures.apart c.holds.ensures.legal
+          (subst (λ xs. OwnsAllButQuiet (λ (x : Call g.row.T.Denot). IsSilent x.event) log xs) own c.owns_all.ensures.each);
+    }

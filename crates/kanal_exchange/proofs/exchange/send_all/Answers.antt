@@ -1,0 +1,14 @@
+use Rattle.std.proofs.Common.{[], ◌∷◌, Ok, refl, ◌∙◌}
+use Rattle.kanal_exchange.proofs.Telling.{tells_none, tells_more}
+use Rattle.kanal_exchange.proofs.exchange.send_all.Goals as goal
+
+pub loop-message-init : goal.loop-message-init
+loop-message-init g c = (tells_none c.args.pass c.requires.fresh, refl)
+
+pub loop-message-preserved : goal.loop-message-preserved
+loop-message-preserved g c =
+    let i = c.loop-message.invariant in
+    let m = c.in-Some.message in
+    let put = c.in_default.ensures.put in
+    let told = tells_more g.J.Naming.capacity c.loop-message.yielded [] (m ∷ []) [] c.loop-message.pass c.send.new.pass i.0 put in
+    (told.0, told.1 ∙ i.1)

@@ -1,0 +1,144 @@
+//! Gathering: two threads send, another receives from both.
+//!
+//! Stands on `exchange`. When the three threads have ended, their passes have all of the right to make calls
+//! between them. So what was received is a merge of what the two sent.
+ghost use Rattle.std.specs.Prelude.{◌≡◌, ◌+◌, List, [], IfOk, length};
+ghost use Rattle.kanal_board.specs.Boards.{table_of};
+ghost use Rattle.kanal_board.specs.Shares.{IsWhole, both, half, whole};
+ghost use Rattle.kanal_board.specs.Views.{known};
+ghost use Rattle.kanal_exchange.specs.Merges.{IsMerge};
+ghost use Rattle.kanal_exchange.specs.Tales.{Tells};
+
+use crate::error::{ExchangeError, both_of};
+use crate::exchange::{channel_of, receive_all, send_all};
+use kanal_one_history::{Call, Channel, Naming, Opened, Pass};
+use std::alloc::Global;
+use std::sync::Wait;
+use std::thread;
+use std::thread::Threads;
+
+/// Says of three threads that have ended, and whose passes have all of the right to make calls between them:
+/// what the one received, if it is as much as the others sent, is a merge of what they sent. It makes no call.
+fn overseen<T: Drop, J: Naming>(
+    channel: &Channel<T, J>,
+    one: Pass<T, J>,
+    two: Pass<T, J>,
+    receiver: Pass<T, J>,
+)
+    requires all { IsWhole (both receiver.share (both two.share one.share)) }
+    ensures merged { (first second got : List T) → Tells first [] one → Tells second [] two
+        → Tells [] got receiver → length got ≡ length first + length second
+        → IsMerge got first second }
+{
+    let board = channel.board();
+    let mut all = one;
+    let mut two = two;
+    let mut other = receiver;
+    all.owns_once(board, &mut two);
+    all.owns_once(board, &mut other);
+    two.owns_once(board, &mut other);
+    all.learn(board, two);
+    all.learn(board, other);
+    all.holds();
+    all.owns_all(board);
+}
+
+/// Lets one thread send the messages and another receive as many as are to come.
+fn send_and_receive<T: Drop + Send, J: Naming + Send + Sync, R: Threads + Wait + Sync>(
+    rt: &R,
+    alloc: Global,
+    channel: &Channel<T, J>,
+    sends: Pass<T, J>,
+    messages: Vec<T>,
+    receives: Pass<T, J>,
+    count: usize,
+) -> Result<(Pass<T, J>, (Vec<T>, Pass<T, J>)), ExchangeError>
+    requires fresh { (sends.own ≡ []) × (receives.own ≡ []) }
+    ensures sent { IfOk result (λ r. Tells messages.items [] r.0) }
+    ensures received { IfOk result (λ r. Tells [] r.1.0.items r.1.1) }
+    ensures count { IfOk result (λ r. length r.1.0.items ≡ count) }
+    ensures shares { IfOk result (λ r. (r.0.share ≡ sends.share) × (r.1.1.share ≡ receives.share)) }
+{
+    let (sent, received) = thread::join(
+        rt,
+        move || -> Result<Pass<T, J>, ExchangeError>
+            requires { sends.own ≡ [] }
+            ensures { IfOk result (λ p. Tells messages.items [] p × (p.share ≡ sends.share)) }
+        { send_all(rt, channel, sends, messages) },
+        move || -> Result<(Vec<T>, Pass<T, J>), ExchangeError>
+            requires { receives.own ≡ [] }
+            ensures { IfOk result (λ r. Tells [] r.0.items r.1 × (r.1.share ≡ receives.share)
+                × (length r.0.items ≡ count)) }
+        { receive_all(rt, alloc, channel, receives, count) },
+    );
+    both_of(sent, received)
+}
+
+/// Lets two threads send their messages and another receive all, on a channel whose only pass this is.
+fn gathered_on<T: Drop + Send, J: Naming + Send + Sync, R: Threads + Wait + Sync>(
+    rt: &R,
+    alloc: Global,
+    channel: &Channel<T, J>,
+    pass: Pass<T, J>,
+    first: Vec<T>,
+    second: Vec<T>,
+) -> Result<Vec<T>, ExchangeError>
+    requires first { pass ≡ known [] [] whole }
+    ensures gathered { IfOk result (λ got. IsMerge got.items first.items second.items) }
+{
+    let Some(count) = first.len().checked_add(second.len()) else {
+        return Err(ExchangeError::NoMemory);
+    };
+    let mut one = pass;
+    let mut two = one.again(channel.board());
+    let other = two.again(channel.board());
+    let (sent, rest) = thread::join(
+        rt,
+        move || -> Result<Pass<T, J>, ExchangeError>
+            requires { (one.share ≡ half whole) × (one.own ≡ []) }
+            ensures { IfOk result (λ p. Tells first.items [] p × (p.share ≡ half whole)) }
+        { send_all(rt, channel, one, first) },
+        move || -> Result<(Pass<T, J>, (Vec<T>, Pass<T, J>)), ExchangeError>
+            requires { (two.share ≡ half (half whole)) × (two.own ≡ [])
+                × (other.share ≡ half (half whole)) × (other.own ≡ []) }
+            ensures { IfOk result (λ r. Tells second.items [] r.0 × (r.0.share ≡ half (half whole))
+                × Tells [] r.1.0.items r.1.1 × (r.1.1.share ≡ half (half whole))
+                × (length r.1.0.items ≡ count)) }
+        { send_and_receive(rt, alloc, channel, two, second, other, count) },
+    );
+    let (one, (two, (got, receiver))) = both_of(sent, rest)?;
+    overseen(channel, one, two, receiver);
+    Ok(got)
+}
+
+/// Sends the messages of both lists, each by a thread, and receives all by a third, on a channel of its own, of
+/// this capacity or without limit. What came out is a merge of the two lists: all elements of both and no
+/// others, those of each list in their order.
+///
+/// It waits until the three threads have ended. The caller picks the channel's name `J`, in proofs alone, as
+/// the page of `kanal_one_history` on calling shows: it is that of `opened`, and its capacity is this one.
+///
+/// # Errors
+/// `New` where the channel could not be made, `Send` where a send was refused, `Receive` where a receive was
+/// refused, and `NoMemory` where there was no memory for the list that is answered, or both lists together
+/// are longer than a list can be. All messages are dropped then, once each, those that came, too.
+///
+/// # Examples
+/// ```text
+/// gathered::<_, Brand, _>(&rt, alloc, None, Opened::new(alloc)?, evens, odds)   answers  Ok of a merge of the two
+/// ```
+pub fn gathered<T: Drop + Send, J: Naming + Send + Sync, R: Threads + Wait + Sync>(
+    rt: &R,
+    alloc: Global,
+    capacity: Option<usize>,
+    opened: Opened<Call<T>>,
+    first: Vec<T>,
+    second: Vec<T>,
+) -> Result<Vec<T>, ExchangeError>
+    requires name { table_of opened ≡ J.table }
+    requires capacity { J.capacity ≡ capacity }
+    ensures gathered { IfOk result (λ got. IsMerge got.items first.items second.items) }
+{
+    let (channel, pass) = channel_of::<T, J>(alloc, capacity, opened)?;
+    gathered_on(rt, alloc, &channel, pass, first, second)
+}

@@ -1,0 +1,290 @@
+//! The exchange between a thread and a task.
+//!
+//! Stands on `exchange`, and on the futures that carry a pass. A task makes its calls one after the other. The
+//! executor may refuse a future, whose pass is gone then; so a second pass lies beside it, which closes the
+//! channel.
+ghost use Rattle.std.specs.Prelude.{◌≡◌, ◌∷◌, [], IfOk, length};
+ghost use Rattle.kanal_board.specs.Boards.{table_of};
+ghost use Rattle.kanal_board.specs.Shares.{both, half, whole};
+ghost use Rattle.kanal_board.specs.Views.{known};
+ghost use Rattle.kanal_one_history.specs.Puts.{Exchanges};
+ghost use Rattle.kanal_exchange.specs.Tales.{Tells};
+
+use crate::error::{ExchangeError, both_of};
+use crate::exchange::{channel_of, overseen, receive_all, send_all};
+use futures::executor::block_on;
+use kanal_futures::{recv_in_task, send_in_task};
+use kanal_one_history::{Call, Channel, Naming, Opened, Pass};
+use std::alloc::{AllocGlobal, Global};
+use std::random::RandomSource;
+use std::sync::Wait;
+use std::thread;
+use std::thread::Threads;
+
+/// Sends one message in a task.
+fn send_one<T: Drop, J: Naming, R: Wait + RandomSource + AllocGlobal>(
+    rt: &R,
+    channel: &Channel<T, J>,
+    pass: Pass<T, J>,
+    message: T,
+) -> Result<Pass<T, J>, ExchangeError>
+    ensures put { IfOk result (λ p. Exchanges J.capacity pass p (message ∷ []) []) }
+{
+    match block_on(rt, send_in_task(channel, pass, message)) {
+        Ok(Some(sent)) => {
+            let (pass, answer) = sent.into_parts();
+            answer?;
+            Ok(pass)
+        },
+        Ok(None) => unreachable!(),
+        Err(_refused) => Err(ExchangeError::Task),
+    }
+}
+
+/// Receives one message in a task.
+fn receive_one<T: Drop, J: Naming, R: Wait + RandomSource + AllocGlobal>(
+    rt: &R,
+    channel: &Channel<T, J>,
+    pass: Pass<T, J>,
+) -> Result<(T, Pass<T, J>), ExchangeError>
+    ensures got { IfOk result (λ r. Exchanges J.capacity pass r.1 [] (r.0 ∷ [])) }
+{
+    match block_on(rt, recv_in_task(channel, pass)) {
+        Ok(Some(received)) => {
+            let (pass, answer) = received.into_parts();
+            Ok((answer?, pass))
+        },
+        Ok(None) => unreachable!(),
+        Err(_refused) => Err(ExchangeError::Task),
+    }
+}
+
+/// Sends all messages in a task, in order.
+fn send_each<T: Drop, J: Naming, R: Wait + RandomSource + AllocGlobal>(
+    rt: &R,
+    channel: &Channel<T, J>,
+    mut pass: Pass<T, J>,
+    messages: Vec<T>,
+) -> Result<Pass<T, J>, ExchangeError>
+    requires fresh { pass.own ≡ [] }
+    ensures sent { IfOk result (λ p. Tells messages.items [] p) }
+    ensures share { IfOk result (λ p. p.share ≡ pass.share) }
+{
+    for message in messages {
+        pass = send_one(rt, channel, pass, message)?;
+    }
+    Ok(pass)
+}
+
+/// Receives so many messages in a task.
+fn receive_each<T: Drop, J: Naming, R: Wait + RandomSource + AllocGlobal>(
+    rt: &R,
+    alloc: Global,
+    channel: &Channel<T, J>,
+    mut pass: Pass<T, J>,
+    count: usize,
+) -> Result<(Vec<T>, Pass<T, J>), ExchangeError>
+    requires fresh { pass.own ≡ [] }
+    ensures received { IfOk result (λ r. Tells [] r.0.items r.1) }
+    ensures share { IfOk result (λ r. r.1.share ≡ pass.share) }
+    ensures count { IfOk result (λ r. length r.0.items ≡ count) }
+{
+    let mut got = Vec::new(alloc);
+    for _number in 0..count {
+        let (message, next) = receive_one(rt, channel, pass)?;
+        pass = next;
+        got.push(message)?;
+    }
+    Ok((got, pass))
+}
+
+/// The same, and the channel is closed where a send or the task is refused.
+fn send_all_in_task<T: Drop, J: Naming, R: Wait + RandomSource + AllocGlobal>(
+    rt: &R,
+    channel: &Channel<T, J>,
+    pass: Pass<T, J>,
+    messages: Vec<T>,
+) -> Result<Pass<T, J>, ExchangeError>
+    requires fresh { pass.own ≡ [] }
+    ensures sent { IfOk result (λ p. Tells messages.items [] p) }
+    ensures share { IfOk result (λ p. p.share ≡ both (half pass.share) (half pass.share)) }
+{
+    let mut pass = pass;
+    let mut beside = pass.again(channel.board());
+    match send_each(rt, channel, pass, messages) {
+        Ok(sender) => {
+            let mut sender = sender;
+            sender.learn(channel.board(), beside);
+            Ok(sender)
+        },
+        Err(refused) => {
+            let _closed = channel.close(rt, &mut beside);
+            Err(refused)
+        },
+    }
+}
+
+/// The same, and the channel is closed where a receive or the task is refused, or there is no memory for the
+/// list.
+fn receive_all_in_task<T: Drop, J: Naming, R: Wait + RandomSource + AllocGlobal>(
+    rt: &R,
+    alloc: Global,
+    channel: &Channel<T, J>,
+    pass: Pass<T, J>,
+    count: usize,
+) -> Result<(Vec<T>, Pass<T, J>), ExchangeError>
+    requires fresh { pass.own ≡ [] }
+    ensures received { IfOk result (λ r. Tells [] r.0.items r.1) }
+    ensures share { IfOk result (λ r. r.1.share ≡ both (half pass.share) (half pass.share)) }
+    ensures count { IfOk result (λ r. length r.0.items ≡ count) }
+{
+    let mut pass = pass;
+    let mut beside = pass.again(channel.board());
+    match receive_each(rt, alloc, channel, pass, count) {
+        Ok((got, receiver)) => {
+            let mut receiver = receiver;
+            receiver.learn(channel.board(), beside);
+            Ok((got, receiver))
+        },
+        Err(refused) => {
+            let _closed = channel.close(rt, &mut beside);
+            Err(refused)
+        },
+    }
+}
+
+/// Lets a thread send the messages and a task receive them, on a channel whose only pass this is.
+fn to_task<T, J, R>(
+    rt: &R,
+    alloc: Global,
+    channel: &Channel<T, J>,
+    pass: Pass<T, J>,
+    messages: Vec<T>,
+) -> Result<Vec<T>, ExchangeError>
+where
+    T: Drop + Send,
+    J: Naming + Send + Sync,
+    R: Threads + Wait + RandomSource + AllocGlobal + Sync,
+    requires first { pass ≡ known [] [] whole }
+    ensures exchanged { IfOk result (λ got. got.items ≡ messages.items) }
+{
+    let mut sends = pass;
+    let receives = sends.again(channel.board());
+    let count = messages.len();
+    let (sent, received) = thread::join(
+        rt,
+        move || -> Result<Pass<T, J>, ExchangeError>
+            requires { (sends.share ≡ half whole) × (sends.own ≡ []) }
+            ensures { IfOk result (λ p. Tells messages.items [] p × (p.share ≡ half whole)) }
+        { send_all(rt, channel, sends, messages) },
+        move || -> Result<(Vec<T>, Pass<T, J>), ExchangeError>
+            requires { (receives.share ≡ half whole) × (receives.own ≡ []) }
+            ensures { IfOk result (λ r. Tells [] r.0.items r.1
+                × (r.1.share ≡ both (half (half whole)) (half (half whole)))
+                × (length r.0.items ≡ count)) }
+        { receive_all_in_task(rt, alloc, channel, receives, count) },
+    );
+    let (sender, (got, receiver)) = both_of(sent, received)?;
+    overseen(channel, sender, receiver);
+    Ok(got)
+}
+
+/// Lets a task send the messages and a thread receive them, on a channel whose only pass this is.
+fn from_task<T, J, R>(
+    rt: &R,
+    alloc: Global,
+    channel: &Channel<T, J>,
+    pass: Pass<T, J>,
+    messages: Vec<T>,
+) -> Result<Vec<T>, ExchangeError>
+where
+    T: Drop + Send,
+    J: Naming + Send + Sync,
+    R: Threads + Wait + RandomSource + AllocGlobal + Sync,
+    requires first { pass ≡ known [] [] whole }
+    ensures exchanged { IfOk result (λ got. got.items ≡ messages.items) }
+{
+    let mut sends = pass;
+    let receives = sends.again(channel.board());
+    let count = messages.len();
+    let (sent, received) = thread::join(
+        rt,
+        move || -> Result<Pass<T, J>, ExchangeError>
+            requires { (sends.share ≡ half whole) × (sends.own ≡ []) }
+            ensures { IfOk result (λ p. Tells messages.items [] p
+                × (p.share ≡ both (half (half whole)) (half (half whole)))) }
+        { send_all_in_task(rt, channel, sends, messages) },
+        move || -> Result<(Vec<T>, Pass<T, J>), ExchangeError>
+            requires { (receives.share ≡ half whole) × (receives.own ≡ []) }
+            ensures { IfOk result (λ r. Tells [] r.0.items r.1 × (r.1.share ≡ half whole)
+                × (length r.0.items ≡ count)) }
+        { receive_all(rt, alloc, channel, receives, count) },
+    );
+    let (sender, (got, receiver)) = both_of(sent, received)?;
+    overseen(channel, sender, receiver);
+    Ok(got)
+}
+
+/// Sends the messages by a thread and receives them in a task, on a channel of its own, of this capacity or
+/// without limit. What came out is what went in, in order.
+///
+/// It waits until both have ended. The caller picks the channel's name as for `exchanged`.
+///
+/// # Errors
+/// As `exchanged`, and `Task` where the executor refused a future. All messages are dropped then, once each,
+/// those that came, too.
+///
+/// # Examples
+/// ```text
+/// exchanged_to_task::<_, Brand, _>(&rt, alloc, Some(4), opened, messages)   answers  Ok of the same list
+/// ```
+pub fn exchanged_to_task<T, J, R>(
+    rt: &R,
+    alloc: Global,
+    capacity: Option<usize>,
+    opened: Opened<Call<T>>,
+    messages: Vec<T>,
+) -> Result<Vec<T>, ExchangeError>
+where
+    T: Drop + Send,
+    J: Naming + Send + Sync,
+    R: Threads + Wait + RandomSource + AllocGlobal + Sync,
+    requires name { table_of opened ≡ J.table }
+    requires capacity { J.capacity ≡ capacity }
+    ensures exchanged { IfOk result (λ got. got.items ≡ messages.items) }
+{
+    let (channel, pass) = channel_of::<T, J>(alloc, capacity, opened)?;
+    to_task(rt, alloc, &channel, pass, messages)
+}
+
+/// Sends the messages in a task and receives them by a thread, on a channel of its own, of this capacity or
+/// without limit. What came out is what went in, in order.
+///
+/// It waits until both have ended. The caller picks the channel's name as for `exchanged`.
+///
+/// # Errors
+/// As `exchanged`, and `Task` where the executor refused a future. All messages are dropped then, once each,
+/// those that came, too.
+///
+/// # Examples
+/// ```text
+/// exchanged_from_task::<_, Brand, _>(&rt, alloc, Some(4), opened, messages)   answers  Ok of the same list
+/// ```
+pub fn exchanged_from_task<T, J, R>(
+    rt: &R,
+    alloc: Global,
+    capacity: Option<usize>,
+    opened: Opened<Call<T>>,
+    messages: Vec<T>,
+) -> Result<Vec<T>, ExchangeError>
+where
+    T: Drop + Send,
+    J: Naming + Send + Sync,
+    R: Threads + Wait + RandomSource + AllocGlobal + Sync,
+    requires name { table_of opened ≡ J.table }
+    requires capacity { J.capacity ≡ capacity }
+    ensures exchanged { IfOk result (λ got. got.items ≡ messages.items) }
+{
+    let (channel, pass) = channel_of::<T, J>(alloc, capacity, opened)?;
+    from_task(rt, alloc, &channel, pass, messages)
+}

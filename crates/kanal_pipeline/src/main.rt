@@ -1,40 +1,42 @@
-//! Counts lines and words of standard input in a pipeline of three threads: the first reads lines, the
-//! second counts each line's words, and the third, which is slow, adds them up.
+//! Counts lines and words of standard input in a pipeline of three threads: the first sends the lines, the
+//! second counts each line's words, and the third receives the counts.
 //!
-//! A stage that is slower than the one before it holds that one back: a bounded channel is full then,
-//! and a send waits. How many lines waited in the first channel at most goes to standard error, since
-//! no two runs agree on it. The sums lean on first in, first out and on one owner for each message:
-//! each line is counted once, in its order (`kanal_core`, `ChannelInternal::offer` and `take`).
+//! A stage that is slower than the one before it holds that one back: a bounded channel is full then, and a
+//! send waits. That each line was counted once, in its order, is the contract of `mapped` of `kanal_exchange`.
 #![tactic(auto)]
 
-mod stages;
+mod words;
 
 use anyhow::Result;
+use kanal_exchange::mapped;
+use kanal_one_history::Opened;
 use std::io::{BufRead, BufReader};
+use std::marker::Brand;
+use words::Words;
 
-/// How many lines may wait for the second stage.
-const LINES: usize = 4;
-
-/// How many counts may wait for the third.
-const COUNTS: usize = 2;
+/// How many lines may wait for the second thread, and how many counts for the third.
+const PLACES: usize = 4;
 
 fn main(rt: HostRuntime) -> Result<()> {
-    let (lines, to_count) = kanal::bounded::<String>(rt.alloc(), LINES)?;
-    let (counts, to_add) = kanal::bounded::<u64>(rt.alloc(), COUNTS)?;
-    let counting = stages::count_words(rt, to_count, counts)?;
-    let adding = stages::add_up(rt, to_add)?;
-
-    let mut most = 0;
+    let mut lines = Vec::new(rt.alloc());
     let input = BufReader::new(rt.alloc(), rt.reader())?;
     for line in input.lines(rt.alloc()) {
-        lines.send(&rt, line?)?;
-        most = lines.len(&rt).max(most);
+        lines.push(line?)?;
     }
-    drop(lines);
-
-    counting.join(&rt)?;
-    let total = adding.join(&rt)?;
-    eprintln!(rt; "at most {most} of {LINES} lines waited")?;
-    println!(rt; "{} words in {} lines", total.words, total.lines)?;
+    let (opened, behind) = (Opened::new(rt.alloc())?, Opened::new(rt.alloc())?);
+    let counts = mapped::<_, Brand, Brand, _>(
+        &rt,
+        rt.alloc(),
+        &Words,
+        Some(PLACES),
+        opened,
+        behind,
+        lines,
+    )?;
+    let mut words: u64 = 0;
+    for count in counts.iter() {
+        words = words.wrapping_add(*count);
+    }
+    println!(rt; "{words} words in {} lines", counts.len())?;
     Ok(())
 }

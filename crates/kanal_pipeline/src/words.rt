@@ -1,0 +1,46 @@
+//! The stage: what becomes of a line.
+//!
+//! Stands on `kanal_exchange`, which hands each line to it.
+ghost use Rattle.std.specs.Prelude.{◌≡◌, ◌%◌, ◌^◌, cond};
+ghost use Rattle.kanal_pipeline.specs.Words.{words_of};
+
+use kanal_exchange::Stage;
+
+/// Makes the number of its words of each line.
+pub struct Words;
+
+impl Stage for Words {
+    type Input = String;
+
+    type Output = u64;
+
+    ghost use Rattle.std.specs.Prelude.{◌%◌, ◌^◌, string_bytes};
+    ghost use Rattle.kanal_pipeline.specs.Words.{words_of};
+
+    ghost value = { λ _ line. words_of (string_bytes line) % 2 ^ 64 };
+
+    fn apply(&self, message: String) -> Option<u64> {
+        Some(words_of(message.as_str()))
+    }
+}
+
+/// How many words begin with a character that is white space or not, behind one that was of a word or not.
+fn begun(inside: bool, white: bool) -> u64
+    ensures { result ≡ cond white 0 (cond inside 0 1) }
+{
+    if white || inside { 0 } else { 1 }
+}
+
+/// How many words the line has.
+fn words_of(line: &str) -> u64
+    ensures { result ≡ words_of line.now % 2 ^ 64 }
+{
+    let mut count: u64 = 0;
+    let mut inside = false;
+    for character in line.chars() {
+        let white = character.is_whitespace();
+        count = count.wrapping_add(begun(inside, white));
+        inside = !white;
+    }
+    count
+}

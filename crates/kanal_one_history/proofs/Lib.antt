@@ -6,3 +6,4 @@ pub mod Handles
 pub mod Finality
 pub mod Accounts
 pub mod Waits
+pub mod Firsts

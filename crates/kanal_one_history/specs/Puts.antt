@@ -1,11 +1,14 @@
 -- What the waits of a history came to, and which messages its calls put and got.
-use Rattle.std.specs.Prelude.{◌≡◌, ℕ, false, List, [], ◌∷◌, Option, Some, None}
+use Rattle.std.specs.Prelude.{◌≡◌, ◌⊎◌, ℕ, false, List, [], ◌∷◌, ◌++◌, Option, Some, None}
 use Rattle.kanal_board.specs.Views.{Known}
 use Rattle.kanal_core.specs.declared.internal.outcome.Outcome.{Outcome}
 use Rattle.kanal_core.specs.declared.internal.outcome.Outcome.TheVariants.{Taken, Given}
+use Rattle.kanal_events.specs.declared.event.Event.TheVariants.{Withdraw}
+use Rattle.kanal_events.specs.declared.event.Reply.TheVariants.{Waits, Withdrawn}
 use Rattle.kanal_journal.specs.Paired.{Demand, AtOnce, Later, Next, asked, cleared_by, given, gift_of, is_ended, is_gone, sent}
 use Rattle.kanal_journal.specs.Laws.{EndsOnce}
 use Rattle.kanal_history.specs.declared.call.Call.{Call}
+use Rattle.kanal_history.specs.Calls.{IsIn}
 use Rattle.kanal_one_history.specs.Calls.{HasSettled, history_of}
 use Rattle.kanal_one_history.specs.History.{Looks, Makes}
 
@@ -19,6 +22,26 @@ module _ {T : Type 0} where
   WaitsAsSettled log =
       (t : ℕ) (outcome : Outcome T) → HasSettled log (t, outcome) → is_ended outcome ≡ false
       → (is_gone (history_of log) t ≡ false) × (given (history_of log).settled t ≡ gift_of outcome)
+
+  -- a call of this history was told that it waits under this ticket
+  pub record HasBegunToWait (log : List (Call T)) (ticket : ℕ) : Type 0 where
+    pub before : List (Call T)
+    pub call : Call T
+    pub rest : List (Call T)
+    pub stands : log ≡ before ++ call ∷ rest
+    pub told : call.reply ≡ Waits ticket
+
+  -- the call settled this ticket, or withdrew it
+  abbrev pub SettlesOrWithdraws : Call T → ℕ → Type 0
+  SettlesOrWithdraws call t =
+      ((outcome : Outcome T) × IsIn (t, outcome) call.settled)
+      ⊎ ((message : Option T) × (call.event ≡ Withdraw t) × (call.reply ≡ Withdrawn message))
+
+  -- each ticket that a call settled or withdrew was told to a call before it, which began to wait
+  abbrev pub WaitsComeFirst : List (Call T) → Type 0
+  WaitsComeFirst log =
+      (before : List (Call T)) (call : Call T) (rest : List (Call T)) (t : ℕ) → log ≡ before ++ call ∷ rest
+      → SettlesOrWithdraws call t → HasBegunToWait before t
 
   -- these messages entered, each at once, or with a send that waited and was taken
   abbrev pub ArePut : List (Call T) → List (T × Option ℕ) → List T → Type 0

@@ -10,7 +10,7 @@ ghost use Rattle.kanal_history.specs.Calls.{IsSilent};
 ghost use Rattle.kanal_journal.specs.Paired.{Paired};
 ghost use Rattle.kanal_one_history.specs.Accounts.{LeadsAsTold};
 ghost use Rattle.kanal_one_history.specs.Calls.{IsLegal, history_of};
-ghost use Rattle.kanal_one_history.specs.Puts.{EachEndsOnce, WaitsAsSettled};
+ghost use Rattle.kanal_one_history.specs.Puts.{EachEndsOnce, WaitsAsSettled, WaitsComeFirst};
 
 use kanal_board::{Board, Front, Naming};
 use kanal_history::Call;
@@ -45,9 +45,10 @@ impl<T, J: Naming> Pass<T, J> {
     /// One line of messages tells of the calls that the pass has seen what was told of them. At every cut of
     /// them the i-th kept message went to the i-th kept demand, by the definitions that `run` of the journal
     /// cites. No ticket was settled and withdrawn, or one of both twice. A wait that was settled otherwise
-    /// than by an end was neither withdrawn nor ended, and was given what its settlement says. The events of
-    /// the calls lead a new channel to an account that tells the same, so each law of the journal can be
-    /// cited of them.
+    /// than by an end was neither withdrawn nor ended, and was given what its settlement says. Each ticket
+    /// that a call settled or withdrew was told to a call before it, which began to wait. The events of the
+    /// calls lead a new channel to an account that tells the same, so each law of the journal can be cited of
+    /// them.
     ///
     /// # Examples
     /// ```text
@@ -58,6 +59,7 @@ impl<T, J: Naming> Pass<T, J> {
         ensures paired { (n : ℕ) → Paired (history_of (take n self.now.log)) }
         ensures ends_once { EachEndsOnce self.now.log }
         ensures as_settled { WaitsAsSettled self.now.log }
+        ensures waits_first { WaitsComeFirst self.now.log }
         ensures leads { LeadsAsTold J.capacity self.now.log }
     {
         let _ = &self.front;

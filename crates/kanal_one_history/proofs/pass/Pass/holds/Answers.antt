@@ -1,6 +1,7 @@
 use Rattle.std.proofs.Common.{subst}
 use Rattle.kanal_one_history.specs.Calls.{IsLegal}
 use Rattle.kanal_one_history.proofs.Accounts.{leads_as_told}
+use Rattle.kanal_one_history.proofs.Firsts.{waits_come_first}
 use Rattle.kanal_one_history.proofs.Pairing.{legal_paired_at}
 use Rattle.kanal_one_history.proofs.Waits.{each_ends_once, waits_as_settled}
 use Rattle.kanal_one_history.proofs.pass.Pass.holds.Goals as goal
@@ -19,6 +20,11 @@ pub returns-clause-as_settled : goal.returns-clause-as_settled
 returns-clause-as_settled g c =
     let capacity = g.J.Naming.capacity in
     waits_as_settled capacity c.args.self.now.log (subst (λ k. IsLegal capacity k.log) c.self.view_is c.self.invariant.0)
+
+pub returns-clause-waits_first : goal.returns-clause-waits_first
+returns-clause-waits_first g c =
+    let capacity = g.J.Naming.capacity in
+    waits_come_first capacity c.args.self.now.log (subst (λ k. IsLegal capacity k.log) c.self.view_is c.self.invariant.0)
 
 pub returns-clause-leads : goal.returns-clause-leads
 returns-clause-leads g c =

@@ -151,12 +151,14 @@ fn look<P: Drop>(policy: &WaitPolicy, awake: Awake<P>) -> Result<P, Awake<P>> {
     let mut looks = Looks::new(policy);
     let mut awake = awake;
     for _ in 0..LOOKS {
-        match awake.poll() {
-            Ok(outcome) => {
-                looks.end();
-                return Ok(outcome);
-            },
-            Err(back) => awake = back,
+        if awake.is_settled() {
+            match awake.poll() {
+                Ok(outcome) => {
+                    looks.end();
+                    return Ok(outcome);
+                },
+                Err(back) => awake = back,
+            }
         }
         if !looks.go_on() {
             return Err(awake);

@@ -109,6 +109,21 @@ impl<P: Drop> WaitEnd<P> {
         }
     }
 
+    /// Whether the cell was settled, by one load. What it answers is no part of the rule: the cell may be
+    /// settled right after it. So it says no more than that a `poll` is worth its while.
+    ///
+    /// It never waits.
+    ///
+    /// ```
+    /// assert!(!wait.is_settled());
+    /// assert!(settle.settle(5) == None);
+    /// assert!(wait.is_settled());
+    /// ```
+    #[inline(always)]
+    pub fn is_settled(&self) -> bool {
+        self.signal.table.shared.peek(0) & ENDED != 0
+    }
+
     /// Registers a sleeper, by one atomic step, unless the outcome is there: then it is answered.
     /// None: the settle that comes later will wake the sleeper, and a `poll` after that finds the
     /// outcome.

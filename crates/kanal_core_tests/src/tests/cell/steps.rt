@@ -125,7 +125,9 @@ fn a_sleep_on_the_word_then_a_settle(rt: HostRuntime) {
 #[test]
 fn a_settle_then_a_sleep_on_the_word(rt: HostRuntime) {
     let (mut wait, mut settle) = cell::<u64>(&rt);
+    holds(&rt, !wait.is_settled());
     equal(&rt, settle.settle(5), None);
+    holds(&rt, wait.is_settled());
     equal(&rt, wait.sleep_here(), Some(5));
     wait.park(&rt);
     equal(&rt, wait.leave(), None);

@@ -13,7 +13,8 @@ use Rattle.kanal_events.specs.declared.made.Made.{Made}
 use Rattle.kanal_events.specs.Steps.{Told, step, Tells, is_no_memory, moving, nothing_there, only, take_front, wait}
 use Rattle.kanal_events.specs.Made.{entered, got, reply_of, told_of}
 use Rattle.kanal_history.specs.Calls.{IsDrop, IsSilent, IsToldOn, call_of, line_by}
-use Rattle.kanal_history.specs.Entries.{call_from, tried_entry, tried_receipt}
+use Rattle.kanal_history.specs.declared.call.Call.{Call}
+use Rattle.kanal_history.specs.Entries.{call_from, told_by, tried_entry, tried_receipt}
 use Rattle.kanal_history.proofs.Telling.{tells_step, tells_refused}
 
 module _ {T : Type 0} where
@@ -82,17 +83,22 @@ module _ {T W : Type 0} where
       let told : call_from event m ≡ call_of event (step l event) = told-on l event (told_of new m) (drop_told l event (told_of new m) drops tells) in
       subst (λ e. (call_from e m ≡ call_of e (step l e)) × IsSilent e) (sym was) (told, drop_silent event drops)
 
-  -- the same of a call that was noted and not refused
-  pub noted-on : (l new : Line T) (event : Event T) (m : Made T W) → Tells l event (told_of new m) → is_no_memory (reply_of m) ≡ false → call_from event m ≡ call_of event (step l event)
-  noted-on l new event m tells clear = told-on l event (told_of new m) (tells_step l event (told_of new m) tells clear)
+module _ {T : Type 0} where
+  -- the same of a call that was kept and not refused
+  pub kept-on : (l new : Line T) (event : Event T) (c : Call T) → c.event ≡ event → Tells l event (told_by new c) → is_no_memory c.reply ≡ false → IsToldOn l c
+  kept-on l new event c asked tells clear =
+      let here : Tells l c.event (told_by new c) = subst (λ e. Tells l e (told_by new c)) (sym asked) tells in
+      told-on l c.event (told_by new c) (tells_step l c.event (told_by new c) here clear)
 
   -- and the line after it
-  pub noted-line : (l new : Line T) (event : Event T) (m : Made T W) → Tells l event (told_of new m) → is_no_memory (reply_of m) ≡ false → line_by (call_from event m) l ≡ new
-  noted-line l new event m tells clear = sym (ap (λ (t : Told T). t.line) (tells_step l event (told_of new m) tells clear))
+  pub kept-line : (l new : Line T) (event : Event T) (c : Call T) → c.event ≡ event → Tells l event (told_by new c) → is_no_memory c.reply ≡ false → line_by c l ≡ new
+  kept-line l new event c asked tells clear =
+      let here : Tells l c.event (told_by new c) = subst (λ e. Tells l e (told_by new c)) (sym asked) tells in
+      sym (ap (λ (t : Told T). t.line) (tells_step l c.event (told_by new c) here clear))
 
   -- one that was refused for memory leaves the line
-  pub refused-line : (l new : Line T) (event : Event T) (m : Made T W) → Tells l event (told_of new m) → is_no_memory (reply_of m) ≡ true → l ≡ new
-  refused-line l new event m tells lacking = sym (ap (λ (t : Told T). t.line) (tells_refused l event (told_of new m) tells lacking).1)
+  pub refused-line : (l new : Line T) (event : Event T) (c : Call T) → Tells l event (told_by new c) → is_no_memory c.reply ≡ true → l ≡ new
+  refused-line l new event c tells lacking = sym (ap (λ (t : Told T). t.line) (tells_refused l event (told_by new c) tells lacking).1)
 
 module _ {T : Type 0} where
   abbrev reply-of : Told T → Reply T

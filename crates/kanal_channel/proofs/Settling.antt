@@ -1,5 +1,5 @@
 -- What passes tell of a call that was noted, one that waited, and one that began where the pass had looked.
-use Rattle.std.proofs.Common.{◌≡◌, ℕ, Bool, true, false, true≢false, Some, List, [], ◌∷◌, Result, Ok, Err, refl, ap, sym, ◌∙◌, inl, inr, subst}
+use Rattle.std.proofs.Common.{◌≡◌, ℕ, Bool, true, false, true≢false, Option, Some, List, [], ◌∷◌, Result, Ok, Err, refl, ap, sym, ◌∙◌, inl, inr, subst}
 use Rattle.std.proofs.lemmas.Bool.{cases_Bool}
 use Rattle.kanal_core.specs.declared.internal.outcome.Outcome.{Outcome}
 use Rattle.kanal_core.specs.declared.error.ReceiveError.{ReceiveError}
@@ -14,16 +14,17 @@ use Rattle.kanal_events.specs.Steps.{is_no_memory, no_memory}
 use Rattle.kanal_events.specs.Steps.{IsWait}
 use Rattle.kanal_history.specs.declared.call.Call.{Call}
 use Rattle.kanal_events.specs.declared.made.Made.{Made}
+use Rattle.kanal_events.specs.declared.made.Owed.{Owed}
 use Rattle.kanal_core.specs.Line.{Line}
 use Rattle.kanal_history.specs.Calls.{IsIn, IsTold}
 use Rattle.kanal_events.specs.Made.{settled_of, reply_of}
-use Rattle.kanal_history.specs.Entries.{MayLack, entry, receipt, tried_entry, tried_receipt}
+use Rattle.kanal_history.specs.Entries.{MayLack, call_from, entry, fetched_receipt, handed_entry, receipt, tried_entry, tried_receipt}
 use Rattle.kanal_history.specs.Words.{Words, AreSound, HaveSettled, HaveShown}
 use Rattle.kanal_channel.specs.declared.blocking.Begun.{Begun}
 use Rattle.kanal_channel.specs.declared.blocking.Begun.TheVariants.{Replied as BegunReplied, Waits as BegunWaits, Lacking as BegunLacking}
 use Rattle.kanal_channel.specs.Starts.{HasBegun}
 use Rattle.kanal_history.specs.Handles.{TriesToReceive, TriesToSend}
-use Rattle.kanal_history.specs.Makes.{Lacks, IsReplied, HasWaited, IsNoted, IsAnswered, HasReplied, Finishes, Comes, SeesWait}
+use Rattle.kanal_history.specs.Makes.{Lacks, IsReplied, HasWaited, IsKept, IsNoted, IsAnswered, HasReplied, Finishes, Comes, SeesWait}
 use Rattle.kanal_history.specs.Results.{received_after, received_by, sent_after, sent_by}
 
 module _ {T S : Type 0} where
@@ -43,12 +44,15 @@ module _ {T P : Type 0} (w : Words T P) (sound : AreSound w) where
   pub made_settled : (old new : P) (call : Call T) → w.makes old new call → HaveSettled w new call.settled
   made_settled old new call m = all-settled old new call m call.settled (λ p i. i)
 
-  pub noted_settled : {W : Type 0} (old new : P) (event : Event T) (made : Made T W) → IsNoted w old new event made → HaveSettled w new (settled_of made)
-  noted_settled old new event made n =
-      elim (cases_Bool (is_no_memory (reply_of made))) [
+  pub kept_settled : (old new : P) (event : Event T) (call : Call T) → IsKept w old new event call → HaveSettled w new call.settled
+  kept_settled old new event call n =
+      elim (cases_Bool (is_no_memory call.reply)) [
         | inl lacking ↦ subst (HaveSettled w new) (sym (n.lacks lacking).2) tt
-        | inr clear ↦ all-settled old new _ (n.stands clear).0 (settled_of made) (λ p i. i)
+        | inr clear ↦ made_settled old new call (n.stands clear).0
       ]
+
+  pub noted_settled : {W : Type 0} (old new : P) (event : Event T) (made : Made T W) → IsNoted w old new event made → HaveSettled w new (settled_of made)
+  noted_settled old new event made n = kept_settled old new event (call_from event made) n
 
   pub replied-from : {R : Type 0} (old mid new : P) (event : Event T) (read : Reply T → R) (answer : R) → w.looks old mid → IsReplied w mid new event read answer → IsReplied w old new event read answer
   replied-from old mid new event read answer looks r =
@@ -71,10 +75,11 @@ module _ {T P : Type 0} (w : Words T P) (sound : AreSound w) where
   answered-from old mid new event reply looks (inl r) = inl (replied-from old mid new event (λ x. x) reply looks r)
   answered-from old mid new event reply looks (inr r) = inr (lacks-from old mid new event looks r.0, r.1)
 
-  -- a call that was noted where the pass had looked
-  pub noted_from : {W : Type 0} (old mid new : P) (event : Event T) (made : Made T W) → w.looks old mid → IsNoted w mid new event made → IsNoted w old new event made
-  noted_from old mid new event made looks n =
+  -- a call that was kept where the pass had looked
+  pub kept_from : (old mid new : P) (event : Event T) (call : Call T) → w.looks old mid → IsKept w mid new event call → IsKept w old new event call
+  kept_from old mid new event call looks n =
       record {
+        asked = n.asked;
         stands = λ clear. let s = n.stands clear in (sound.makes_on old mid new _ looks s.0, s.1);
         lacks = λ lacking. let l = n.lacks lacking in (lacks-from old mid new event looks l.0, l.1, l.2);
       }
@@ -98,12 +103,15 @@ module _ {T P : Type 0} (w : Words T P) where
   all_shown shows a s on [] have = tt
   all_shown shows a s on (pair ∷ pairs) have = (on pair have.0, all_shown shows a s on pairs have.1)
 
-  pub noted_answered : {W : Type 0} (old new : P) (event : Event T) (made : Made T W) → IsNoted w old new event made → IsAnswered w old new event (reply_of made)
-  noted_answered old new event made n =
-      elim (cases_Bool (is_no_memory (reply_of made))) [
+  pub kept_answered : (old new : P) (event : Event T) (call : Call T) → IsKept w old new event call → IsAnswered w old new event call.reply
+  kept_answered old new event call n =
+      elim (cases_Bool (is_no_memory call.reply)) [
         | inl lacking ↦ let l = n.lacks lacking in inr (l.0, l.1)
-        | inr clear ↦ inl (record { call = _; made = (n.stands clear).0; asked = refl; reads = refl; told = (n.stands clear).1 })
+        | inr clear ↦ inl (record { call = call; made = (n.stands clear).0; asked = n.asked; reads = refl; told = (n.stands clear).1 })
       ]
+
+  pub noted_answered : {W : Type 0} (old new : P) (event : Event T) (made : Made T W) → IsNoted w old new event made → IsAnswered w old new event (reply_of made)
+  noted_answered old new event made n = kept_answered old new event (call_from event made) n
 
   -- a call that was noted and doesn't wait, once those are told whose waits it settled
   pub noted_replied : {W : Type 0} (old mid new : P) (event : Event T) (made : Made T W) (reply : Reply T)
@@ -112,10 +120,15 @@ module _ {T P : Type 0} (w : Words T P) where
       let here : HasReplied w old mid event (reply_of made) = (noted_answered old mid event made n, clear) in
       subst (λ pass. HasReplied w old pass event reply) (sym same) (subst (λ x. HasReplied w old mid event x) (sym is) here)
 
-  -- a call that was noted, and waits
-  pub noted_waits : {W : Type 0} (old new : P) (event : Event T) (made : Made T W) (ticket : ℕ)
-      → IsNoted w old new event made → reply_of made ≡ Waits ticket → IsReplied w old new event (λ reply. reply) (Waits ticket)
-  noted_waits old new event made ticket n is = let stands = n.stands (ap is_no_memory is) in record { call = _; made = stands.0; asked = refl; reads = sym is; told = stands.1 }
+  -- a call that was kept and doesn't wait
+  pub kept_replied : (old new : P) (event : Event T) (call : Call T) → IsKept w old new event call → (IsWait call.reply → ⊥) → HasReplied w old new event call.reply
+  kept_replied old new event call n clear = (kept_answered old new event call n, clear)
+
+  -- a call that was kept, and waits
+  pub kept_waits : (old new : P) (event : Event T) (call : Call T) (ticket : ℕ)
+      → IsKept w old new event call → call.reply ≡ Waits ticket → IsReplied w old new event (λ reply. reply) (Waits ticket)
+  kept_waits old new event call ticket n is =
+      let stands = n.stands (ap is_no_memory is) in record { call = call; made = stands.0; asked = n.asked; reads = sym is; told = stands.1 }
 
   pub has_waited : (old mid new : P) (event : Event T) (ticket : ℕ) (outcome : Outcome T)
       → IsReplied w old mid event (λ reply. reply) (Waits ticket) → w.looks mid new → w.settled new (ticket, outcome) → HasWaited w old new event outcome
@@ -142,6 +155,20 @@ module _ {T P : Type 0} (w : Words T P) where
   -- the message was got
   pub received_at_once : (old new : P) (m : T) → w.makes old new (receipt m) → IsTold (receipt m) → Finishes w old new Recv received_by received_after (Err ReceiveNoMemory) (Ok m)
   received_at_once old new m made told = inl (record { replied = record { call = receipt m; made = made; asked = refl; reads = refl; told = told }; clear = λ waits. waits })
+
+  -- it entered or was handed over, and who is owed it was told
+  pub handed_at_once : {W : Type 0} (old mid new : P) (m : T) (owed : Option (Owed T W)) → w.makes old mid (handed_entry m owed) → IsTold (handed_entry m owed) → new ≡ mid
+      → Finishes w old new (Send m) sent_by sent_after (Err SendNoMemory) (Ok tt)
+  handed_at_once old mid new m owed made told same =
+      subst (λ (k : P). Finishes w old k (Send m) sent_by sent_after (Err SendNoMemory) (Ok tt)) (sym same)
+      (inl (record { replied = record { call = handed_entry m owed; made = made; asked = refl; reads = refl; told = told }; clear = λ waits. waits }))
+
+  -- the message was got, and who is owed that was told
+  pub fetched_at_once : {W : Type 0} (old mid new : P) (m : T) (owed : Option (Owed T W)) → w.makes old mid (fetched_receipt m owed) → IsTold (fetched_receipt m owed) → new ≡ mid
+      → Finishes w old new Recv received_by received_after (Err ReceiveNoMemory) (Ok m)
+  fetched_at_once old mid new m owed made told same =
+      subst (λ (k : P). Finishes w old k Recv received_by received_after (Err ReceiveNoMemory) (Ok m)) (sym same)
+      (inl (record { replied = record { call = fetched_receipt m owed; made = made; asked = refl; reads = refl; told = told }; clear = λ waits. waits }))
 
   -- a send that goes on with what came back, and with the pass as it was
   pub sent_from : (old mid new : P) (m back : T) (answer : Result (Unit {0}) SendError) → back ≡ m → mid ≡ old → Finishes w mid new (Send back) sent_by sent_after (Err SendNoMemory) answer → Finishes w old new (Send m) sent_by sent_after (Err SendNoMemory) answer

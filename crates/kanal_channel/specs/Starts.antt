@@ -1,23 +1,16 @@
 -- What a call came to that waits where it must.
 use Rattle.std.specs.Prelude.{◌≡◌}
-use Rattle.kanal_cell.specs.CellRule.{MaySleep}
-use Rattle.kanal_cell.specs.CellEnds.{wait_view}
 use Rattle.kanal_core.specs.Tickets.{number_of}
 use Rattle.kanal_events.specs.declared.event.Event.{Event}
 use Rattle.kanal_events.specs.declared.event.Reply.TheVariants.{Waits}
-use Rattle.kanal_events.specs.Made.{reply_of}
-use Rattle.kanal_events.specs.Steps.{IsWait}
-use Rattle.kanal_history.specs.Makes.{HasReplied, HasWaited, IsNoted, IsReplied, Lacks, SeesWait}
+use Rattle.kanal_history.specs.Makes.{HasReplied, HasWaited, IsReplied, Lacks, SeesWait}
 use Rattle.kanal_history.specs.Words.{Words}
-use Rattle.kanal_history.specs.declared.history.History.{Ghosts}
 use Rattle.kanal_channel.specs.declared.blocking.Begun.{Begun}
 use Rattle.kanal_channel.specs.declared.blocking.Begun.TheVariants.{Replied as BegunReplied, Waits as BegunWaits, Lacking as BegunLacking}
 use Rattle.kanal_channel.specs.declared.blocking.Came.{Came}
 use Rattle.kanal_channel.specs.declared.blocking.Came.TheVariants.{Replied, Settled, Lacking}
 use Rattle.kanal_channel.specs.declared.blocking.Looked.{Looked}
 use Rattle.kanal_channel.specs.declared.blocking.Looked.TheVariants.{Replied as LookReplied, MustWait as LookMustWait}
-use Rattle.kanal_channel.specs.declared.state.Starting.{Starting}
-use Rattle.kanal_channel.specs.declared.state.Starting.TheVariants.{Made as StartMade, Waits as StartWaits, Lacking as StartLacking}
 
 module _ {T P : Type 0} where
   -- what a call came to that waits where it must
@@ -31,16 +24,8 @@ module _ {T P : Type 0} where
   HasLooked w old new event (LookReplied reply) = HasReplied w old new event reply
   HasLooked w old new event (LookMustWait back) = (back ≡ event) × w.looks old new × SeesWait w new event
 
-module _ {T H P B S C : Type 0} {G : Ghosts H T P B S C} where
-  -- what the start of a wait came to, with what the step told
-  abbrev pub HasStarted : Words T P → P → P → Event T → Starting T H P B S C G → Type 0
-  HasStarted w old new event (StartMade made) = IsNoted w old new event made × (IsWait (reply_of made) → ⊥)
-  HasStarted w old new event (StartWaits made ticket end) =
-      IsNoted w old new event made × (reply_of made ≡ Waits (number_of ticket)) × MaySleep (wait_view end)
-  HasStarted w old new event (StartLacking back) = (back ≡ event) × Lacks w old new event
-
 module _ {T H P B S C : Type 0} where
-  -- the same, once those are told whose waits the step settled
+  -- what the start of a wait came to, once those are told whose waits the step settled
   abbrev pub HasBegun : Words T P → P → P → Event T → Begun T H P B S C → Type 0
   HasBegun w old new event (BegunReplied reply) = HasReplied w old new event reply
   HasBegun w old new event (BegunWaits ticket waiting) = IsReplied w old new event (λ reply. reply) (Waits (number_of ticket))

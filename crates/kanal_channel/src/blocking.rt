@@ -4,19 +4,19 @@
 //! lock, makes one step on the state, gives the lock back, and only then tells those whose waits it settled,
 //! and drops what it cleared.
 ghost use Rattle.std.specs.Prelude.{◌≡◌, true};
-ghost use Rattle.kanal_events.specs.Made.{is_plain, may_wait, reply_of, settled_of};
-ghost use Rattle.kanal_history.specs.Makes.{IsAnswered};
+ghost use Rattle.kanal_events.specs.Made.{MustWait, is_plain, made_of, may_wait, owed_by, reply_of, settled_of};
+ghost use Rattle.kanal_history.specs.Makes.{IsAnswered, SeesWait};
 ghost use Rattle.kanal_history.specs.Words.{HaveSettled, HaveShown};
-ghost use Rattle.kanal_channel.specs.Locks.{IsQuiet};
+ghost use Rattle.kanal_channel.specs.Locks.{IsQuiet, line_under};
 ghost use Rattle.kanal_channel.specs.Starts.{HasBegun, HasCome, HasLooked};
 
 use crate::delivered::Delivered;
 use crate::seat::Seat;
 use crate::shared::{Left, Locked, Shared};
-use crate::state::Starting;
+use crate::state::ends;
 use kanal_core::internal::{Outcome, Ticket};
 use kanal_events::event::{Event, Reply};
-use kanal_events::made::{Made, Tried};
+use kanal_events::made::{Answered, Kept, Made, Owed, Tried};
 use kanal_history::History;
 use kanal_waits::{Waiting, pause_once};
 use std::sync::Wait;
@@ -107,12 +107,60 @@ impl<T: Drop, H: History<T>> Shared<T, H> {
         reply
     }
 
+    /// Gives the lock back after a step that settled at most one wait, tells who is owed that, and looks for new
+    /// notices if there are some.
+    #[inline]
+    pub(crate) fn give_back_owed(
+        &self,
+        locked: Locked<'_, T, H>,
+        pass: &mut H::Pass,
+        owed: Option<Owed<T, Seat<T, H>>>,
+    )
+        requires quiet { IsQuiet locked }
+        requires seen { HaveSettled H.words pass.old (owed_by owed) }
+        ensures same { pass.new ≡ pass.old }
+    {
+        locked.release();
+        if let Some(owed) = owed {
+            owed.tell(H::prefix(&self.board, pass));
+        }
+        if !self.is_quiet() {
+            self.look();
+        }
+    }
+
+    /// The same, of a call that was answered at once, with its reply.
+    ///
+    /// # Examples
+    /// ```text
+    /// match locked.state.start(shared.board(), &mut pass, Event::Recv) {
+    ///     Tried::Told(answered) => shared.give_back_answered(locked, &mut pass, answered),
+    ///     ..
+    /// }
+    /// ```
+    #[inline]
+    pub fn give_back_answered(
+        &self,
+        locked: Locked<'_, T, H>,
+        pass: &mut H::Pass,
+        answered: Answered<T, Seat<T, H>>,
+    ) -> Reply<T>
+        requires quiet { IsQuiet locked }
+        requires seen { HaveSettled H.words pass.old (settled_of (made_of answered)) }
+        ensures reply { result ≡ reply_of (made_of answered) }
+        ensures same { pass.new ≡ pass.old }
+    {
+        let (reply, owed) = answered.into_parts();
+        self.give_back_owed(locked, pass, owed);
+        reply
+    }
+
     /// The same, of a lock that one try got: what the notices took out is told first.
     ///
     /// # Examples
     /// ```text
     /// let (mut locked, left) = shared.try_hold()?;
-    /// let made = locked.state.start(shared.board(), &mut pass, Event::Recv);
+    /// let made = locked.state.call(shared.board(), &mut pass, Event::TryRecv);
     /// shared.give_back_left(locked, left, &mut pass, made)   answers  the reply
     /// ```
     pub fn give_back_left(
@@ -158,7 +206,8 @@ impl<T: Drop, H: History<T>> Shared<T, H> {
         self.give_back(locked, pass, made)
     }
 
-    /// Makes a call that waits where it must, under the lock that was got, and gives the lock back.
+    /// Makes a call that waits where it must, under the lock that was got, and gives the lock back. Whoever
+    /// calls this has looked before, and paused.
     #[cold]
     pub(crate) fn blocking<R: Wait>(
         &self,
@@ -171,7 +220,7 @@ impl<T: Drop, H: History<T>> Shared<T, H> {
         requires quiet { IsQuiet locked }
         ensures come { HasCome H.words pass.old pass.new event result }
     {
-        match self.begin(rt, locked, pass, event) {
+        match self.begin_held(locked, pass, event) {
             Begun::Replied(reply) => Came::Replied(reply),
             Begun::Waits(ticket, waiting) => {
                 let delivered = waiting.outcome(rt, &self.policy);
@@ -215,7 +264,9 @@ impl<T: Drop, H: History<T>> Shared<T, H> {
     {
         let mut locked = locked;
         match locked.state.start(&self.board, pass, event) {
-            Tried::Told(made) => Looked::Replied(self.give_back(locked, pass, made)),
+            Tried::Told(answered) => {
+                Looked::Replied(self.give_back_answered(locked, pass, answered))
+            },
             Tried::MustWait(event) => {
                 locked.give_back_quiet();
                 Looked::MustWait(event)
@@ -224,6 +275,7 @@ impl<T: Drop, H: History<T>> Shared<T, H> {
     }
 
     /// Makes a call under the lock that was got, starts its wait where it must, and gives the lock back.
+    #[inline(always)]
     fn begin_held(
         &self,
         locked: Locked<'_, T, H>,
@@ -235,15 +287,46 @@ impl<T: Drop, H: History<T>> Shared<T, H> {
         ensures begun { HasBegun H.words pass.old pass.new event result }
     {
         let mut locked = locked;
-        match locked.state.begin(&self.board, pass, event, self.alloc) {
-            Starting::Made(made) => Begun::Replied(self.give_back(locked, pass, made)),
-            Starting::Waits(made, ticket, end) => {
-                let _reply = self.give_back(locked, pass, made);
-                Begun::Waits(ticket, Waiting::new(end))
+        match locked.state.start(&self.board, pass, event) {
+            Tried::Told(answered) => {
+                Begun::Replied(self.give_back_answered(locked, pass, answered))
             },
-            Starting::Lacking(event) => {
-                locked.give_back_quiet();
-                Begun::Lacking(event)
+            Tried::MustWait(event) => self.wait_held(locked, pass, event),
+        }
+    }
+
+    /// Starts the wait of a call that the pass has seen must wait, and gives the lock back. The memory of a
+    /// wait is asked for only then, and after the ticket.
+    #[inline(always)]
+    fn wait_held(
+        &self,
+        locked: Locked<'_, T, H>,
+        pass: &mut H::Pass,
+        event: Event<T>,
+    ) -> Begun<T, H>
+        requires waits { may_wait event ≡ true }
+        requires must { MustWait (line_under locked) event }
+        requires sees { SeesWait H.words pass.old event }
+        requires quiet { IsQuiet locked }
+        ensures begun { HasBegun H.words pass.old pass.new event result }
+    {
+        let mut locked = locked;
+        if !locked.state.has_ticket() {
+            let reply = locked.state.refuse(&self.board, pass, event);
+            locked.give_back_quiet();
+            return Begun::Replied(reply);
+        }
+        let Some((end, seat)) = ends(self.alloc) else {
+            locked.give_back_quiet();
+            return Begun::Lacking(event);
+        };
+        let (reply, kept) = locked.state.wait(&self.board, pass, event, seat);
+        locked.give_back_quiet();
+        match kept {
+            Kept::Ticket(ticket) => Begun::Waits(ticket, Waiting::new(end)),
+            Kept::Back(seat) => {
+                drop(seat);
+                Begun::Replied(reply)
             },
         }
     }

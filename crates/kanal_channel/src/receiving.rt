@@ -20,7 +20,7 @@ use crate::timed::Timed;
 use kanal_core::error::{ReceiveError, ReceiveErrorTimeout};
 use kanal_events::event::{Event, Reply};
 use kanal_history::History;
-use kanal_waits::{Clock, later};
+use kanal_waits::{Clock, later, pause_once};
 use std::sync::Wait;
 use std::time;
 use std::time::Duration;
@@ -56,9 +56,58 @@ impl<T: Drop, H: History<T>> Shared<T, H> {
         }
     }
 
-    /// The same, under the lock that was got, where no message left the buffer by itself.
+    /// The same, under the lock that was got, where no message left the buffer by itself. A channel with a
+    /// buffer looks once more after a pause before it waits, since the other side is often about to bring a
+    /// message.
     #[cold]
     fn recv_held<R: Wait>(
+        &self,
+        rt: &R,
+        locked: Locked<'_, T, H>,
+        pass: &mut H::Pass,
+    ) -> Result<T, ReceiveError>
+        requires quiet { IsQuiet locked }
+        ensures received { Receives H.words pass.old pass.new result }
+    {
+        if !self.has_buffer {
+            return self.recv_or_wait(rt, locked, pass);
+        }
+        let mut locked = locked;
+        match locked.state.fetch(&self.board, pass) {
+            Some((message, owed)) => {
+                self.give_back_owed(locked, pass, owed);
+                Ok(message)
+            },
+            None => {
+                locked.give_back_quiet();
+                pause_once();
+                self.recv_or_wait(rt, self.hold(rt), pass)
+            },
+        }
+    }
+
+    /// The same: it gets the front message, and a sender that waits is let in, or the call waits.
+    fn recv_or_wait<R: Wait>(
+        &self,
+        rt: &R,
+        locked: Locked<'_, T, H>,
+        pass: &mut H::Pass,
+    ) -> Result<T, ReceiveError>
+        requires quiet { IsQuiet locked }
+        ensures received { Receives H.words pass.old pass.new result }
+    {
+        let mut locked = locked;
+        match locked.state.fetch(&self.board, pass) {
+            Some((message, owed)) => {
+                self.give_back_owed(locked, pass, owed);
+                Ok(message)
+            },
+            None => self.recv_waiting(rt, locked, pass),
+        }
+    }
+
+    /// The same, where there is no message: the call is refused, or waits.
+    fn recv_waiting<R: Wait>(
         &self,
         rt: &R,
         locked: Locked<'_, T, H>,

@@ -18,7 +18,7 @@ use crate::timed::Timed;
 use kanal_core::error::{SendError, SendErrorTimeout};
 use kanal_events::event::{Event, Reply};
 use kanal_history::History;
-use kanal_waits::{Clock, later};
+use kanal_waits::{Clock, later, pause_once};
 use std::sync::Wait;
 use std::time;
 use std::time::Duration;
@@ -66,9 +66,60 @@ impl<T: Drop, H: History<T>> Shared<T, H> {
         }
     }
 
-    /// The same, under the lock that was got, where the message did not enter by itself.
+    /// The same, under the lock that was got, where the message did not enter by itself. A channel with a
+    /// buffer looks once more after a pause before it waits, since the other side is often about to make a
+    /// place.
     #[cold]
     fn send_held<R: Wait>(
+        &self,
+        rt: &R,
+        locked: Locked<'_, T, H>,
+        pass: &mut H::Pass,
+        message: T,
+    ) -> Result<(), SendError>
+        requires quiet { IsQuiet locked }
+        ensures sent { Sends H.words pass.old pass.new message result }
+    {
+        if !self.has_buffer {
+            return self.send_or_wait(rt, locked, pass, message);
+        }
+        let mut locked = locked;
+        match locked.state.hand(&self.board, pass, message) {
+            Ok(owed) => {
+                self.give_back_owed(locked, pass, owed);
+                Ok(())
+            },
+            Err(message) => {
+                locked.give_back_quiet();
+                pause_once();
+                self.send_or_wait(rt, self.hold(rt), pass, message)
+            },
+        }
+    }
+
+    /// The same: the message enters, or is handed to a receiver that waits, or the call waits.
+    fn send_or_wait<R: Wait>(
+        &self,
+        rt: &R,
+        locked: Locked<'_, T, H>,
+        pass: &mut H::Pass,
+        message: T,
+    ) -> Result<(), SendError>
+        requires quiet { IsQuiet locked }
+        ensures sent { Sends H.words pass.old pass.new message result }
+    {
+        let mut locked = locked;
+        match locked.state.hand(&self.board, pass, message) {
+            Ok(owed) => {
+                self.give_back_owed(locked, pass, owed);
+                Ok(())
+            },
+            Err(message) => self.send_waiting(rt, locked, pass, message),
+        }
+    }
+
+    /// The same, where the message neither enters nor is handed over: the call is refused, or waits.
+    fn send_waiting<R: Wait>(
         &self,
         rt: &R,
         locked: Locked<'_, T, H>,

@@ -2,22 +2,20 @@
 //!
 //! Stands on the one set of steps. Each call lends the core to one step and has the call that was made kept,
 //! before the lock is given back; a call that is refused for memory is not kept. Nothing else changes a core.
-ghost use Rattle.std.specs.Prelude.{◌≡◌, ◌↔◌, ◌==◌, ◌++◌, true, false, not, IsSome, IfErr, IfNone, IfSome, OnOk};
+ghost use Rattle.std.specs.Prelude.{◌≡◌, ◌↔◌, ◌==◌, ◌++◌, true, false, not, IsSome, IfErr, IfNone, IfOk, IfSome, OnOk};
 ghost use Rattle.std.specs.Vec.{vec_capacity, vec_len};
+ghost use Rattle.kanal_cell.specs.CellEnds.{wait_view};
+ghost use Rattle.kanal_cell.specs.CellRule.{MaySleep};
 ghost use Rattle.kanal_core.specs.Channel.{line_of};
 ghost use Rattle.kanal_core.specs.Line.{Line, last_word};
 ghost use Rattle.kanal_core.specs.Tickets.{number_of};
-ghost use Rattle.kanal_events.specs.Steps.{Tells, is_no_memory};
+ghost use Rattle.kanal_core.specs.Waiters.{waiter_of};
+ghost use Rattle.kanal_events.specs.Steps.{IsWait, Tells, is_no_memory, only};
 ghost use Rattle.kanal_events.specs.Made.{Keeps, MustWait, Tries, drained_of, entered, got, is_drained, is_plain, may_wait, reply_of, told_of, withdrawn};
 ghost use Rattle.kanal_history.specs.Calls.{IsTold};
-ghost use Rattle.kanal_history.specs.Entries.{entry, receipt, tried_entry, tried_receipt, withdrawal};
-ghost use Rattle.kanal_history.specs.Makes.{HasTooLittleRoom, IsNoted, IsTried};
-ghost use Rattle.kanal_cell.specs.CellRule.{MaySleep};
-ghost use Rattle.kanal_cell.specs.CellEnds.{wait_view};
-ghost use Rattle.kanal_core.specs.Waiters.{waiter_of};
-ghost use Rattle.kanal_events.specs.Steps.{IsWait};
+ghost use Rattle.kanal_history.specs.Entries.{entry, fetched_receipt, handed_entry, receipt, replied, told_by, tried_entry, tried_receipt, withdrawal};
+ghost use Rattle.kanal_history.specs.Makes.{HasTooLittleRoom, IsKept, IsNoted, IsTried};
 ghost use Rattle.kanal_channel.specs.Renewing.{Renews};
-ghost use Rattle.kanal_channel.specs.Starts.{HasStarted};
 
 mod leaving;
 
@@ -28,8 +26,8 @@ use kanal_board::EntryOf;
 use kanal_cell::signal;
 use kanal_cell::signal::WaitEnd;
 use kanal_core::internal::{Ticket, Waiter};
-use kanal_events::event::{Event, Refusal};
-use kanal_events::made::{Kept, Made, Tried};
+use kanal_events::event::{Event, Refusal, Reply};
+use kanal_events::made::{Answered, Kept, Made, Owed, Tried};
 use kanal_events::steps;
 use kanal_history::{Call, History};
 pub(crate) use leaving::Gone;
@@ -47,6 +45,43 @@ impl<T, W> EntryOf<Asked<T>, Made<T, W>, Call<T>> for OfCall {
     ghost use Rattle.kanal_history.specs.Entries.{call_from};
 
     ghost entry = { λ event made. call_from event.value made };
+}
+
+/// The same, of a call that was answered at once.
+struct OfAnswer;
+
+impl<T, W> EntryOf<Asked<T>, Answered<T, W>, Call<T>> for OfAnswer {
+    ghost use Rattle.kanal_events.specs.Made.{made_of};
+    ghost use Rattle.kanal_history.specs.Entries.{call_from};
+
+    ghost entry = { λ event answered. call_from event.value (made_of answered) };
+}
+
+/// The same, of a call that was replied so, and settled nobody.
+struct OfReply;
+
+impl<T> EntryOf<Asked<T>, Reply<T>, Call<T>> for OfReply {
+    ghost use Rattle.kanal_history.specs.Entries.{replied};
+
+    ghost entry = { λ event reply. replied event.value reply };
+}
+
+/// The entry of a send that entered or was handed over, by its message and who is owed it.
+struct OfHandOver;
+
+impl<T, W> EntryOf<Snapshot<T>, Option<Owed<T, W>>, Call<T>> for OfHandOver {
+    ghost use Rattle.kanal_history.specs.Entries.{handed_entry};
+
+    ghost entry = { λ message owed. handed_entry message.value owed };
+}
+
+/// The entry of a receive that got a message, by the message and who is owed that.
+struct OfFetch;
+
+impl<T, W> EntryOf<T, Option<Owed<T, W>>, Call<T>> for OfFetch {
+    ghost use Rattle.kanal_history.specs.Entries.{fetched_receipt};
+
+    ghost entry = { λ message owed. fetched_receipt message owed };
 }
 
 /// The entry of a send that entered and settled nobody, by its message.
@@ -117,19 +152,12 @@ impl<T, H: History<T>> Model for State<T, H> {
     ghost invariant = { λ s. H.stands s.history (line_of s.core) };
 }
 
-/// What the start of a wait came to.
-pub(crate) enum Starting<T, H: History<T>> {
-    /// The call was made, and doesn't wait.
-    Made(Made<T, Seat<T, H>>),
-    /// The call was made, and waits under this ticket, at this end of its cell.
-    Waits(Made<T, Seat<T, H>>, Ticket, WaitEnd<Delivered<T, H>>),
-    /// There was no memory for the wait. The call comes back.
-    Lacking(Event<T>),
-}
-
 /// What a blocked call waits with: the end at which it is told, and the seat for the core. `None` where
 /// there is no memory for them.
-fn ends<T: Drop, H: History<T>>(alloc: Global) -> Option<(WaitEnd<Delivered<T, H>>, Seat<T, H>)>
+#[inline]
+pub(crate) fn ends<T: Drop, H: History<T>>(
+    alloc: Global,
+) -> Option<(WaitEnd<Delivered<T, H>>, Seat<T, H>)>
     ensures fresh { IfSome result (λ ends. MaySleep (wait_view ends.0)) }
 {
     let (end, settling) = signal::new(alloc).ok()?;
@@ -137,15 +165,15 @@ fn ends<T: Drop, H: History<T>>(alloc: Global) -> Option<(WaitEnd<Delivered<T, H
 }
 
 /// The reply to a call that must wait, where the tickets are used up.
-fn too_many<T: Drop, H: History<T>>(core: &Core<T, H>, event: Event<T>) -> Made<T, Seat<T, H>>
+fn too_many<T: Drop, H: History<T>>(core: &Core<T, H>, event: Event<T>) -> Reply<T>
     requires waits { may_wait event ≡ true }
     requires must { MustWait (line_of core.now) event }
     requires used_up { core.now.next ≡ last_word }
-    ensures told { Tells (line_of core.now) event (told_of (line_of core.now) result) }
-    ensures clear { IsWait (reply_of result) → ⊥ }
+    ensures told { Tells (line_of core.now) event (only (line_of core.now) result) }
+    ensures clear { IsWait result → ⊥ }
 {
     let _ = core;
-    Made::One(event.refused(Refusal::TooMany), None)
+    event.refused(Refusal::TooMany)
 }
 
 /// Swaps the waker of the wait with the ticket for the spare one, if there is a spare, and answers whether
@@ -168,7 +196,36 @@ fn renew<T: Drop, H: History<T>>(
 
 /// Has the call that was made kept, and shows it to the pass; or shows what is kept, where there was no
 /// memory for the call.
-fn note<T: Drop, W: Drop, H: History<T>>(
+#[inline]
+fn note<T: Drop, Y, M: EntryOf<Asked<T>, Y, Call<T>>, H: History<T>>(
+    history: &mut H,
+    board: &H::Board,
+    pass: &mut H::Pass,
+    asked: &Asked<T>,
+    told: &Y,
+    lacks_memory: bool,
+)
+    requires asked { (M.entry asked.now told.now).event ≡ asked.now.value }
+    requires lacks { lacks_memory ≡ is_no_memory (M.entry asked.now told.now).reply }
+    requires told { (old new : Line _) × H.stands history.old old
+        × Tells old asked.now.value (told_by new (M.entry asked.now told.now)) }
+    ensures stands { (old new : Line _) → H.stands history.old old
+        → Tells old asked.now.value (told_by new (M.entry asked.now told.now))
+        → H.stands history.new new }
+    ensures kept { IsKept H.words pass.old pass.new asked.now.value (M.entry asked.now told.now) }
+    ensures ends { lacks_memory ≡ true → (l : Line _) → H.stands history.old l
+        → H.words.ends pass.new l }
+{
+    if lacks_memory {
+        history.show(board, pass);
+    } else {
+        history.append::<Asked<T>, Y, M>(board, pass, asked, told);
+    }
+}
+
+/// The same, of what any step told.
+#[inline]
+fn note_made<T: Drop, W: Drop, H: History<T>>(
     history: &mut H,
     board: &H::Board,
     pass: &mut H::Pass,
@@ -183,11 +240,8 @@ fn note<T: Drop, W: Drop, H: History<T>>(
     ensures ends { is_no_memory (reply_of made.now) ≡ true
         → (l : Line _) → H.stands history.old l → H.words.ends pass.new l }
 {
-    if made.lacks_memory() {
-        history.show(board, pass);
-    } else {
-        history.append::<Asked<T>, Made<T, W>, OfCall>(board, pass, asked, made);
-    }
+    let lacks = made.lacks_memory();
+    note::<T, Made<T, W>, OfCall, H>(history, board, pass, asked, made, lacks);
 }
 
 impl<T: Drop, H: History<T>> State<T, H> {
@@ -216,7 +270,7 @@ impl<T: Drop, H: History<T>> State<T, H> {
     {
         let asked = Snapshot::of(&event);
         let made = steps::make(&mut self.core, event);
-        note(&mut self.history, board, pass, &asked, &made);
+        note_made(&mut self.history, board, pass, &asked, &made);
         made
     }
 
@@ -251,6 +305,50 @@ impl<T: Drop, H: History<T>> State<T, H> {
         let history = &mut self.history;
         history.append::<T, (), OfReceipt>(board, pass, &message, &());
         Some(message)
+    }
+
+    /// Makes a send whose message enters, or is handed to a receiver that waits, and answers who is owed it;
+    /// where neither can be so nothing changes.
+    #[inline(always)]
+    pub(crate) fn hand(
+        &mut self,
+        board: &H::Board,
+        pass: &mut H::Pass,
+        message: T,
+    ) -> Result<Option<Owed<T, Seat<T, H>>>, T>
+        ensures made { IfOk result (λ owed. H.words.makes pass.old pass.new
+            (handed_entry message owed)) }
+        ensures told { IfOk result (λ owed. IsTold (handed_entry message owed)) }
+        ensures refused { IfErr result (λ back. (back ≡ message) × (pass.new ≡ pass.old)) }
+        ensures cleanup { self.new.0 ≡ self.old.0 }
+    {
+        let asked = Snapshot::of(&message);
+        let owed = steps::hand(&mut self.core, message)?;
+        let history = &mut self.history;
+        history.append::<Snapshot<T>, Option<Owed<T, Seat<T, H>>>, OfHandOver>(
+            board, pass, &asked, &owed,
+        );
+        Ok(owed)
+    }
+
+    /// Makes a receive that gets the front message, and answers who is owed that, if a sender that waited was
+    /// let in; where there is no message so nothing changes.
+    #[inline(always)]
+    pub(crate) fn fetch(
+        &mut self,
+        board: &H::Board,
+        pass: &mut H::Pass,
+    ) -> Option<(T, Option<Owed<T, Seat<T, H>>>)>
+        ensures made { IfSome result (λ r. H.words.makes pass.old pass.new
+            (fetched_receipt r.0 r.1)) }
+        ensures told { IfSome result (λ r. IsTold (fetched_receipt r.0 r.1)) }
+        ensures refused { IfNone result (pass.new ≡ pass.old) }
+        ensures cleanup { self.new.0 ≡ self.old.0 }
+    {
+        let (message, owed) = steps::fetch(&mut self.core)?;
+        let history = &mut self.history;
+        history.append::<T, Option<Owed<T, Seat<T, H>>>, OfFetch>(board, pass, &message, &owed);
+        Some((message, owed))
     }
 
     /// Makes the send of a call that doesn't wait, where the message enters and nobody waits; where it doesn't
@@ -303,9 +401,15 @@ impl<T: Drop, H: History<T>> State<T, H> {
     {
         let asked = Snapshot::of(&event);
         let tried = steps::start(&mut self.core, event);
+        let history = &mut self.history;
         match &tried {
-            Tried::Told(made) => note(&mut self.history, board, pass, &asked, made),
-            Tried::MustWait(_back) => self.history.show(board, pass),
+            Tried::Told(answered) => {
+                let lacks = answered.lacks_memory();
+                note::<T, Answered<T, Seat<T, H>>, OfAnswer, H>(
+                    history, board, pass, &asked, answered, lacks,
+                );
+            },
+            Tried::MustWait(_back) => history.show(board, pass),
         }
         tried
     }
@@ -318,77 +422,43 @@ impl<T: Drop, H: History<T>> State<T, H> {
     }
 
     /// Refuses a call that must wait, since the tickets are used up. That is a call, too.
-    pub fn refuse(
-        &mut self,
-        board: &H::Board,
-        pass: &mut H::Pass,
-        event: Event<T>,
-    ) -> Made<T, Seat<T, H>>
+    pub fn refuse(&mut self, board: &H::Board, pass: &mut H::Pass, event: Event<T>) -> Reply<T>
         requires waits { may_wait event ≡ true }
         requires must { MustWait self.old.1 event }
         requires used_up { self.old.1.next ≡ last_word }
-        ensures noted { IsNoted H.words pass.old pass.new event result }
-        ensures clear { IsWait (reply_of result) → ⊥ }
-        ensures step { Tells self.old.1 event (told_of self.new.1 result) }
+        ensures made { IsKept H.words pass.old pass.new event (replied event result) }
+        ensures clear { IsWait result → ⊥ }
+        ensures step { Tells self.old.1 event (only self.new.1 result) }
         ensures cleanup { self.new.0 ≡ self.old.0 }
     {
         let asked = Snapshot::of(&event);
-        let made = too_many(&self.core, event);
-        note(&mut self.history, board, pass, &asked, &made);
-        made
+        let reply = too_many(&self.core, event);
+        let lacks = reply.is_no_memory();
+        note::<T, Reply<T>, OfReply, H>(&mut self.history, board, pass, &asked, &reply, lacks);
+        reply
     }
 
-    /// Makes a send or a receive, and starts its wait with the seat where it must.
+    /// Starts the wait of a call that must, with the seat. It settles nobody.
+    #[inline]
     pub fn wait(
         &mut self,
         board: &H::Board,
         pass: &mut H::Pass,
         event: Event<T>,
         seat: Seat<T, H>,
-    ) -> (Made<T, Seat<T, H>>, Kept<Seat<T, H>>)
+    ) -> (Reply<T>, Kept<Seat<T, H>>)
         requires waits { may_wait event ≡ true }
-        ensures noted { IsNoted H.words pass.old pass.new event result.0 }
-        ensures kept { Keeps (reply_of result.0) result.1 }
-        ensures step { Tells self.old.1 event (told_of self.new.1 result.0) }
+        requires must { MustWait self.old.1 event }
+        ensures made { IsKept H.words pass.old pass.new event (replied event result.0) }
+        ensures kept { Keeps result.0 result.1 }
+        ensures step { Tells self.old.1 event (only self.new.1 result.0) }
         ensures cleanup { self.new.0 ≡ self.old.0 }
     {
         let asked = Snapshot::of(&event);
-        let (made, kept) = steps::make_waiting(&mut self.core, event, seat);
-        note(&mut self.history, board, pass, &asked, &made);
-        (made, kept)
-    }
-
-    /// Makes a send or a receive, and starts its wait where it must. The memory of a wait is asked for only
-    /// then, and after the ticket.
-    pub(crate) fn begin(
-        &mut self,
-        board: &H::Board,
-        pass: &mut H::Pass,
-        event: Event<T>,
-        alloc: Global,
-    ) -> Starting<T, H>
-        requires waits { may_wait event ≡ true }
-        ensures started { HasStarted H.words pass.old pass.new event result }
-        ensures cleanup { self.new.0 ≡ self.old.0 }
-    {
-        let event = match self.start(board, pass, event) {
-            Tried::Told(made) => return Starting::Made(made),
-            Tried::MustWait(event) => event,
-        };
-        if !self.has_ticket() {
-            return Starting::Made(self.refuse(board, pass, event));
-        }
-        let Some((end, seat)) = ends(alloc) else {
-            return Starting::Lacking(event);
-        };
-        let (made, kept) = self.wait(board, pass, event, seat);
-        match kept {
-            Kept::Ticket(ticket) => Starting::Waits(made, ticket, end),
-            Kept::Back(seat) => {
-                drop(seat);
-                Starting::Made(made)
-            },
-        }
+        let (reply, kept) = steps::wait(&mut self.core, event, seat);
+        let lacks = reply.is_no_memory();
+        note::<T, Reply<T>, OfReply, H>(&mut self.history, board, pass, &asked, &reply, lacks);
+        (reply, kept)
     }
 
     /// Takes the wait with this ticket back, if it waits; where it doesn't, nothing changes.
@@ -433,7 +503,7 @@ impl<T: Drop, H: History<T>> State<T, H> {
     {
         let asked = Snapshot::of(&Event::Drain);
         let made = steps::drain(&mut self.core, into);
-        note(&mut self.history, board, pass, &asked, &made);
+        note_made(&mut self.history, board, pass, &asked, &made);
         made
     }
 

@@ -1,5 +1,5 @@
 -- What a step of the core told, as it left the core.
-use Rattle.std.specs.Prelude.{◌≡◌, ℕ, Bool, true, false, List, [], length, drop, map, Option, None}
+use Rattle.std.specs.Prelude.{◌≡◌, ℕ, Bool, true, false, List, [], ◌∷◌, length, drop, map, Option, None, Some}
 use Rattle.kanal_core.specs.declared.internal.outcome.Outcome.{Outcome}
 use Rattle.kanal_core.specs.Line.{Line}
 use Rattle.kanal_core.specs.Channel.{settlement, settlements}
@@ -11,6 +11,7 @@ use Rattle.kanal_events.specs.declared.event.Refusal.TheVariants.{NotWaiting}
 use Rattle.kanal_events.specs.declared.event.Reply.{Reply}
 use Rattle.kanal_events.specs.declared.event.Reply.TheVariants.{Cleared, Drained as HasDrained, Got, Refused, Sent, Waits, Withdrawn}
 use Rattle.kanal_events.specs.Steps.{Told, Tells, IsWait, only}
+use Rattle.kanal_events.specs.declared.made.Answered.{Answered}
 use Rattle.kanal_events.specs.declared.made.Made.{Made}
 use Rattle.kanal_events.specs.declared.made.Made.TheVariants.{One, All, Shut, Drained}
 use Rattle.kanal_events.specs.declared.made.Owed.{Owed}
@@ -75,6 +76,11 @@ module _ {T W : Type 0} where
   abbrev pub owed_of : Owed T W → ℕ × Outcome T
   owed_of owed = settlement owed.settled
 
+  -- what is owed after a step that settled at most one wait
+  abbrev pub owed_by : Option (Owed T W) → List (ℕ × Outcome T)
+  owed_by None = []
+  owed_by (Some owed) = owed_of owed ∷ []
+
   -- the messages that it drained: those behind what the vector had held
   abbrev pub drained_of : Made T W → List T
   drained_of (One reply settled) = []
@@ -101,9 +107,22 @@ module _ {T W : Type 0} where
   told_of line made =
       record { line = line; reply = reply_of made; settled = settled_of made; drained = drained_of made; cleared = cleared_of made }
 
+  -- what a send or a receive told that was answered at once, as what any step told
+  abbrev pub made_of : Answered T W → Made T W
+  made_of answered = One answered.reply answered.settled
+
+  -- what a send tells that entered, or was handed to who is owed it, with the line after it
+  abbrev pub handed : Option (Owed T W) → Line T → Told T
+  handed owed line = record { line = line; reply = Sent; settled = owed_by owed; drained = []; cleared = [] }
+
+  -- what a receive tells that got this message, and let in the one of who is owed that, with the line after it
+  abbrev pub fetched : T → Option (Owed T W) → Line T → Told T
+  fetched m owed line = record { line = line; reply = Got m; settled = owed_by owed; drained = []; cleared = [] }
+
   -- the event was made, and doesn't wait; or it must wait, comes back, and nothing changed
   abbrev pub Tries : Line T → Event T → Tried T W → Line T → Type 0
-  Tries old event (WasTold made) new = Tells old event (told_of new made) × (IsWait (reply_of made) → ⊥)
+  Tries old event (WasTold answered) new =
+      Tells old event (told_of new (made_of answered)) × (IsWait (reply_of (made_of answered)) → ⊥)
   Tries old event (HasToWait back) new = (back ≡ event) × (new ≡ old) × MustWait old event
 
 module _ {T W : Type 0} where

@@ -2,12 +2,13 @@
 //!
 //! Stands on what the core hands out. A value here holds all that left the core at one step: nothing of it
 //! is settled, noted or dropped while the lock is held. Only `steps` makes one. A wait that a step settled
-//! is owed to who waits: it leaves a `Made` by `next` alone, and the prover refuses to let go a `Made` that
-//! may still have one, or an `Owed` that nobody was told of.
+//! is owed to who waits: it leaves a `Made` by `next` alone and an `Answered` by `into_parts` alone, and the
+//! prover refuses to let go one of them that may still have one, or an `Owed` that nobody was told of.
 ghost use Rattle.std.specs.Prelude.{◌≡◌, ℕ, [], ◌∷◌, true, MatchOption};
+ghost use Rattle.kanal_core.specs.Channel.{settlements};
 ghost use Rattle.kanal_core.specs.declared.internal.outcome.Outcome.{Outcome};
 ghost use Rattle.kanal_events.specs.Steps.{is_done, is_no_memory};
-ghost use Rattle.kanal_events.specs.Made.{cleared_of, owed_of, reply_of, settled_of};
+ghost use Rattle.kanal_events.specs.Made.{cleared_of, made_of, owed_of, owed_by, reply_of, settled_of};
 
 use crate::event::{Event, Reply};
 use kanal_core::internal::{Cleared, Closing, Ended, Outcome, Settled, Ticket};
@@ -50,6 +51,30 @@ impl<T: Drop, W: Drop> Drop for Owed<T, W> {
             is_told: _,
         } = self;
         drop(settled);
+    }
+}
+
+impl<T: Drop, W: Drop> Owed<T, W> {
+    /// A wait that was settled, and of which nobody was told yet.
+    #[inline(always)]
+    pub(crate) fn new(settled: Settled<T, W>) -> Self
+        ensures { result.settled ≡ settled }
+    {
+        Owed {
+            settled,
+            is_told: false,
+        }
+    }
+
+    /// Who is owed, where a wait was settled.
+    #[inline(always)]
+    pub(crate) fn from_settled(settled: Option<Settled<T, W>>) -> Option<Self>
+        ensures { owed_by result ≡ settlements settled }
+    {
+        match settled {
+            Some(settled) => Some(Owed::new(settled)),
+            None => None,
+        }
     }
 }
 
@@ -153,10 +178,7 @@ impl<T: Drop, W: Drop> Made<T, W> {
             Made::Drained(_count, ended, _moved) => ended.next(),
         };
         match settled {
-            Some(settled) => Some(Owed {
-                settled,
-                is_told: false,
-            }),
+            Some(settled) => Some(Owed::new(settled)),
             None => None,
         }
     }
@@ -230,10 +252,79 @@ impl<T: Drop, W: Drop> Made<T, W> {
     }
 }
 
+/// What a send or a receive told that was answered at once: its reply, and at most one wait that it settled.
+/// It is a `Made` that takes fewer bytes.
+pub struct Answered<T, W> {
+    reply: Reply<T>,
+    settled: Option<Settled<T, W>>,
+}
+
+impl<T: Drop, W: Drop> Drop for Answered<T, W> {
+    fn drop(self)
+        requires nobody { settled_of (made_of self) ≡ [] }
+    {
+        let Answered { reply, settled } = self;
+        drop(reply);
+        drop(settled);
+    }
+}
+
+impl<T: Drop, W: Drop> Answered<T, W> {
+    /// A reply, and the wait that was settled, if one was.
+    #[inline(always)]
+    pub(crate) fn new(reply: Reply<T>, settled: Option<Settled<T, W>>) -> Self
+        ensures { made_of result ≡ Made.One reply settled }
+    {
+        Answered { reply, settled }
+    }
+
+    /// The reply, and who is owed what became of his wait.
+    ///
+    /// # Examples
+    /// ```text
+    /// answered.into_parts()   answers  (Reply::Sent, Some(owed))   where a receiver waited for what was sent
+    /// ```
+    #[inline(always)]
+    pub fn into_parts(self) -> (Reply<T>, Option<Owed<T, W>>)
+        ensures reply { result.0 ≡ reply_of (made_of self) }
+        ensures owed { owed_by result.1 ≡ settled_of (made_of self) }
+    {
+        let Answered { reply, settled } = self;
+        (reply, Owed::from_settled(settled))
+    }
+
+    /// The same as what any step told.
+    ///
+    /// # Examples
+    /// ```text
+    /// shared.settle(&mut pass, answered.into_made())   answers  the reply
+    /// ```
+    #[inline(always)]
+    pub fn into_made(self) -> Made<T, W>
+        ensures { result ≡ made_of self }
+    {
+        let Answered { reply, settled } = self;
+        Made::One(reply, settled)
+    }
+
+    /// Whether the reply says that there was no memory.
+    ///
+    /// # Examples
+    /// ```text
+    /// answered.lacks_memory()   answers  true    where the reply is Refused(NoMemory, ..)
+    /// ```
+    #[inline(always)]
+    pub fn lacks_memory(&self) -> bool
+        ensures { result ≡ is_no_memory (reply_of (made_of self.now)) }
+    {
+        self.reply.is_no_memory()
+    }
+}
+
 /// What a call came to that waits where it must, and has not brought what it needs for that.
 pub enum Tried<T, W> {
     /// It was made.
-    Told(Made<T, W>),
+    Told(Answered<T, W>),
     /// It must wait, and comes back.
     MustWait(Event<T>),
 }

@@ -4,20 +4,20 @@
 //! two), says in the line's terms what that told, and which ticket it gave, and hands out all that left
 //! the core. Nothing is settled, noted or dropped here, since whoever shares a core has its lock. `W` is
 //! what a waiter brings: the steps don't look into it.
-ghost use Rattle.std.specs.Prelude.{◌≡◌, ◌==◌, ◌+◌, ◌<◌, ◌≤◌, ◌&&◌, ◌++◌, length, true, false, Some, None, IfErr, IfNone, IfSome, OnOk};
+ghost use Rattle.std.specs.Prelude.{◌≡◌, ◌==◌, ◌+◌, ◌<◌, ◌≤◌, ◌&&◌, ◌++◌, length, true, false, Some, None, IfErr, IfNone, IfOk, IfSome, OnOk};
 ghost use Rattle.std.specs.Vec.{vec_capacity, vec_len};
 ghost use Rattle.kanal_core.specs.Channel.{line_of};
 ghost use Rattle.kanal_core.specs.Tickets.{number_of};
 ghost use Rattle.kanal_core.specs.Waiters.{IsPlaced};
 ghost use Rattle.kanal_core.specs.Calls.{IsFull, IsEmpty};
-ghost use Rattle.kanal_events.specs.Steps.{Tells, answer as answer_of, is_no_memory};
+ghost use Rattle.kanal_events.specs.Steps.{Tells, answer as answer_of, is_no_memory, only as only_told};
 ghost use Rattle.kanal_events.specs.Given.{Gives, GivesNone};
-ghost use Rattle.kanal_events.specs.Made.{Keeps, MustWait, Tries, drained_of, entered, got, is_drained, is_plain, may_wait, not_waiting, reply_of, told_of, withdrawn};
+ghost use Rattle.kanal_events.specs.Made.{Keeps, MustWait, Tries, drained_of, entered, fetched, got, handed, is_drained, is_plain, may_wait, not_waiting, reply_of, told_of, withdrawn};
 
 use crate::event::{Ask, Event, Refusal, Reply, Side};
-use crate::made::{Kept, Made, Moved, Tried};
+use crate::made::{Answered, Kept, Made, Moved, Owed, Tried};
 use kanal_core::error::{DrainError, WaitError};
-use kanal_core::internal::{ChannelInternal, Offer, Steps, Take, Ticket, Waiter};
+use kanal_core::internal::{ChannelInternal, Offer, Settled, Steps, Take, Ticket, Waiter};
 use std::marker::Brand;
 use std::snapshot::Snapshot;
 
@@ -53,6 +53,57 @@ pub fn pop<T: Drop, W: Drop>(core: &mut ChannelInternal<T, W>) -> Option<T>
     ensures refused { IfNone result (core.new ≡ core.old) }
 {
     core.pop()
+}
+
+/// Sends a message that enters, or is handed to a receiver that waits; it comes back, and nothing changes,
+/// otherwise. Who was handed it is owed that.
+///
+/// # Examples
+/// ```text
+/// hand(&mut core, 7)   answers  Ok(Some(owed))   where a receiver waits
+/// hand(&mut core, 7)   answers  Err(7)           in a new core without places
+/// ```
+#[inline(always)]
+pub fn hand<T: Drop, W: Drop>(
+    core: &mut ChannelInternal<T, W>,
+    message: T,
+) -> Result<Option<Owed<T, W>>, T>
+    ensures told { IfOk result (λ owed. Tells (line_of core.old) (Event.Send message)
+        (handed owed (line_of core.new))) }
+    ensures refused { IfErr result (λ back. (back ≡ message)
+        × (line_of core.new ≡ line_of core.old)) }
+{
+    match core.offer(message) {
+        Offer::Entered => Ok(None),
+        Offer::Handed(settled) => Ok(Some(Owed::new(settled))),
+        Offer::Full(back) => Err(back),
+        Offer::Closed(back) => Err(back),
+        Offer::ReceiveClosed(back) => Err(back),
+        Offer::Sealed(back) => Err(back),
+        Offer::NoMemory(back) => Err(back),
+    }
+}
+
+/// Receives the front message, if there is one; nothing changes otherwise. A sender that waits gives its
+/// message into the place, or at once, and is owed that.
+///
+/// # Examples
+/// ```text
+/// fetch(&mut core)   answers  Some((7, None))   after 7 entered
+/// fetch(&mut core)   answers  None              after that
+/// ```
+#[inline(always)]
+pub fn fetch<T: Drop, W: Drop>(core: &mut ChannelInternal<T, W>) -> Option<(T, Option<Owed<T, W>>)>
+    ensures told { IfSome result (λ r. Tells (line_of core.old) Event.Recv
+        (fetched r.0 r.1 (line_of core.new))) }
+    ensures refused { IfNone result (line_of core.new ≡ line_of core.old) }
+{
+    match core.take() {
+        Take::Got(message, settled) => Some((message, Owed::from_settled(settled))),
+        Take::Closed => None,
+        Take::SendClosed => None,
+        Take::Empty => None,
+    }
 }
 
 /// A reply that settles no wait.
@@ -105,35 +156,45 @@ fn recv_late<T: Drop, W: Drop>(core: &mut ChannelInternal<T, W>) -> Made<T, W>
     }
 }
 
+/// A call that was answered at once, and settled this wait, if one.
+#[inline(always)]
+fn answered<T: Drop, W: Drop>(reply: Reply<T>, settled: Option<Settled<T, W>>) -> Tried<T, W>
+    ensures { result ≡ Tried.Told (record { reply = reply; settled = settled }) }
+{
+    Tried::Told(Answered::new(reply, settled))
+}
+
 /// Offers the message of a call that waits where there is no place for it.
+#[inline(always)]
 fn offer<T: Drop, W: Drop>(core: &mut ChannelInternal<T, W>, message: T) -> Tried<T, W>
     ensures step { Tries (line_of core.old) (Event.Send message) result (line_of core.new) }
     ensures tickets { GivesNone core.old core.new }
 {
-    let made = match core.offer(message) {
-        Offer::Entered => only(Reply::Sent),
-        Offer::Handed(settled) => Made::One(Reply::Sent, Some(settled)),
+    let refused = match core.offer(message) {
+        Offer::Entered => return answered(Reply::Sent, None),
+        Offer::Handed(settled) => return answered(Reply::Sent, Some(settled)),
         Offer::Full(back) => return Tried::MustWait(Event::Send(back)),
-        Offer::Closed(back) => only(Reply::Refused(Refusal::Closed, Some(back))),
-        Offer::ReceiveClosed(back) => only(Reply::Refused(Refusal::ReceiveClosed, Some(back))),
-        Offer::Sealed(back) => only(Reply::Refused(Refusal::Sealed, Some(back))),
-        Offer::NoMemory(back) => only(Reply::Refused(Refusal::NoMemory, Some(back))),
+        Offer::Closed(back) => Reply::Refused(Refusal::Closed, Some(back)),
+        Offer::ReceiveClosed(back) => Reply::Refused(Refusal::ReceiveClosed, Some(back)),
+        Offer::Sealed(back) => Reply::Refused(Refusal::Sealed, Some(back)),
+        Offer::NoMemory(back) => Reply::Refused(Refusal::NoMemory, Some(back)),
     };
-    Tried::Told(made)
+    answered(refused, None)
 }
 
 /// Asks for a message, for a call that waits where there is none.
+#[inline(always)]
 fn take<T: Drop, W: Drop>(core: &mut ChannelInternal<T, W>) -> Tried<T, W>
     ensures step { Tries (line_of core.old) Event.Recv result (line_of core.new) }
     ensures tickets { GivesNone core.old core.new }
 {
-    let made = match core.take() {
-        Take::Got(message, settled) => Made::One(Reply::Got(message), settled),
-        Take::Closed => only(Reply::Refused(Refusal::Closed, None)),
-        Take::SendClosed => only(Reply::Refused(Refusal::SendClosed, None)),
+    let refused = match core.take() {
+        Take::Got(message, settled) => return answered(Reply::Got(message), settled),
+        Take::Closed => Reply::Refused(Refusal::Closed, None),
+        Take::SendClosed => Reply::Refused(Refusal::SendClosed, None),
         Take::Empty => return Tried::MustWait(Event::Recv),
     };
-    Tried::Told(made)
+    answered(refused, None)
 }
 
 /// Makes a send or a receive, unless it must wait.
@@ -143,6 +204,7 @@ fn take<T: Drop, W: Drop>(core: &mut ChannelInternal<T, W>) -> Tried<T, W>
 /// start(&mut core, Event::Send(7))   answers  Told(..), with the reply Sent   in a new core for one message
 /// start(&mut core, Event::Send(8))   answers  MustWait(Event::Send(8))        after that
 /// ```
+#[inline(always)]
 pub fn start<T: Drop, W: Drop>(core: &mut ChannelInternal<T, W>, event: Event<T>) -> Tried<T, W>
     requires waits { may_wait event ≡ true }
     ensures step { Tries (line_of core.old) event result (line_of core.new) }
@@ -156,62 +218,62 @@ pub fn start<T: Drop, W: Drop>(core: &mut ChannelInternal<T, W>, event: Event<T>
 }
 
 /// Starts the wait of a send that found no place.
+#[inline(always)]
 fn wait_send<T: Drop, W: Drop>(
     core: &mut ChannelInternal<T, W>,
     message: T,
     w: W,
-) -> (Made<T, W>, Kept<W>)
+) -> (Reply<T>, Kept<W>)
     requires full { IsFull (line_of core.old) }
     ensures told { Tells (line_of core.old) (Event.Send message)
-        (told_of (line_of core.new) result.0) }
-    ensures kept { Keeps (reply_of result.0) result.1 }
+        (only_told (line_of core.new) result.0) }
+    ensures kept { Keeps result.0 result.1 }
     ensures tickets { Gives result.1 core.old core.new }
 {
     match core.wait_send(message, w) {
-        Ok(ticket) => (only(Reply::Waits(ticket.number())), Kept::Ticket(ticket)),
+        Ok(ticket) => (Reply::Waits(ticket.number()), Kept::Ticket(ticket)),
         Err((WaitError::TooMany, back, w)) => {
-            (
-                only(Reply::Refused(Refusal::TooMany, Some(back))),
-                Kept::Back(w),
-            )
+            (Reply::Refused(Refusal::TooMany, Some(back)), Kept::Back(w))
         },
         Err((WaitError::NoMemory, back, w)) => {
-            (
-                only(Reply::Refused(Refusal::NoMemory, Some(back))),
-                Kept::Back(w),
-            )
+            (Reply::Refused(Refusal::NoMemory, Some(back)), Kept::Back(w))
         },
     }
 }
 
 /// Starts the wait of a receive that found no message.
-fn wait_recv<T: Drop, W: Drop>(core: &mut ChannelInternal<T, W>, w: W) -> (Made<T, W>, Kept<W>)
+#[inline(always)]
+fn wait_recv<T: Drop, W: Drop>(core: &mut ChannelInternal<T, W>, w: W) -> (Reply<T>, Kept<W>)
     requires empty { IsEmpty (line_of core.old) }
-    ensures told { Tells (line_of core.old) Event.Recv (told_of (line_of core.new) result.0) }
-    ensures kept { Keeps (reply_of result.0) result.1 }
+    ensures told { Tells (line_of core.old) Event.Recv (only_told (line_of core.new) result.0) }
+    ensures kept { Keeps result.0 result.1 }
     ensures tickets { Gives result.1 core.old core.new }
 {
     match core.wait_recv(w) {
-        Ok(ticket) => (only(Reply::Waits(ticket.number())), Kept::Ticket(ticket)),
-        Err((WaitError::TooMany, w)) => {
-            (only(Reply::Refused(Refusal::TooMany, None)), Kept::Back(w))
-        },
+        Ok(ticket) => (Reply::Waits(ticket.number()), Kept::Ticket(ticket)),
+        Err((WaitError::TooMany, w)) => { (Reply::Refused(Refusal::TooMany, None), Kept::Back(w)) },
         Err((WaitError::NoMemory, w)) => {
-            (only(Reply::Refused(Refusal::NoMemory, None)), Kept::Back(w))
+            (Reply::Refused(Refusal::NoMemory, None), Kept::Back(w))
         },
     }
 }
 
-/// Starts the wait of a call that must.
-fn wait<T: Drop, W: Drop>(
+/// Starts the wait of a call that must. It settles nobody's wait.
+///
+/// # Examples
+/// ```text
+/// wait(&mut core, Event::Recv, w)   replies  Waits(0), with the ticket of that number   in a new core
+/// ```
+#[inline(always)]
+pub fn wait<T: Drop, W: Drop>(
     core: &mut ChannelInternal<T, W>,
     event: Event<T>,
     w: W,
-) -> (Made<T, W>, Kept<W>)
+) -> (Reply<T>, Kept<W>)
     requires waits { may_wait event ≡ true }
     requires must { MustWait (line_of core.old) event }
-    ensures told { Tells (line_of core.old) event (told_of (line_of core.new) result.0) }
-    ensures kept { Keeps (reply_of result.0) result.1 }
+    ensures told { Tells (line_of core.old) event (only_told (line_of core.new) result.0) }
+    ensures kept { Keeps result.0 result.1 }
     ensures tickets { Gives result.1 core.old core.new }
 {
     match event {
@@ -238,8 +300,11 @@ pub fn make_waiting<T: Drop, W: Drop>(
     ensures tickets { Gives result.1 core.old core.new }
 {
     match start(core, event) {
-        Tried::Told(made) => (made, Kept::Back(w)),
-        Tried::MustWait(event) => wait(core, event, w),
+        Tried::Told(answered) => (answered.into_made(), Kept::Back(w)),
+        Tried::MustWait(event) => {
+            let (reply, kept) = wait(core, event, w);
+            (only(reply), kept)
+        },
     }
 }
 

@@ -7,9 +7,8 @@ ghost use Rattle.futures.specs.Task.{Covers, Keeps};
 ghost use Rattle.kanal_cell.specs.CellRule.{HasNotLeft};
 ghost use Rattle.kanal_cell.specs.CellEnds.{wait_view};
 ghost use Rattle.kanal_core.specs.Tickets.{number_of};
-ghost use Rattle.kanal_events.specs.Made.{MustWait, may_wait, reply_of, settled_of};
+ghost use Rattle.kanal_events.specs.Made.{MustWait, may_wait};
 ghost use Rattle.kanal_history.specs.Makes.{HasReplied, HasWaited, IsReplied, SeesWait};
-ghost use Rattle.kanal_history.specs.Words.{HaveSettled};
 ghost use Rattle.kanal_channel.specs.Locks.{IsQuiet, line_under};
 ghost use Rattle.kanal_futures.specs.Tasks.{opened, source_of};
 
@@ -17,10 +16,10 @@ use crate::asks::{Asks, Opening};
 use crate::wakers::Wakers;
 use futures::task::{Context, Poll};
 use kanal_cell::signal::WaitEnd;
-use kanal_channel::{CountedWait, Delivered, Locked, Seat, Shared};
+use kanal_channel::{CountedWait, Delivered, Locked, Shared};
 use kanal_core::internal::{Outcome, Ticket};
 use kanal_events::event::{Event, Refusal, Reply};
-use kanal_events::made::{Kept, Made, Tried};
+use kanal_events::made::{Kept, Tried};
 use kanal_history::History;
 use std::marker::{Model, PhantomData};
 
@@ -186,26 +185,6 @@ fn let_go<T: Drop, H: History<T>>(
     drop(delivered);
 }
 
-/// Gives the lock back after a step, tells those whose waits it settled, and looks for new notices.
-fn give_back<T: Drop, H: History<T>>(
-    shared: &Shared<T, H>,
-    locked: Locked<'_, T, H>,
-    pass: &mut H::Pass,
-    made: Made<T, Seat<T, H>>,
-) -> Reply<T>
-    requires quiet { IsQuiet locked }
-    requires seen { HaveSettled H.words pass.old (settled_of made) }
-    ensures reply { result ≡ reply_of made }
-    ensures same { pass.new ≡ pass.old }
-{
-    locked.release();
-    let reply = shared.settle(pass, made);
-    if !shared.is_quiet() {
-        shared.look();
-    }
-    reply
-}
-
 impl Wakers {
     /// Makes a call under the lock that was got, and gives the lock back; where it must wait, its wait is
     /// started.
@@ -229,8 +208,8 @@ impl Wakers {
         let mut pass = pass;
         let event = A::into_event(asked);
         match locked.state.start(shared.board(), &mut pass, event) {
-            Tried::Told(made) => {
-                let reply = give_back(shared, locked, &mut pass, made);
+            Tried::Told(answered) => {
+                let reply = shared.give_back_answered(locked, &mut pass, answered);
                 Ok((opening, pass, reply))
             },
             Tried::MustWait(event) => self.start(shared, locked, opening, pass, event, cx),
@@ -264,16 +243,16 @@ impl Wakers {
         let mut locked = locked;
         let mut pass = pass;
         if !locked.state.has_ticket() {
-            let made = locked.state.refuse(shared.board(), &mut pass, event);
-            let reply = give_back(shared, locked, &mut pass, made);
+            let reply = locked.state.refuse(shared.board(), &mut pass, event);
+            locked.give_back_quiet();
             return Ok((opening, pass, reply));
         }
         let Some((end, seat)) = self.cell(shared.alloc(), cx) else {
             locked.give_back_quiet();
             return Ok((opening, pass, event.refused(Refusal::NoMemory)));
         };
-        let (made, kept) = locked.state.wait(shared.board(), &mut pass, event, seat);
-        let reply = give_back(shared, locked, &mut pass, made);
+        let (reply, kept) = locked.state.wait(shared.board(), &mut pass, event, seat);
+        locked.give_back_quiet();
         match kept {
             Kept::Ticket(ticket) => Err(Started::new(opening, pass, ticket, end)),
             Kept::Back(seat) => {

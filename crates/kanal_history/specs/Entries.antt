@@ -4,9 +4,11 @@ use Rattle.kanal_core.specs.Line.{Line}
 use Rattle.kanal_events.specs.declared.event.Event.{Event}
 use Rattle.kanal_events.specs.declared.event.Event.TheVariants.{Send, TrySend, Recv, TryRecv, Withdraw}
 use Rattle.kanal_events.specs.declared.event.Reply.TheVariants.{Got, Sent, Withdrawn, Yes}
+use Rattle.kanal_events.specs.declared.event.Reply.{Reply}
 use Rattle.kanal_events.specs.declared.made.Made.{Made}
-use Rattle.kanal_events.specs.Steps.{MayRefuse}
-use Rattle.kanal_events.specs.Made.{MustWait, cleared_of, drained_of, reply_of, settled_of}
+use Rattle.kanal_events.specs.declared.made.Owed.{Owed}
+use Rattle.kanal_events.specs.Steps.{MayRefuse, Told}
+use Rattle.kanal_events.specs.Made.{MustWait, cleared_of, drained_of, owed_by, reply_of, settled_of}
 use Rattle.kanal_history.specs.declared.call.Call.{Call}
 
 module _ {T : Type 0} where
@@ -34,7 +36,23 @@ module _ {T : Type 0} where
   abbrev pub MayLack : Line T → Event T → Type 0
   MayLack l event = MayRefuse l event ⊎ MustWait l event
 
+  -- the call of this event that was replied so, and settled nobody
+  abbrev pub replied : Event T → Reply T → Call T
+  replied event reply = record { event = event; reply = reply; settled = []; drained = []; cleared = [] }
+
+  -- all that a call tells, with the line after it
+  abbrev pub told_by : Line T → Call T → Told T
+  told_by line call = record { line = line; reply = call.reply; settled = call.settled; drained = call.drained; cleared = call.cleared }
+
 module _ {T W : Type 0} where
+  -- the call of a send that entered, or was handed to who is owed it
+  abbrev pub handed_entry : T → Option (Owed T W) → Call T
+  handed_entry m owed = record { event = Send m; reply = Sent; settled = owed_by owed; drained = []; cleared = [] }
+
+  -- the call of a receive that got this message, and let in the one of who is owed that
+  abbrev pub fetched_receipt : T → Option (Owed T W) → Call T
+  fetched_receipt m owed = record { event = Recv; reply = Got m; settled = owed_by owed; drained = []; cleared = [] }
+
   -- the call of this event, of which a step told this
   abbrev pub call_from : Event T → Made T W → Call T
   call_from event made =

@@ -11,7 +11,7 @@ use Rattle.kanal_events.specs.Steps.{IsWait, is_no_memory, no_memory}
 use Rattle.kanal_events.specs.declared.made.Made.{Made}
 use Rattle.kanal_events.specs.declared.made.Tried.{Tried}
 use Rattle.kanal_events.specs.declared.made.Tried.TheVariants.{Told as WasTold, MustWait as HasToWait}
-use Rattle.kanal_events.specs.Made.{MustWait, reply_of, settled_of}
+use Rattle.kanal_events.specs.Made.{MustWait, made_of, reply_of}
 use Rattle.kanal_history.specs.declared.call.Call.{Call}
 use Rattle.kanal_history.specs.Calls.{IsTold}
 use Rattle.kanal_history.specs.Entries.{MayLack, call_from}
@@ -95,13 +95,18 @@ module _ {T P : Type 0} where
   abbrev pub HasTooLittleRoom : Words T P → P → ℕ → ℕ → Type 0
   HasTooLittleRoom w pass taken room = (line : Line T) × w.ends pass line × (room < taken + length line.line)
 
+  -- the call of this event is kept; or there was no memory, and it is not
+  pub record IsKept (w : Words T P) (old new : P) (event : Event T) (call : Call T) : Type 0 where
+    pub asked : call.event ≡ event
+    pub stands : is_no_memory call.reply ≡ false → w.makes old new call × IsTold call
+    pub lacks : is_no_memory call.reply ≡ true → Lacks w old new event × (call.reply ≡ no_memory event) × (call.settled ≡ [])
+
 module _ {T P W : Type 0} where
-  -- the call is kept; or there was no memory, and it is not
-  pub record IsNoted (w : Words T P) (old new : P) (event : Event T) (made : Made T W) : Type 0 where
-    pub stands : is_no_memory (reply_of made) ≡ false → w.makes old new (call_from event made) × IsTold (call_from event made)
-    pub lacks : is_no_memory (reply_of made) ≡ true → Lacks w old new event × (reply_of made ≡ no_memory event) × (settled_of made ≡ [])
+  -- the same of the call that a step told
+  abbrev pub IsNoted : Words T P → P → P → Event T → Made T W → Type 0
+  IsNoted w old new event made = IsKept w old new event (call_from event made)
 
   -- the same of a call that waits where it must, and didn't have to; one that must comes back, and the pass has seen that it must
   abbrev pub IsTried : Words T P → P → P → Event T → Tried T W → Type 0
-  IsTried w old new event (WasTold made) = IsNoted w old new event made × (IsWait (reply_of made) → ⊥)
+  IsTried w old new event (WasTold answered) = IsNoted w old new event (made_of answered) × (IsWait (reply_of (made_of answered)) → ⊥)
   IsTried w old new event (HasToWait back) = (back ≡ event) × w.looks old new × SeesWait w new event

@@ -95,11 +95,11 @@ pub fn tell_late<R: Wait, T: Drop, F: FnOnce(), G: FnOnce()>(
     let mut pass = ();
     let mut locked = shared.hold(rt);
     match locked.state.start(shared.board(), &mut pass, event) {
-        Tried::Told(made) => {
+        Tried::Told(answered) => {
             held();
             locked.release();
             between();
-            let reply = shared.settle(&mut pass, made);
+            let reply = shared.settle(&mut pass, answered.into_made());
             shared.look();
             Some(reply)
         },

@@ -181,8 +181,9 @@ fn serve_beside_a_notice<R: Abort>(
         .state
         .start(shared.board(), &mut pass, Event::Send(7))
     {
-        Tried::Told(made) => {
+        Tried::Told(answered) => {
             drop(sender);
+            let made = answered.into_made();
             let reply = shared.give_back_left(locked, left, &mut pass, made);
             holds(rt, matches!(reply, Reply::Sent));
         },

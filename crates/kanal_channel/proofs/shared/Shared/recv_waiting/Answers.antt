@@ -3,7 +3,7 @@ use Rattle.kanal_core.specs.declared.error.ReceiveError.TheVariants.{NoMemory}
 use Rattle.kanal_events.specs.declared.event.Event.TheVariants.{Recv}
 use Rattle.kanal_history.specs.Results.{received_after, received_by}
 use Rattle.kanal_channel.proofs.Settling.{finishes_replied}
-use Rattle.kanal_channel.proofs.shared.Shared.recv_held.Goals as goal
+use Rattle.kanal_channel.proofs.shared.Shared.recv_waiting.Goals as goal
 
 pub returns-in-Replied : goal.returns-in-Replied
 returns-in-Replied g c =

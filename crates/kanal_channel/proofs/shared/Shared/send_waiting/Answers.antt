@@ -3,7 +3,7 @@ use Rattle.kanal_core.specs.declared.error.SendError.TheVariants.{NoMemory}
 use Rattle.kanal_events.specs.declared.event.Event.TheVariants.{Send}
 use Rattle.kanal_history.specs.Results.{sent_after, sent_by}
 use Rattle.kanal_channel.proofs.Settling.{finishes_replied}
-use Rattle.kanal_channel.proofs.shared.Shared.send_held.Goals as goal
+use Rattle.kanal_channel.proofs.shared.Shared.send_waiting.Goals as goal
 
 pub returns-in-Replied : goal.returns-in-Replied
 returns-in-Replied g c =

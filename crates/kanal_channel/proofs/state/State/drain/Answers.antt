@@ -4,12 +4,12 @@ use Rattle.kanal_events.specs.Made.{told_of}
 use Rattle.kanal_events.specs.Steps.{Tells}
 use Rattle.kanal_channel.proofs.state.State.drain.Goals as goal
 
-pub note-requires : goal.note-requires
-note-requires g c =
+pub note_made-requires : goal.note_made-requires
+note_made-requires g c =
     let old = line_of c.self.inside.core in
     let new = line_of c.drain-made.new.core in
     let told = subst (λ e. Tells old e (told_of new c.drain-made.result)) (sym c.of-asked.ensures) c.drain-made.ensures.told in
     record { told = (old, new, c.self.invariant, told) }
 
 pub returns-clause-memory : goal.returns-clause-memory
-returns-clause-memory g c lacking = (line_of c.self.inside.core, c.note.ensures.ends lacking (line_of c.self.inside.core) c.self.invariant, c.drain-made.ensures.memory lacking)
+returns-clause-memory g c lacking = (line_of c.self.inside.core, c.note_made.ensures.ends lacking (line_of c.self.inside.core) c.self.invariant, c.drain-made.ensures.memory lacking)

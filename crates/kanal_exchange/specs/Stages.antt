@@ -5,6 +5,10 @@ use Rattle.kanal_history.specs.declared.call.Call.{Call}
 use Rattle.kanal_one_history.specs.Puts.{Exchanges}
 use Rattle.kanal_exchange.specs.Tales.{Tells}
 
+-- what one stage makes of the messages, and then another of that
+abbrev pub by_two : {A B C : Type 0} → (A → B) → (B → C) → List A → List C
+by_two first second messages = map second (map first messages)
+
 module _ {A B : Type 0} where
   -- one message came by the first pass, and what the stage makes of it went on by the second
   pub record Handed (before behind : Option ℕ) (value : A → B) (old_hears hears : Known (Call A)) (old_tells tells : Known (Call B)) : Type 0 where

@@ -29,7 +29,12 @@ pub enum ExchangeError {
     Stage,
     /// The executor refused a task.
     Task,
+    /// A thread could not be started.
+    NoThread,
 }
+
+/// What a thread came to, or why it did not.
+pub(crate) type Answer<A> = Result<A, ExchangeError>;
 
 impl fmt::Display for ExchangeError {
     ghost output = { λ e. Some (exchange_error_text e) };
@@ -42,6 +47,7 @@ impl fmt::Display for ExchangeError {
             ExchangeError::NoMemory => write!(f, "no memory"),
             ExchangeError::Stage => write!(f, "a stage refused a message"),
             ExchangeError::Task => write!(f, "the executor refused a task"),
+            ExchangeError::NoThread => write!(f, "no thread could be started"),
         }
     }
 }
@@ -101,10 +107,7 @@ fn cause_of(one: ExchangeError, other: ExchangeError) -> ExchangeError
 }
 
 /// What two threads came to, or why they did not.
-pub(crate) fn both_of<A: Drop, B: Drop>(
-    one: Result<A, ExchangeError>,
-    other: Result<B, ExchangeError>,
-) -> Result<(A, B), ExchangeError>
+pub(crate) fn both_of<A: Drop, B: Drop>(one: Answer<A>, other: Answer<B>) -> Answer<(A, B)>
     ensures both { IfOk result (λ both. (one ≡ Ok both.0) × (other ≡ Ok both.1)) }
     ensures cause { (a b : ExchangeError) → one ≡ Err a → other ≡ Err b → result ≡ Err (cause_of a b) }
 {

@@ -2,18 +2,19 @@
 //!
 //! Stands on a channel with one history. `overseen` is handed the passes of both threads when they have
 //! ended, and says that what was received is what was sent first. No other module sends or receives a list.
-ghost use Rattle.std.specs.Prelude.{◌≡◌, List, [], IfOk, take, length};
+ghost use Rattle.std.specs.Prelude.{◌≡◌, List, [], Ok, IfOk, take, length};
 ghost use Rattle.kanal_board.specs.Boards.{table_of};
 ghost use Rattle.kanal_board.specs.Shares.{IsWhole, both, half, whole};
 ghost use Rattle.kanal_board.specs.Views.{known};
 ghost use Rattle.kanal_exchange.specs.Tales.{GetsOne, Tells};
 
-use crate::error::{ExchangeError, both_of};
+use crate::error::{Answer, ExchangeError};
+use crate::threads::both;
 use kanal_one_history::{Call, Channel, Naming, Opened, Pass};
 use std::alloc::Global;
+use std::snapshot::Snapshot;
 use std::sync::Wait;
-use std::thread;
-use std::thread::Threads;
+use std::thread::{Promise, Threads};
 
 /// Sends all messages, in order, and waits where there is no place.
 ///
@@ -99,6 +100,112 @@ pub(crate) fn overseen<T: Drop, J: Naming>(
     all.owns_all(board);
 }
 
+/// That a thread sent these messages by this pass.
+#[derive(Drop)]
+struct Sent<T, J: Naming> {
+    messages: Snapshot<Vec<T>>,
+    pass: Snapshot<Pass<T, J>>,
+}
+
+impl<T, J: Naming> Promise<Answer<Pass<T, J>>> for Sent<T, J> {
+    ghost kept_by = { λ p answer. IfOk answer (λ sender. Tells p.messages.value.items [] sender
+        × (sender.share ≡ p.pass.value.share)) };
+}
+
+/// That a thread received so many messages by this pass.
+#[derive(Drop)]
+struct Received<T, J: Naming> {
+    pass: Snapshot<Pass<T, J>>,
+    count: usize,
+}
+
+impl<T, J: Naming> Promise<Answer<(Vec<T>, Pass<T, J>)>> for Received<T, J> {
+    ghost kept_by = { λ p answer. IfOk answer (λ r. Tells [] r.0.items r.1
+        × (r.1.share ≡ p.pass.value.share) × (length r.0.items ≡ p.count)) };
+}
+
+/// The pass, where the other thread was started. Where it was not the channel is closed, so that nobody waits
+/// on it any longer.
+pub(crate) fn started_with<T: Drop, J: Naming, R: Wait>(
+    rt: &R,
+    channel: &Channel<T, J>,
+    mut rest: Pass<T, J>,
+    started: Answer<()>,
+) -> Answer<Pass<T, J>>
+    ensures same { IfOk result (λ p. p ≡ rest) }
+{
+    if let Err(refused) = started {
+        let _closed = channel.close(rt, &mut rest);
+        return Err(refused);
+    }
+    Ok(rest)
+}
+
+/// Sends the messages in a new thread, and calls `g` in this one, which is told whether the thread was started.
+pub(crate) fn sending<T, J, R, G, B>(
+    rt: &R,
+    channel: &Channel<T, J>,
+    pass: Pass<T, J>,
+    messages: Vec<T>,
+    g: G,
+) -> Answer<(Pass<T, J>, B)>
+where
+    T: Drop + Send,
+    J: Naming + Send + Sync,
+    R: Threads + Wait + Sync,
+    G: FnOnce(Answer<()>) -> Answer<B>,
+    B: Drop,
+    requires fresh { pass.own ≡ [] }
+    requires other { G.IsAlwaysCallable g }
+    ensures sent { IfOk result (λ r. Tells messages.items [] r.0 × (r.0.share ≡ pass.share)) }
+    ensures other { IfOk result (λ r. G.post g (Ok tt) (Ok r.1)) }
+{
+    let promise = Sent {
+        messages: Snapshot::of(&messages),
+        pass: Snapshot::of(&pass),
+    };
+    both(
+        rt,
+        promise,
+        move || send_all(rt, channel, pass, messages),
+        g,
+    )
+}
+
+/// Receives so many messages in a new thread, and calls `g` in this one, which is told whether the thread was
+/// started.
+pub(crate) fn receiving<T, J, R, G, B>(
+    rt: &R,
+    alloc: Global,
+    channel: &Channel<T, J>,
+    pass: Pass<T, J>,
+    count: usize,
+    g: G,
+) -> Answer<((Vec<T>, Pass<T, J>), B)>
+where
+    T: Drop + Send,
+    J: Naming + Send + Sync,
+    R: Threads + Wait + Sync,
+    G: FnOnce(Answer<()>) -> Answer<B>,
+    B: Drop,
+    requires fresh { pass.own ≡ [] }
+    requires other { G.IsAlwaysCallable g }
+    ensures received { IfOk result (λ r. Tells [] r.0.0.items r.0.1 × (r.0.1.share ≡ pass.share)
+        × (length r.0.0.items ≡ count)) }
+    ensures other { IfOk result (λ r. G.post g (Ok tt) (Ok r.1)) }
+{
+    let promise = Received {
+        pass: Snapshot::of(&pass),
+        count,
+    };
+    both(
+        rt,
+        promise,
+        move || receive_all(rt, alloc, channel, pass, count),
+        g,
+    )
+}
+
 /// Lets one thread send the messages and another receive them, on a channel whose only pass this is.
 fn between<T: Drop + Send, J: Naming + Send + Sync, R: Threads + Wait + Sync>(
     rt: &R,
@@ -113,19 +220,20 @@ fn between<T: Drop + Send, J: Naming + Send + Sync, R: Threads + Wait + Sync>(
     let mut sends = pass;
     let receives = sends.again(channel.board());
     let count = messages.len();
-    let (sent, received) = thread::join(
+    let (sender, (got, receiver)) = sending(
         rt,
-        move || -> Result<Pass<T, J>, ExchangeError>
-            requires { (sends.share ≡ half whole) × (sends.own ≡ []) }
-            ensures { IfOk result (λ p. Tells messages.items [] p × (p.share ≡ half whole)) }
-        { send_all(rt, channel, sends, messages) },
-        move || -> Result<(Vec<T>, Pass<T, J>), ExchangeError>
-            requires { (receives.share ≡ half whole) × (receives.own ≡ []) }
+        channel,
+        sends,
+        messages,
+        move |started: Answer<()>| -> Answer<(Vec<T>, Pass<T, J>)>
+            requires { (receives.own ≡ []) × (receives.share ≡ half whole) }
             ensures { IfOk result (λ r. Tells [] r.0.items r.1 × (r.1.share ≡ half whole)
                 × (length r.0.items ≡ count)) }
-        { receive_all(rt, alloc, channel, receives, count) },
-    );
-    let (sender, (got, receiver)) = both_of(sent, received)?;
+        {
+            let receives = started_with(rt, channel, receives, started)?;
+            receive_all(rt, alloc, channel, receives, count)
+        },
+    )?;
     overseen(channel, sender, receiver);
     Ok(got)
 }
@@ -153,9 +261,9 @@ pub(crate) fn channel_of<T: Drop, J: Naming>(
 /// page of `kanal_one_history` on calling shows: it is that of `opened`, and its capacity is this one.
 ///
 /// # Errors
-/// `New` where the channel could not be made, `Send` where a send was refused, `Receive` where a receive was
-/// refused, and `NoMemory` where there was no memory for the list that is answered. All messages are
-/// dropped then, once each, those that came, too.
+/// `New` where the channel could not be made, `NoThread` where a thread could not be started, `Send` where a
+/// send was refused, `Receive` where a receive was refused, and `NoMemory` where there was no memory for the
+/// list that is answered. All messages are dropped then, once each, those that came, too.
 ///
 /// # Examples
 /// ```text

@@ -9,12 +9,11 @@ ghost use Rattle.kanal_board.specs.Views.{known};
 ghost use Rattle.kanal_exchange.specs.Merges.{IsMerge};
 ghost use Rattle.kanal_exchange.specs.Tales.{Tells};
 
-use crate::error::{ExchangeError, both_of};
-use crate::exchange::{channel_of, receive_all, send_all};
+use crate::error::{Answer, ExchangeError};
+use crate::exchange::{channel_of, receive_all, sending, started_with};
 use kanal_one_history::{Call, Channel, Naming, Opened, Pass};
 use std::alloc::Global;
 use std::sync::Wait;
-use std::thread;
 use std::thread::Threads;
 
 /// Says of three threads that have ended, and whose passes have all of the right to make calls between them:
@@ -43,7 +42,7 @@ fn overseen<T: Drop, J: Naming>(
     all.owns_all(board);
 }
 
-/// Lets one thread send the messages and another receive as many as are to come.
+/// Lets a thread send the messages, and receives as many as are to come.
 fn send_and_receive<T: Drop + Send, J: Naming + Send + Sync, R: Threads + Wait + Sync>(
     rt: &R,
     alloc: Global,
@@ -59,19 +58,20 @@ fn send_and_receive<T: Drop + Send, J: Naming + Send + Sync, R: Threads + Wait +
     ensures count { IfOk result (λ r. length r.1.0.items ≡ count) }
     ensures shares { IfOk result (λ r. (r.0.share ≡ sends.share) × (r.1.1.share ≡ receives.share)) }
 {
-    let (sent, received) = thread::join(
+    sending(
         rt,
-        move || -> Result<Pass<T, J>, ExchangeError>
-            requires { sends.own ≡ [] }
-            ensures { IfOk result (λ p. Tells messages.items [] p × (p.share ≡ sends.share)) }
-        { send_all(rt, channel, sends, messages) },
-        move || -> Result<(Vec<T>, Pass<T, J>), ExchangeError>
+        channel,
+        sends,
+        messages,
+        move |started: Answer<()>| -> Answer<(Vec<T>, Pass<T, J>)>
             requires { receives.own ≡ [] }
             ensures { IfOk result (λ r. Tells [] r.0.items r.1 × (r.1.share ≡ receives.share)
                 × (length r.0.items ≡ count)) }
-        { receive_all(rt, alloc, channel, receives, count) },
-    );
-    both_of(sent, received)
+        {
+            let receives = started_with(rt, channel, receives, started)?;
+            receive_all(rt, alloc, channel, receives, count)
+        },
+    )
 }
 
 /// Lets two threads send their messages and another receive all, on a channel whose only pass this is.
@@ -92,21 +92,22 @@ fn gathered_on<T: Drop + Send, J: Naming + Send + Sync, R: Threads + Wait + Sync
     let mut one = pass;
     let mut two = one.again(channel.board());
     let other = two.again(channel.board());
-    let (sent, rest) = thread::join(
+    let (one, (two, (got, receiver))) = sending(
         rt,
-        move || -> Result<Pass<T, J>, ExchangeError>
-            requires { (one.share ≡ half whole) × (one.own ≡ []) }
-            ensures { IfOk result (λ p. Tells first.items [] p × (p.share ≡ half whole)) }
-        { send_all(rt, channel, one, first) },
-        move || -> Result<(Pass<T, J>, (Vec<T>, Pass<T, J>)), ExchangeError>
+        channel,
+        one,
+        first,
+        move |started: Answer<()>| -> Answer<(Pass<T, J>, (Vec<T>, Pass<T, J>))>
             requires { (two.share ≡ half (half whole)) × (two.own ≡ [])
                 × (other.share ≡ half (half whole)) × (other.own ≡ []) }
             ensures { IfOk result (λ r. Tells second.items [] r.0 × (r.0.share ≡ half (half whole))
                 × Tells [] r.1.0.items r.1.1 × (r.1.1.share ≡ half (half whole))
                 × (length r.1.0.items ≡ count)) }
-        { send_and_receive(rt, alloc, channel, two, second, other, count) },
-    );
-    let (one, (two, (got, receiver))) = both_of(sent, rest)?;
+        {
+            let other = started_with(rt, channel, other, started)?;
+            send_and_receive(rt, alloc, channel, two, second, other, count)
+        },
+    )?;
     overseen(channel, one, two, receiver);
     Ok(got)
 }
@@ -119,9 +120,10 @@ fn gathered_on<T: Drop + Send, J: Naming + Send + Sync, R: Threads + Wait + Sync
 /// the page of `kanal_one_history` on calling shows: it is that of `opened`, and its capacity is this one.
 ///
 /// # Errors
-/// `New` where the channel could not be made, `Send` where a send was refused, `Receive` where a receive was
-/// refused, and `NoMemory` where there was no memory for the list that is answered, or both lists together
-/// are longer than a list can be. All messages are dropped then, once each, those that came, too.
+/// `New` where the channel could not be made, `NoThread` where a thread could not be started, `Send` where a
+/// send was refused, `Receive` where a receive was refused, and `NoMemory` where there was no memory for the
+/// list that is answered, or both lists together are longer than a list can be. All messages are dropped
+/// then, once each, those that came, too.
 ///
 /// # Examples
 /// ```text

@@ -17,6 +17,7 @@ mod exchange;
 mod gathering;
 mod pipeline;
 mod tasks;
+mod threads;
 
 pub use error::ExchangeError;
 pub use exchange::exchanged;

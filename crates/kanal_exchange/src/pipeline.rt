@@ -3,20 +3,21 @@
 //! Stands on `exchange`. Who receives by a stage says what was made of the messages that came by its pass.
 //! So what the whole makes follows from what each channel's two passes tell, and one stage more is one thread
 //! and one channel more.
-ghost use Rattle.std.specs.Prelude.{◌≡◌, [], IfOk, IfSome, length, map};
+ghost use Rattle.std.specs.Prelude.{◌≡◌, [], Ok, IfOk, IfSome, map};
 ghost use Rattle.kanal_board.specs.Boards.{table_of};
 ghost use Rattle.kanal_board.specs.Shares.{half, whole};
 ghost use Rattle.kanal_board.specs.Views.{known};
-ghost use Rattle.kanal_exchange.specs.Stages.{Handed, Made, Staged};
+ghost use Rattle.kanal_exchange.specs.Stages.{Handed, Made, Staged, by_two};
 ghost use Rattle.kanal_exchange.specs.Tales.{Tells};
 
-use crate::error::{ExchangeError, both_of};
-use crate::exchange::{channel_of, overseen, receive_all, send_all};
+use crate::error::{Answer, ExchangeError};
+use crate::exchange::{channel_of, overseen, receiving, sending, started_with};
+use crate::threads::both;
 use kanal_one_history::{Call, Channel, Naming, Opened, Pass};
 use std::alloc::Global;
+use std::snapshot::Snapshot;
 use std::sync::Wait;
-use std::thread;
-use std::thread::Threads;
+use std::thread::{Promise, Threads};
 
 /// What is done to each message on its way.
 ///
@@ -68,23 +69,26 @@ fn hand_on<S: Stage, J: Naming, K: Naming, R: Wait>(
     Ok(())
 }
 
-/// Hands on so many messages, in order.
+/// Hands on so many messages, in order, where the thread behind was started.
 ///
 /// # Errors
-/// Where a receive, the stage or a send is refused: both channels are closed then.
+/// Where it was not: the channel before is closed then, on which a thread may wait. Where a receive, the stage
+/// or a send is refused: both channels are closed then.
 fn hand_on_all<S: Stage, J: Naming, K: Naming, R: Wait>(
     rt: &R,
     stage: &S,
     before: &Channel<S::Input, J>,
-    mut hears: Pass<S::Input, J>,
+    hears: Pass<S::Input, J>,
     behind: &Channel<S::Output, K>,
     mut tells: Pass<S::Output, K>,
     count: usize,
+    started: Answer<()>,
 ) -> Result<(Pass<S::Input, J>, Pass<S::Output, K>), ExchangeError>
     requires fresh { (hears.own ≡ []) × (tells.own ≡ []) }
     ensures staged { IfOk result (λ r. Staged (S.value stage.now) count r.0 r.1) }
     ensures shares { IfOk result (λ r. (r.0.share ≡ hears.share) × (r.1.share ≡ tells.share)) }
 {
+    let mut hears = started_with(rt, before, hears, started)?;
     for _number in 0..count {
         if let Err(refused) = hand_on(rt, stage, before, &mut hears, behind, &mut tells) {
             let _closed = before.close(rt, &mut hears);
@@ -95,7 +99,7 @@ fn hand_on_all<S: Stage, J: Naming, K: Naming, R: Wait>(
     Ok((hears, tells))
 }
 
-/// Lets a thread hand on what comes by way of the stage, and receives what the stage made of it.
+/// Hands on what comes by way of the stage, and lets another thread receive what the stage made of it.
 fn receive_by_stage<S, J, K, R>(
     rt: &R,
     alloc: Global,
@@ -119,20 +123,12 @@ where
 {
     let mut tells = first;
     let reads = tells.again(behind.board());
-    let (handed, received) = thread::join(
-        rt,
-        move || -> Result<(Pass<S::Input, J>, Pass<S::Output, K>), ExchangeError>
-            requires { (hears.own ≡ []) × (tells.share ≡ half whole) × (tells.own ≡ []) }
-            ensures { IfOk result (λ r. Staged (S.value stage.entry.now) count r.0 r.1
-                × (r.0.share ≡ hears.share) × (r.1.share ≡ half whole)) }
-        { hand_on_all(rt, stage, before, hears, behind, tells, count) },
-        move || -> Result<(Vec<S::Output>, Pass<S::Output, K>), ExchangeError>
-            requires { (reads.share ≡ half whole) × (reads.own ≡ []) }
-            ensures { IfOk result (λ r. Tells [] r.0.items r.1 × (r.1.share ≡ half whole)
-                × (length r.0.items ≡ count)) }
-        { receive_all(rt, alloc, behind, reads, count) },
-    );
-    let ((hears, tells), (got, reads)) = both_of(handed, received)?;
+    let hand_on = move |started: Answer<()>| -> Answer<(Pass<S::Input, J>, Pass<S::Output, K>)>
+        requires { (hears.own ≡ []) × (tells ≡ known [] [] (half whole)) }
+        ensures { IfOk result (λ r. Staged (S.value stage.entry.now) count r.0 r.1
+            × (r.0.share ≡ hears.share) × (r.1.share ≡ half whole)) }
+    { hand_on_all(rt, stage, before, hears, behind, tells, count, started) };
+    let ((got, reads), (hears, tells)) = receiving(rt, alloc, behind, reads, count, hand_on)?;
     overseen(behind, tells, reads);
     Ok((got, hears))
 }
@@ -159,41 +155,37 @@ where
     ensures mapped { IfOk result (λ made. made.items ≡ map (S.value stage.now) messages.items) }
 {
     let mut sends = pass;
-    let receives = sends.again(before.board());
+    let hears = sends.again(before.board());
     let count = messages.len();
-    let (sent, made) = thread::join(
-        rt,
-        move || -> Result<Pass<S::Input, J>, ExchangeError>
-            requires { (sends.share ≡ half whole) × (sends.own ≡ []) }
-            ensures { IfOk result (λ p. Tells messages.items [] p × (p.share ≡ half whole)) }
-        { send_all(rt, before, sends, messages) },
-        move || -> Result<(Vec<S::Output>, Pass<S::Input, J>), ExchangeError>
-            requires { (receives.share ≡ half whole) × (receives.own ≡ [])
-                × (first ≡ known [] [] whole) }
-            ensures { IfOk result (λ r. Made (λ messages. map (S.value stage.entry.now) messages)
-                count r.0.items r.1 × (r.1.share ≡ half whole)) }
-        { receive_by_stage(rt, alloc, stage, before, receives, behind, first, count) },
-    );
-    let (sender, (made, receiver)) = both_of(sent, made)?;
+    let receive = move |started: Answer<()>| -> Answer<(Vec<S::Output>, Pass<S::Input, J>)>
+        requires { (hears ≡ known [] [] (half whole)) × (first ≡ known [] [] whole) }
+        ensures { IfOk result (λ r. Made (λ messages. map (S.value stage.entry.now) messages)
+            count r.0.items r.1 × (r.1.share ≡ half whole)) }
+    {
+        let hears = started_with(rt, before, hears, started)?;
+        receive_by_stage(rt, alloc, stage, before, hears, behind, first, count)
+    };
+    let (sender, (made, receiver)) = sending(rt, before, sends, messages, receive)?;
     overseen(before, sender, receiver);
     Ok(made)
 }
 
 /// Sends the messages through the stage: one thread sends, one has the stage, and one receives, on two channels
-/// of their own, each of this capacity or without limit. What came out is what the stage makes of the
+/// of their own, each of its capacity or without limit. What came out is what the stage makes of the
 /// messages, in order.
 ///
 /// It waits until all threads have ended. The caller picks the names `J` of the channel before the stage and
 /// `K` of the one behind it, in proofs alone, as the page of `kanal_one_history` on calling shows.
 ///
 /// # Errors
-/// `New` where a channel could not be made, `Send` where a send was refused, `Receive` where a receive was
-/// refused, `Stage` where the stage refused a message, and `NoMemory` where there was no memory for the list
-/// that is answered. All messages are dropped then, once each, those that came, too.
+/// `New` where a channel could not be made, `NoThread` where a thread could not be started, `Send` where a
+/// send was refused, `Receive` where a receive was refused, `Stage` where the stage refused a message, and
+/// `NoMemory` where there was no memory for the list that is answered. All messages are dropped then, once
+/// each, those that came, too.
 ///
 /// # Examples
 /// ```text
-/// mapped::<_, Brand, Brand, _>(&rt, alloc, &Doubled, Some(4), opened, opened_behind, messages)
+/// mapped::<_, Brand, Brand, _>(&rt, alloc, &Doubled, Some(4), opened, Some(2), opened_behind, messages)
 ///     answers  Ok of the doubled numbers, in order
 /// ```
 pub fn mapped<S, J, K, R>(
@@ -202,6 +194,7 @@ pub fn mapped<S, J, K, R>(
     stage: &S,
     capacity: Option<usize>,
     opened: Opened<Call<S::Input>>,
+    capacity_behind: Option<usize>,
     opened_behind: Opened<Call<S::Output>>,
     messages: Vec<S::Input>,
 ) -> Result<Vec<S::Output>, ExchangeError>
@@ -213,15 +206,67 @@ where
     requires name { table_of opened ≡ J.table }
     requires capacity { J.capacity ≡ capacity }
     requires name_behind { table_of opened_behind ≡ K.table }
-    requires capacity_behind { K.capacity ≡ capacity }
+    requires capacity_behind { K.capacity ≡ capacity_behind }
     ensures mapped { IfOk result (λ made. made.items ≡ map (S.value stage.now) messages.items) }
 {
     let (before, pass) = channel_of::<S::Input, J>(alloc, capacity, opened)?;
-    let (behind, first) = channel_of::<S::Output, K>(alloc, capacity, opened_behind)?;
+    let (behind, first) = channel_of::<S::Output, K>(alloc, capacity_behind, opened_behind)?;
     mapped_on(rt, alloc, stage, &before, pass, &behind, first, messages)
 }
 
-/// Lets a thread hand on what comes by way of the first stage, and receives by the second what was made of it.
+/// That a thread received by this stage what became of so many messages, which came by this pass.
+#[derive(Drop)]
+struct Staging<S: Stage, J: Naming> {
+    stage: Snapshot<S>,
+    pass: Snapshot<Pass<S::Input, J>>,
+    count: usize,
+}
+
+impl<S: Stage, J: Naming> Promise<Answer<(Vec<S::Output>, Pass<S::Input, J>)>> for Staging<S, J> {
+    ghost kept_by = { λ p answer. IfOk answer (λ r. Made (λ messages. map (S.value p.stage.value) messages) p.count
+        r.0.items r.1 × (r.1.share ≡ p.pass.value.share)) };
+}
+
+/// Receives by the stage in a new thread, and calls `g` in this one, which is told whether the thread was
+/// started.
+fn receiving_by_stage<S, J, K, R, G, B>(
+    rt: &R,
+    alloc: Global,
+    stage: &S,
+    before: &Channel<S::Input, J>,
+    hears: Pass<S::Input, J>,
+    behind: &Channel<S::Output, K>,
+    first: Pass<S::Output, K>,
+    count: usize,
+    g: G,
+) -> Answer<((Vec<S::Output>, Pass<S::Input, J>), B)>
+where
+    S: Stage + Sync,
+    J: Naming + Send + Sync,
+    K: Naming + Send + Sync,
+    R: Threads + Wait + Sync,
+    G: FnOnce(Answer<()>) -> Answer<B>,
+    B: Drop,
+    requires first { (hears.own ≡ []) × (first ≡ known [] [] whole) }
+    requires other { G.IsAlwaysCallable g }
+    ensures made { IfOk result (λ r. Made (λ messages. map (S.value stage.now) messages) count
+        r.0.0.items r.0.1 × (r.0.1.share ≡ hears.share)) }
+    ensures other { IfOk result (λ r. G.post g (Ok tt) (Ok r.1)) }
+{
+    let promise = Staging {
+        stage: Snapshot::of(stage),
+        pass: Snapshot::of(&hears),
+        count,
+    };
+    let receive = move || -> Answer<(Vec<S::Output>, Pass<S::Input, J>)>
+        requires { (hears.own ≡ []) × (first ≡ known [] [] whole) }
+        ensures { IfOk result (λ r. Made (λ messages. map (S.value stage.entry.now) messages) count
+            r.0.items r.1 × (r.1.share ≡ hears.share)) }
+    { receive_by_stage(rt, alloc, stage, before, hears, behind, first, count) };
+    both(rt, promise, receive, g)
+}
+
+/// Hands on what comes by way of the first stage, and lets others receive by the second what was made of it.
 fn receive_by_two<S, U, J, K, L, R>(
     rt: &R,
     alloc: Global,
@@ -243,28 +288,20 @@ where
     L: Naming + Send + Sync,
     R: Threads + Wait + Sync,
     requires fresh { hears.own ≡ [] }
-    requires first { first ≡ known [] [] whole }
-    requires second { second ≡ known [] [] whole }
-    ensures made { IfOk result (λ r. Made
-        (λ messages. map (U.value after.now) (map (S.value stage.now) messages)) count r.0.items r.1) }
+    requires first { (first ≡ known [] [] whole) × (second ≡ known [] [] whole) }
+    ensures made { IfOk result (λ r. Made (by_two (S.value stage.now) (U.value after.now)) count r.0.items r.1) }
     ensures share { IfOk result (λ r. r.1.share ≡ hears.share) }
 {
     let mut tells = first;
     let reads = tells.again(between.board());
-    let (handed, made) = thread::join(
-        rt,
-        move || -> Result<(Pass<S::Input, J>, Pass<S::Output, K>), ExchangeError>
-            requires { (hears.own ≡ []) × (tells.share ≡ half whole) × (tells.own ≡ []) }
-            ensures { IfOk result (λ r. Staged (S.value stage.entry.now) count r.0 r.1
-                × (r.0.share ≡ hears.share) × (r.1.share ≡ half whole)) }
-        { hand_on_all(rt, stage, before, hears, between, tells, count) },
-        move || -> Result<(Vec<U::Output>, Pass<S::Output, K>), ExchangeError>
-            requires { (reads.share ≡ half whole) × (reads.own ≡ []) × (second ≡ known [] [] whole) }
-            ensures { IfOk result (λ r. Made (λ messages. map (U.value after.entry.now) messages) count
-                r.0.items r.1 × (r.1.share ≡ half whole)) }
-        { receive_by_stage(rt, alloc, after, between, reads, behind, second, count) },
-    );
-    let ((hears, tells), (made, reads)) = both_of(handed, made)?;
+    let hand_on = move |started: Answer<()>| -> Answer<(Pass<S::Input, J>, Pass<S::Output, K>)>
+        requires { (hears.own ≡ []) × (tells ≡ known [] [] (half whole)) }
+        ensures { IfOk result (λ r. Staged (S.value stage.entry.now) count r.0 r.1
+            × (r.0.share ≡ hears.share) × (r.1.share ≡ half whole)) }
+    { hand_on_all(rt, stage, before, hears, between, tells, count, started) };
+    let ((made, reads), (hears, tells)) = receiving_by_stage(
+        rt, alloc, after, between, reads, behind, second, count, hand_on,
+    )?;
     overseen(between, tells, reads);
     Ok((made, hears))
 }
@@ -291,53 +328,45 @@ where
     K: Naming + Send + Sync,
     L: Naming + Send + Sync,
     R: Threads + Wait + Sync,
-    requires before { pass ≡ known [] [] whole }
-    requires between { first ≡ known [] [] whole }
-    requires behind { second ≡ known [] [] whole }
-    ensures mapped { IfOk result (λ made. made.items
-        ≡ map (U.value after.now) (map (S.value stage.now) messages.items)) }
+    requires first { (pass ≡ known [] [] whole) × (first ≡ known [] [] whole) × (second ≡ known [] [] whole) }
+    ensures mapped { IfOk result (λ made. made.items ≡ by_two (S.value stage.now) (U.value after.now) messages.items) }
 {
     let mut sends = pass;
-    let receives = sends.again(before.board());
+    let hears = sends.again(before.board());
     let count = messages.len();
-    let (sent, made) = thread::join(
-        rt,
-        move || -> Result<Pass<S::Input, J>, ExchangeError>
-            requires { (sends.share ≡ half whole) × (sends.own ≡ []) }
-            ensures { IfOk result (λ p. Tells messages.items [] p × (p.share ≡ half whole)) }
-        { send_all(rt, before, sends, messages) },
-        move || -> Result<(Vec<U::Output>, Pass<S::Input, J>), ExchangeError>
-            requires { (receives.share ≡ half whole) × (receives.own ≡ [])
-                × (first ≡ known [] [] whole) × (second ≡ known [] [] whole) }
-            ensures { IfOk result (λ r. Made
-                (λ messages. map (U.value after.entry.now) (map (S.value stage.entry.now) messages))
-                count r.0.items r.1 × (r.1.share ≡ half whole)) }
-        {
-            receive_by_two(
-                rt, alloc, stage, after, before, receives, between, first, behind, second, count,
-            )
-        },
-    );
-    let (sender, (made, receiver)) = both_of(sent, made)?;
+    let receive = move |started: Answer<()>| -> Answer<(Vec<U::Output>, Pass<S::Input, J>)>
+        requires { (hears ≡ known [] [] (half whole)) × (first ≡ known [] [] whole) × (second ≡ known [] [] whole) }
+        ensures { IfOk result (λ r. Made (by_two (S.value stage.entry.now) (U.value after.entry.now)) count
+            r.0.items r.1 × (r.1.share ≡ half whole)) }
+    {
+        let hears = started_with(rt, before, hears, started)?;
+        receive_by_two(
+            rt, alloc, stage, after, before, hears, between, first, behind, second, count,
+        )
+    };
+    let (sender, (made, receiver)) = sending(rt, before, sends, messages, receive)?;
     overseen(before, sender, receiver);
     Ok(made)
 }
 
 /// Sends the messages through the two stages, one after the other: one thread sends, each stage has one, and one
-/// receives, on three channels of their own, each of this capacity or without limit. What came out is what
+/// receives, on three channels of their own, each of its capacity or without limit. What came out is what
 /// the second stage makes of what the first makes of the messages, in order.
 ///
 /// It waits until all threads have ended. The caller picks the names `J`, `K` and `L` of the channels, from the
 /// first to the last, in proofs alone, as the page of `kanal_one_history` on calling shows.
 ///
 /// # Errors
-/// `New` where a channel could not be made, `Send` where a send was refused, `Receive` where a receive was
-/// refused, `Stage` where a stage refused a message, and `NoMemory` where there was no memory for the list
-/// that is answered. All messages are dropped then, once each, those that came, too.
+/// `New` where a channel could not be made, `NoThread` where a thread could not be started, `Send` where a
+/// send was refused, `Receive` where a receive was refused, `Stage` where a stage refused a message, and
+/// `NoMemory` where there was no memory for the list that is answered. All messages are dropped then, once
+/// each, those that came, too.
 ///
 /// # Examples
 /// ```text
-/// mapped_by_two::<_, _, Brand, Brand, Brand, _>(&rt, alloc, &Doubled, &Shown, None, opened, opened_between, opened_behind, messages)
+/// mapped_by_two::<_, _, Brand, Brand, Brand, _>(
+///     &rt, alloc, &Doubled, &Shown, None, opened, Some(4), opened_between, Some(2), opened_behind, messages,
+/// )
 ///     answers  Ok of what is shown of the doubled numbers, in order
 /// ```
 pub fn mapped_by_two<S, U, J, K, L, R>(
@@ -347,7 +376,9 @@ pub fn mapped_by_two<S, U, J, K, L, R>(
     after: &U,
     capacity: Option<usize>,
     opened: Opened<Call<S::Input>>,
+    capacity_between: Option<usize>,
     opened_between: Opened<Call<S::Output>>,
+    capacity_behind: Option<usize>,
     opened_behind: Opened<Call<U::Output>>,
     messages: Vec<S::Input>,
 ) -> Result<Vec<U::Output>, ExchangeError>
@@ -361,15 +392,15 @@ where
     requires name { table_of opened ≡ J.table }
     requires capacity { J.capacity ≡ capacity }
     requires name_between { table_of opened_between ≡ K.table }
-    requires capacity_between { K.capacity ≡ capacity }
+    requires capacity_between { K.capacity ≡ capacity_between }
     requires name_behind { table_of opened_behind ≡ L.table }
-    requires capacity_behind { L.capacity ≡ capacity }
+    requires capacity_behind { L.capacity ≡ capacity_behind }
     ensures mapped { IfOk result (λ made. made.items
         ≡ map (U.value after.now) (map (S.value stage.now) messages.items)) }
 {
     let (before, pass) = channel_of::<S::Input, J>(alloc, capacity, opened)?;
-    let (between, first) = channel_of::<S::Output, K>(alloc, capacity, opened_between)?;
-    let (behind, second) = channel_of::<U::Output, L>(alloc, capacity, opened_behind)?;
+    let (between, first) = channel_of::<S::Output, K>(alloc, capacity_between, opened_between)?;
+    let (behind, second) = channel_of::<U::Output, L>(alloc, capacity_behind, opened_behind)?;
     mapped_by_two_on(
         rt, alloc, stage, after, &before, pass, &between, first, &behind, second, messages,
     )

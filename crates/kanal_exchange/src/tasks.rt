@@ -10,15 +10,14 @@ ghost use Rattle.kanal_board.specs.Views.{known};
 ghost use Rattle.kanal_one_history.specs.Puts.{Exchanges};
 ghost use Rattle.kanal_exchange.specs.Tales.{Tells};
 
-use crate::error::{ExchangeError, both_of};
-use crate::exchange::{channel_of, overseen, receive_all, send_all};
+use crate::error::{Answer, ExchangeError};
+use crate::exchange::{channel_of, overseen, receiving, sending, started_with};
 use futures::executor::block_on;
 use kanal_futures::{recv_in_task, send_in_task};
 use kanal_one_history::{Call, Channel, Naming, Opened, Pass};
 use std::alloc::{AllocGlobal, Global};
 use std::random::RandomSource;
 use std::sync::Wait;
-use std::thread;
 use std::thread::Threads;
 
 /// Sends one message in a task.
@@ -171,20 +170,21 @@ where
     let mut sends = pass;
     let receives = sends.again(channel.board());
     let count = messages.len();
-    let (sent, received) = thread::join(
+    let (sender, (got, receiver)) = sending(
         rt,
-        move || -> Result<Pass<T, J>, ExchangeError>
-            requires { (sends.share ≡ half whole) × (sends.own ≡ []) }
-            ensures { IfOk result (λ p. Tells messages.items [] p × (p.share ≡ half whole)) }
-        { send_all(rt, channel, sends, messages) },
-        move || -> Result<(Vec<T>, Pass<T, J>), ExchangeError>
-            requires { (receives.share ≡ half whole) × (receives.own ≡ []) }
+        channel,
+        sends,
+        messages,
+        move |started: Answer<()>| -> Answer<(Vec<T>, Pass<T, J>)>
+            requires { (receives.own ≡ []) × (receives.share ≡ half whole) }
             ensures { IfOk result (λ r. Tells [] r.0.items r.1
                 × (r.1.share ≡ both (half (half whole)) (half (half whole)))
                 × (length r.0.items ≡ count)) }
-        { receive_all_in_task(rt, alloc, channel, receives, count) },
-    );
-    let (sender, (got, receiver)) = both_of(sent, received)?;
+        {
+            let receives = started_with(rt, channel, receives, started)?;
+            receive_all_in_task(rt, alloc, channel, receives, count)
+        },
+    )?;
     overseen(channel, sender, receiver);
     Ok(got)
 }
@@ -207,20 +207,21 @@ where
     let mut sends = pass;
     let receives = sends.again(channel.board());
     let count = messages.len();
-    let (sent, received) = thread::join(
+    let ((got, receiver), sender) = receiving(
         rt,
-        move || -> Result<Pass<T, J>, ExchangeError>
-            requires { (sends.share ≡ half whole) × (sends.own ≡ []) }
+        alloc,
+        channel,
+        receives,
+        count,
+        move |started: Answer<()>| -> Answer<Pass<T, J>>
+            requires { (sends.own ≡ []) × (sends.share ≡ half whole) }
             ensures { IfOk result (λ p. Tells messages.items [] p
                 × (p.share ≡ both (half (half whole)) (half (half whole)))) }
-        { send_all_in_task(rt, channel, sends, messages) },
-        move || -> Result<(Vec<T>, Pass<T, J>), ExchangeError>
-            requires { (receives.share ≡ half whole) × (receives.own ≡ []) }
-            ensures { IfOk result (λ r. Tells [] r.0.items r.1 × (r.1.share ≡ half whole)
-                × (length r.0.items ≡ count)) }
-        { receive_all(rt, alloc, channel, receives, count) },
-    );
-    let (sender, (got, receiver)) = both_of(sent, received)?;
+        {
+            let sends = started_with(rt, channel, sends, started)?;
+            send_all_in_task(rt, channel, sends, messages)
+        },
+    )?;
     overseen(channel, sender, receiver);
     Ok(got)
 }
@@ -231,8 +232,8 @@ where
 /// It waits until both have ended. The caller picks the channel's name as for `exchanged`.
 ///
 /// # Errors
-/// As `exchanged`, and `Task` where the executor refused a future. All messages are dropped then, once each,
-/// those that came, too.
+/// As `exchanged`, with `NoThread` where the thread could not be started, and `Task` where the executor refused a
+/// future. All messages are dropped then, once each, those that came, too.
 ///
 /// # Examples
 /// ```text
@@ -263,8 +264,8 @@ where
 /// It waits until both have ended. The caller picks the channel's name as for `exchanged`.
 ///
 /// # Errors
-/// As `exchanged`, and `Task` where the executor refused a future. All messages are dropped then, once each,
-/// those that came, too.
+/// As `exchanged`, with `NoThread` where the thread could not be started, and `Task` where the executor refused a
+/// future. All messages are dropped then, once each, those that came, too.
 ///
 /// # Examples
 /// ```text

@@ -1,11 +1,11 @@
 //! What an exchange tells that is refused, and what becomes of its messages.
 //!
-//! Stands on `kanal_exchange`, and on messages that count their drops.
+//! Stands on the program's exchanges, and on messages that count their drops.
+use crate::calls::{exchange, map_by};
 use anyhow::{Result, bail};
-use kanal_exchange::{ExchangeError, Opened, Stage, exchanged, mapped};
+use kanal_exchange::{ExchangeError, Stage};
 use kanal_given::{Counted, Drops};
 use std::alloc::Global;
-use std::marker::Brand;
 use std::sync::Wait;
 use std::thread::Threads;
 
@@ -28,10 +28,10 @@ impl Stage for Refusing {
     }
 }
 
-/// Messages that are counted when they are dropped.
-fn counted(alloc: Global, drops: &Drops) -> Result<Vec<Counted>> {
+/// So many messages that are counted when they are dropped.
+pub fn counted(alloc: Global, drops: &Drops, count: u64) -> Result<Vec<Counted>> {
     let mut messages = Vec::new(alloc);
-    for _ in 0..REFUSED {
+    for _ in 0..count {
         messages.push(drops.message()?)?;
     }
     Ok(messages)
@@ -47,10 +47,8 @@ where
     R: Threads + Wait + Sync,
 {
     let drops = Drops::new(alloc)?;
-    let messages = counted(alloc, &drops)?;
-    let opened = Opened::new(alloc)?;
-    let behind = Opened::new(alloc)?;
-    match mapped::<_, Brand, Brand, _>(rt, alloc, &Refusing, capacity, opened, behind, messages) {
+    let messages = counted(alloc, &drops, REFUSED)?;
+    match map_by(rt, alloc, &Refusing, capacity, messages) {
         Ok(_made) => bail!("nothing was refused"),
         Err(error) => Ok((error, drops.count())),
     }
@@ -62,10 +60,8 @@ where
     R: Threads + Wait + Sync,
 {
     let drops = Drops::new(alloc)?;
-    let messages = counted(alloc, &drops)?;
-    let opened = Opened::new(alloc)?;
-    let capacity = Some(usize::MAX);
-    match exchanged::<_, Brand, _>(rt, alloc, capacity, opened, messages) {
+    let messages = counted(alloc, &drops, REFUSED)?;
+    match exchange(rt, alloc, Some(usize::MAX), messages) {
         Ok(_got) => bail!("nothing was refused"),
         Err(error) => Ok((error, drops.count())),
     }

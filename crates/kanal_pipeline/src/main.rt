@@ -1,21 +1,28 @@
-//! Counts lines and words of standard input in a pipeline of three threads: the first sends the lines, the
-//! second counts each line's words, and the third receives the counts.
+//! Counts lines and words of standard input in a pipeline of four threads: the first sends the lines, the
+//! second counts each line's words, the third is slow, and the fourth receives the counts.
 //!
 //! A stage that is slower than the one before it holds that one back: a bounded channel is full then, and a
-//! send waits. That each line was counted once, in its order, is the contract of `mapped` of `kanal_exchange`.
+//! send waits. How many counts waited for the slow stage at most goes to standard error, since no two runs
+//! agree on it. That each line was counted once, in its order, is the contract of `mapped_by_two` of
+//! `kanal_exchange`.
 #![tactic(auto)]
 
+mod slow;
 mod words;
 
 use anyhow::Result;
-use kanal_exchange::mapped;
+use kanal_exchange::mapped_by_two;
 use kanal_one_history::Opened;
+use slow::{Slow, Waiting};
 use std::io::{BufRead, BufReader};
 use std::marker::Brand;
 use words::Words;
 
-/// How many lines may wait for the second thread, and how many counts for the third.
-const PLACES: usize = 4;
+/// How many lines may wait for the second thread.
+const LINES: usize = 4;
+
+/// How many counts may wait for the third, and for the fourth.
+const COUNTS: usize = 2;
 
 fn main(rt: HostRuntime) -> Result<()> {
     let mut lines = Vec::new(rt.alloc());
@@ -23,13 +30,24 @@ fn main(rt: HostRuntime) -> Result<()> {
     for line in input.lines(rt.alloc()) {
         lines.push(line?)?;
     }
-    let (opened, behind) = (Opened::new(rt.alloc())?, Opened::new(rt.alloc())?);
-    let counts = mapped::<_, Brand, Brand, _>(
+    let waiting = Waiting::new();
+    let counting = Words { waiting: &waiting };
+    let slow = Slow {
+        rt: &rt,
+        waiting: &waiting,
+    };
+    let opened = Opened::new(rt.alloc())?;
+    let (between, behind) = (Opened::new(rt.alloc())?, Opened::new(rt.alloc())?);
+    let counts = mapped_by_two::<_, _, Brand, Brand, Brand, _>(
         &rt,
         rt.alloc(),
-        &Words,
-        Some(PLACES),
+        &counting,
+        &slow,
+        Some(LINES),
         opened,
+        Some(COUNTS),
+        between,
+        Some(COUNTS),
         behind,
         lines,
     )?;
@@ -37,6 +55,10 @@ fn main(rt: HostRuntime) -> Result<()> {
     for count in counts.iter() {
         words = words.wrapping_add(*count);
     }
+    eprintln!(rt;
+        "at most {} counts waited, with {COUNTS} places",
+        waiting.most()
+    )?;
     println!(rt; "{words} words in {} lines", counts.len())?;
     Ok(())
 }

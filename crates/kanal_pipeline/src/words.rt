@@ -4,12 +4,17 @@
 ghost use Rattle.std.specs.Prelude.{◌≡◌, ◌%◌, ◌^◌, cond};
 ghost use Rattle.kanal_pipeline.specs.Words.{words_of};
 
+use crate::slow::Waiting;
 use kanal_exchange::Stage;
 
 /// Makes the number of its words of each line.
-pub struct Words;
+#[derive(Drop)]
+pub struct Words<'a> {
+    /// Where it is told that a count waits for the slow stage.
+    pub waiting: &'a Waiting,
+}
 
-impl Stage for Words {
+impl<'a> Stage for Words<'a> {
     type Input = String;
 
     type Output = u64;
@@ -20,7 +25,9 @@ impl Stage for Words {
     ghost value = { λ _ line. words_of (string_bytes line) % 2 ^ 64 };
 
     fn apply(&self, message: String) -> Option<u64> {
-        Some(words_of(message.as_str()))
+        let count = words_of(message.as_str());
+        self.waiting.begins();
+        Some(count)
     }
 }
 

@@ -1,8 +1,14 @@
 use Rattle.kanal_board.specs.Boards.{table_of}
 use Rattle.kanal_pipeline.proofs.main.Given as goal
 
-abbrev pub ghosts-mapped-J-Naming : goal.ghosts-mapped-J-Naming
-ghosts-mapped-J-Naming g a = record { table = table_of a.opened; capacity = a.capacity }
+-- the name and the capacity of the channel for the lines
+abbrev pub ghosts-mapped_by_two-J-Naming : goal.ghosts-mapped_by_two-J-Naming
+ghosts-mapped_by_two-J-Naming g a = record { table = table_of a.opened; capacity = a.capacity }
 
-abbrev pub ghosts-mapped-K-Naming : goal.ghosts-mapped-K-Naming
-ghosts-mapped-K-Naming g a = record { table = table_of a.opened_behind; capacity = a.capacity }
+-- of the one for the slow stage
+abbrev pub ghosts-mapped_by_two-K-Naming : goal.ghosts-mapped_by_two-K-Naming
+ghosts-mapped_by_two-K-Naming g a = record { table = table_of a.opened_between; capacity = a.capacity_between }
+
+-- and of the one behind it
+abbrev pub ghosts-mapped_by_two-L-Naming : goal.ghosts-mapped_by_two-L-Naming
+ghosts-mapped_by_two-L-Naming g a = record { table = table_of a.opened_behind; capacity = a.capacity_behind }

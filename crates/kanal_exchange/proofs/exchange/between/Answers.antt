@@ -1,16 +1,11 @@
-use Rattle.std.proofs.Common.{◌≡◌, ◌∙◌, [], length}
-use Rattle.kanal_board.specs.Shares.{half, whole}
-use Rattle.kanal_exchange.specs.Tales.{Tells}
-use Rattle.kanal_exchange.proofs.Oks.{of_ok}
+use Rattle.std.proofs.Common.{◌∙◌}
 use Rattle.kanal_exchange.proofs.Telling.{took-all}
 use Rattle.kanal_exchange.proofs.exchange.between.Goals as goal
 
 pub returns : goal.returns
 returns g c =
-    let both = c.in_ok-sender.ensures.both in
-    let sender = c.in_ok-sender.sender in
+    let sent = c.in_ok-sender.ensures.sent in
+    let received = c.in_ok-sender.ensures.other.1 in
+    let messages = c.args.messages in
     let got = c.in_ok-sender.got.items in
-    let receiver = c.in_ok-sender.receiver in
-    let sent = of_ok (λ p. Tells c.args.messages.items [] p × (p.share ≡ half whole)) c.join-sent.result.0 sender c.join-sent.ensures.first both.0 in
-    let received = of_ok (λ r. Tells [] r.0.items r.1 × (r.1.share ≡ half whole) × (length r.0.items ≡ c.len-count.result)) c.join-sent.result.1 (c.in_ok-sender.got, receiver) c.join-sent.ensures.second both.1 in
-    record { exchanged = took-all got c.args.messages.items (c.overseen.ensures.in_order c.args.messages.items got sent.0 received.0) (received.2 ∙ (c.len-count.ensures ∙ c.args.messages.ok.0)) }
+    record { exchanged = took-all got messages.items (c.overseen.ensures.in_order messages.items got sent.0 received.0) (received.2 ∙ (c.len-count.ensures ∙ messages.ok.0)) }

@@ -1,4 +1,4 @@
-use Rattle.std.proofs.Common.{[], ◌∷◌, Ok, refl, ◌∙◌}
+use Rattle.std.proofs.Common.{[], ◌∷◌, refl, ◌∙◌}
 use Rattle.kanal_exchange.proofs.Telling.{tells_none, tells_more}
 use Rattle.kanal_exchange.proofs.exchange.send_all.Goals as goal
 

@@ -1,4 +1,4 @@
-use Rattle.std.proofs.Common.{rules, ◌≡◌, [], ◌∷◌, Ok, subst}
+use Rattle.std.proofs.Common.{rules, ◌≡◌, [], ◌∷◌, subst}
 use Rattle.kanal_one_history.specs.Puts.{Exchanges}
 use Rattle.kanal_exchange.proofs.pipeline.hand_on.Goals as goal
 

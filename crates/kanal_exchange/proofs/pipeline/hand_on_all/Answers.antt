@@ -1,10 +1,15 @@
-use Rattle.std.proofs.Common.{refl, ◌∙◌}
+use Rattle.std.proofs.Common.{ap, refl, ◌∙◌}
 use Rattle.kanal_exchange.proofs.Staging.{staged_none, staged_more}
 use Rattle.kanal_exchange.proofs.pipeline.hand_on_all.Goals as goal
 
 pub loop-number-init : goal.loop-number-init
 loop-number-init g c =
-    record { staged = staged_none (g.S.Stage.value c.args.stage.now) c.args.hears c.args.tells c.requires.fresh.0 c.requires.fresh.1; share_heard = refl; share_told = refl }
+    let same = c.in_ok-hears.ensures.same in
+    record {
+      staged = staged_none (g.S.Stage.value c.args.stage.now) c.in_ok-hears.hears c.args.tells (ap (λ p. p.own) same ∙ c.requires.fresh.0) c.requires.fresh.1;
+      share_heard = ap (λ p. p.share) same;
+      share_told = refl;
+    }
 
 pub loop-number-preserved : goal.loop-number-preserved
 loop-number-preserved g c =

@@ -1,10 +1,15 @@
 use Rattle.std.specs.Str.Iter.{chars_rest}
-use Rattle.std.proofs.Common.{rules, chars, ap, sym, ◌∙◌, ◌+◌, ◌%◌, ◌^◌}
+use Rattle.std.proofs.Common.{rules, ◌≡◌, IsUtf8, chars, ap, subst, sym, ◌∙◌, ◌+◌, ◌%◌, ◌^◌}
 use Rattle.std.proofs.lemmas.Str.{IsUtf8-past_char, chars_past_char}
 use Rattle.std.proofs.StrCases.{chars_of_empty}
-use Rattle.kanal_pipeline.specs.Words.{words_in}
-use Rattle.kanal_pipeline.proofs.Counting.{counted_all, counted_on}
+use Rattle.kanal_pipeline.proofs.Counting.{counted_all, counted_on, counts_all, words_in}
 use Rattle.kanal_pipeline.proofs.words.words_of.Goals as goal
+
+pub loop-character-init : goal.loop-character-init
+loop-character-init c =
+    let rest = chars_rest c.into_iter-character-iterator.result in
+    let same : rest ≡ c.args.line.now = search rules in
+    (subst IsUtf8 (sym same) c.utf8.line, counts_all c.args.line.now rest same)
 
 pub loop-character-preserved : goal.loop-character-preserved
 loop-character-preserved c =

@@ -1,6 +1,7 @@
 use Rattle.std.proofs.Common.{◌≡◌, ◌%◌, ◌^◌, ◌+◌, IsUtf8, chars}
 use Rattle.std.specs.Str.Iter.{chars_rest}
-use Rattle.kanal_pipeline.specs.Words.{words_in, words_of}
+use Rattle.kanal_pipeline.specs.Words.{words_of}
+use Rattle.kanal_pipeline.proofs.Counting.{words_in}
 use Rattle.kanal_pipeline.proofs.words.words_of.Given as goal
 
 -- the words that were counted and those that begin in the rest are all

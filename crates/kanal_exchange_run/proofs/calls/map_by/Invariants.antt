@@ -1,5 +1,5 @@
 use Rattle.kanal_board.specs.Boards.{table_of}
-use Rattle.kanal_exchange_run.proofs.show_numbers.Given as goal
+use Rattle.kanal_exchange_run.proofs.calls.map_by.Given as goal
 
 -- the name and the capacity of the channel before the stage
 abbrev pub ghosts-mapped-J-Naming : goal.ghosts-mapped-J-Naming
@@ -7,4 +7,4 @@ ghosts-mapped-J-Naming g a = record { table = table_of a.opened; capacity = a.ca
 
 -- and of the one behind it
 abbrev pub ghosts-mapped-K-Naming : goal.ghosts-mapped-K-Naming
-ghosts-mapped-K-Naming g a = record { table = table_of a.opened_behind; capacity = a.capacity }
+ghosts-mapped-K-Naming g a = record { table = table_of a.opened_behind; capacity = a.capacity_behind }

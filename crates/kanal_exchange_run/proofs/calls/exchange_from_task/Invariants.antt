@@ -1,5 +1,5 @@
 use Rattle.kanal_board.specs.Boards.{table_of}
-use Rattle.kanal_exchange_run.proofs.exchange_from_task.Given as goal
+use Rattle.kanal_exchange_run.proofs.calls.exchange_from_task.Given as goal
 
 -- the board's name and the channel's capacity
 abbrev pub ghosts-exchanged_from_task : goal.ghosts-exchanged_from_task

@@ -1,5 +1,5 @@
 use Rattle.kanal_board.specs.Boards.{table_of}
-use Rattle.kanal_exchange_run.proofs.exchange_to_task.Given as goal
+use Rattle.kanal_exchange_run.proofs.calls.exchange_to_task.Given as goal
 
 -- the board's name and the channel's capacity
 abbrev pub ghosts-exchanged_to_task : goal.ghosts-exchanged_to_task

@@ -1,5 +1,5 @@
 use Rattle.kanal_board.specs.Boards.{table_of}
-use Rattle.kanal_exchange_run.proofs.gather_numbers.Given as goal
+use Rattle.kanal_exchange_run.proofs.calls.gather.Given as goal
 
 -- the board's name and the channel's capacity
 abbrev pub ghosts-gathered : goal.ghosts-gathered

@@ -1,5 +1,5 @@
 use Rattle.kanal_board.specs.Boards.{table_of}
-use Rattle.kanal_exchange_run.proofs.refusals.refused_a_channel.Given as goal
+use Rattle.kanal_exchange_run.proofs.calls.exchange.Given as goal
 
 -- the board's name and the channel's capacity
 abbrev pub ghosts-exchanged : goal.ghosts-exchanged

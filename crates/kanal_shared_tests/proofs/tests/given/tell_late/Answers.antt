@@ -1,6 +1,10 @@
-use Rattle.kanal_history.specs.Words.{nothing_told, nothing_sound}
+use Rattle.std.proofs.Common.{subst, sym}
+use Rattle.kanal_events.specs.Made.{made_of, settled_of}
+use Rattle.kanal_history.specs.Words.{HaveSettled, nothing_told, nothing_sound}
 use Rattle.kanal_channel.proofs.Settling.{noted_settled}
 use Rattle.kanal_shared_tests.proofs.tests.given.tell_late.Goals as goal
 
 pub settle-reply-requires : goal.settle-reply-requires
-settle-reply-requires g c = record { seen = noted_settled nothing_told nothing_sound tt tt c.args.event c.in-Told.made c.in-Told.ensures.tried.0 }
+settle-reply-requires g c =
+    let seen = noted_settled nothing_told nothing_sound tt tt c.args.event (made_of c.in-Told.answered) c.in-Told.ensures.tried.0 in
+    record { seen = subst (λ made. HaveSettled nothing_told tt (settled_of made)) (sym c.into_made.ensures) seen }

@@ -3,14 +3,12 @@ use Rattle.std.specs.Prelude.{◌≡◌}
 use Rattle.kanal_core.specs.Tickets.{number_of}
 use Rattle.kanal_events.specs.declared.event.Event.{Event}
 use Rattle.kanal_events.specs.declared.event.Reply.TheVariants.{Waits}
-use Rattle.kanal_history.specs.Makes.{HasReplied, HasWaited, IsReplied, Lacks, SeesWait}
+use Rattle.kanal_history.specs.Makes.{HasReplied, HasWaited, IsReplied, Lacks}
 use Rattle.kanal_history.specs.Words.{Words}
 use Rattle.kanal_channel.specs.declared.blocking.Begun.{Begun}
 use Rattle.kanal_channel.specs.declared.blocking.Begun.TheVariants.{Replied as BegunReplied, Waits as BegunWaits, Lacking as BegunLacking}
 use Rattle.kanal_channel.specs.declared.blocking.Came.{Came}
 use Rattle.kanal_channel.specs.declared.blocking.Came.TheVariants.{Replied, Settled, Lacking}
-use Rattle.kanal_channel.specs.declared.blocking.Looked.{Looked}
-use Rattle.kanal_channel.specs.declared.blocking.Looked.TheVariants.{Replied as LookReplied, MustWait as LookMustWait}
 
 module _ {T P : Type 0} where
   -- what a call came to that waits where it must
@@ -18,11 +16,6 @@ module _ {T P : Type 0} where
   HasCome w old new event (Replied reply) = HasReplied w old new event reply
   HasCome w old new event (Settled outcome) = HasWaited w old new event outcome
   HasCome w old new event (Lacking back) = (back ≡ event) × Lacks w old new event
-
-  -- what one look came to, before a wait is begun
-  abbrev pub HasLooked : Words T P → P → P → Event T → Looked T → Type 0
-  HasLooked w old new event (LookReplied reply) = HasReplied w old new event reply
-  HasLooked w old new event (LookMustWait back) = (back ≡ event) × w.looks old new × SeesWait w new event
 
 module _ {T H P B S C : Type 0} where
   -- what the start of a wait came to, once those are told whose waits the step settled

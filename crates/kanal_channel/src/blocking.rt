@@ -3,12 +3,12 @@
 //! Stands on the lock as a token, on what settles a wait and on how a blocked call waits. A call takes the
 //! lock, makes one step on the state, gives the lock back, and only then tells those whose waits it settled,
 //! and drops what it cleared.
-ghost use Rattle.std.specs.Prelude.{◌≡◌, true};
+ghost use Rattle.std.specs.Prelude.{◌≡◌, IfErr, IfOk, true};
 ghost use Rattle.kanal_events.specs.Made.{MustWait, is_plain, made_of, may_wait, owed_by, reply_of, settled_of};
-ghost use Rattle.kanal_history.specs.Makes.{IsAnswered, SeesWait};
+ghost use Rattle.kanal_history.specs.Makes.{HasReplied, IsAnswered, SeesWait};
 ghost use Rattle.kanal_history.specs.Words.{HaveSettled, HaveShown};
 ghost use Rattle.kanal_channel.specs.Locks.{IsQuiet, line_under};
-ghost use Rattle.kanal_channel.specs.Starts.{HasBegun, HasCome, HasLooked};
+ghost use Rattle.kanal_channel.specs.Starts.{HasBegun, HasCome};
 
 use crate::delivered::Delivered;
 use crate::seat::Seat;
@@ -31,15 +31,6 @@ pub(crate) enum Came<T> {
     Settled(Outcome<T>),
     /// It had to wait, and there was no memory for that. It comes back.
     Lacking(Event<T>),
-}
-
-/// What one look came to, before a wait is begun.
-#[derive(Drop)]
-pub(crate) enum Looked<T> {
-    /// The call was answered at once.
-    Replied(Reply<T>),
-    /// It must wait, and comes back.
-    MustWait(Event<T>),
 }
 
 /// What the start of a wait came to.
@@ -248,28 +239,11 @@ impl<T: Drop, H: History<T>> Shared<T, H> {
             return self.begin_held(locked, pass, event);
         }
         match self.look_once(locked, pass, event) {
-            Looked::Replied(reply) => Begun::Replied(reply),
-            Looked::MustWait(event) => {
+            Ok(reply) => Begun::Replied(reply),
+            Err((locked, event)) => {
+                locked.give_back_quiet();
                 pause_once();
                 self.begin_held(self.hold(rt), pass, event)
-            },
-        }
-    }
-
-    /// Makes a call under the lock that was got, unless it must wait, and gives the lock back.
-    fn look_once(&self, locked: Locked<'_, T, H>, pass: &mut H::Pass, event: Event<T>) -> Looked<T>
-        requires waits { may_wait event ≡ true }
-        requires quiet { IsQuiet locked }
-        ensures looked { HasLooked H.words pass.old pass.new event result }
-    {
-        let mut locked = locked;
-        match locked.state.start(&self.board, pass, event) {
-            Tried::Told(answered) => {
-                Looked::Replied(self.give_back_answered(locked, pass, answered))
-            },
-            Tried::MustWait(event) => {
-                locked.give_back_quiet();
-                Looked::MustWait(event)
             },
         }
     }
@@ -286,12 +260,33 @@ impl<T: Drop, H: History<T>> Shared<T, H> {
         requires quiet { IsQuiet locked }
         ensures begun { HasBegun H.words pass.old pass.new event result }
     {
+        match self.look_once(locked, pass, event) {
+            Ok(reply) => Begun::Replied(reply),
+            Err((locked, event)) => self.wait_held(locked, pass, event),
+        }
+    }
+
+    /// Makes a call under the lock that was got, unless it must wait, and gives the lock back. A call that must
+    /// comes back with the lock.
+    #[inline(always)]
+    fn look_once<'a>(
+        &self,
+        locked: Locked<'a, T, H>,
+        pass: &mut H::Pass,
+        event: Event<T>,
+    ) -> Result<Reply<T>, (Locked<'a, T, H>, Event<T>)>
+        requires waits { may_wait event ≡ true }
+        requires quiet { IsQuiet locked }
+        ensures replied { IfOk result (HasReplied H.words pass.old pass.new event) }
+        ensures must { IfErr result (λ back. MustWait (line_under back.0) event) }
+        ensures sees { IfErr result (λ _. SeesWait H.words pass.new event) }
+        ensures back { IfErr result (λ back. IsQuiet back.0 × (back.1 ≡ event)) }
+        ensures looks { IfErr result (λ _. H.words.looks pass.old pass.new) }
+    {
         let mut locked = locked;
         match locked.state.start(&self.board, pass, event) {
-            Tried::Told(answered) => {
-                Begun::Replied(self.give_back_answered(locked, pass, answered))
-            },
-            Tried::MustWait(event) => self.wait_held(locked, pass, event),
+            Tried::Told(answered) => Ok(self.give_back_answered(locked, pass, answered)),
+            Tried::MustWait(event) => Err((locked, event)),
         }
     }
 

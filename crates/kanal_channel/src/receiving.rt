@@ -2,7 +2,7 @@
 //!
 //! Stands on `blocking` and `timed`. Each call here is one event, and its answer is what the reply reads as. A
 //! message leaves by itself where it can; only where it can't the longer ways are gone.
-ghost use Rattle.std.specs.Prelude.{◌≡◌, ◌∷◌, [], Err, IfErr, IfOk, IsErrOf, OnErr};
+ghost use Rattle.std.specs.Prelude.{◌≡◌, ◌∷◌, [], Err, IfErr, IfOk, IsErrOf, Ok, OnErr};
 ghost use Rattle.std.specs.Option.{option_to_list};
 ghost use Rattle.std.specs.Duration.{as_nanos};
 ghost use Rattle.std.specs.Vec.{vec_capacity, vec_len};
@@ -69,32 +69,29 @@ impl<T: Drop, H: History<T>> Shared<T, H> {
         requires quiet { IsQuiet locked }
         ensures received { Receives H.words pass.old pass.new result }
     {
+        let locked = match self.fetch(locked, pass) {
+            Ok(message) => return Ok(message),
+            Err(back) => back,
+        };
         if !self.has_buffer {
-            return self.recv_or_wait(rt, locked, pass);
+            return self.recv_waiting(rt, locked, pass);
         }
-        let mut locked = locked;
-        match locked.state.fetch(&self.board, pass) {
-            Some((message, owed)) => {
-                self.give_back_owed(locked, pass, owed);
-                Ok(message)
-            },
-            None => {
-                locked.give_back_quiet();
-                pause_once();
-                self.recv_or_wait(rt, self.hold(rt), pass)
-            },
+        locked.give_back_quiet();
+        pause_once();
+        match self.fetch(self.hold(rt), pass) {
+            Ok(message) => Ok(message),
+            Err(locked) => self.recv_waiting(rt, locked, pass),
         }
     }
 
-    /// The same: it gets the front message, and a sender that waits is let in, or the call waits.
-    fn recv_or_wait<R: Wait>(
-        &self,
-        rt: &R,
-        locked: Locked<'_, T, H>,
-        pass: &mut H::Pass,
-    ) -> Result<T, ReceiveError>
+    /// Takes the front message, by which a sender that waits may be let in, and the lock is given back; where
+    /// there is no message the lock comes back.
+    #[inline(always)]
+    fn fetch<'a>(&self, locked: Locked<'a, T, H>, pass: &mut H::Pass) -> Result<T, Locked<'a, T, H>>
         requires quiet { IsQuiet locked }
-        ensures received { Receives H.words pass.old pass.new result }
+        ensures received { IfOk result (λ message. Receives H.words pass.old pass.new (Ok message)) }
+        ensures back { IfErr result IsQuiet }
+        ensures same { IfErr result (λ _. pass.new ≡ pass.old) }
     {
         let mut locked = locked;
         match locked.state.fetch(&self.board, pass) {
@@ -102,7 +99,7 @@ impl<T: Drop, H: History<T>> Shared<T, H> {
                 self.give_back_owed(locked, pass, owed);
                 Ok(message)
             },
-            None => self.recv_waiting(rt, locked, pass),
+            None => Err(locked),
         }
     }
 

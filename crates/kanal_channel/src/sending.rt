@@ -2,7 +2,7 @@
 //!
 //! Stands on `blocking` and `timed`. Each call here is one event, and its answer is what the reply reads as. A
 //! message enters by itself where it can; only where it can't the longer ways are gone.
-ghost use Rattle.std.specs.Prelude.{◌≡◌, ◌≢◌, ◌∷◌, [], cond, IfErr, IfOk, IfSome, IsSome, None, Ok, true};
+ghost use Rattle.std.specs.Prelude.{◌≡◌, ◌≢◌, ◌∷◌, [], cond, IfErr, IfOk, IfSome, IsSome, None, Ok, OnOk, true};
 ghost use Rattle.std.specs.Duration.{as_nanos};
 ghost use Rattle.kanal_history.specs.Handles.{Sends, SendsInTime, TriesToSend, TriesToSendNow};
 ghost use Rattle.kanal_history.specs.Makes.{Comes};
@@ -80,33 +80,34 @@ impl<T: Drop, H: History<T>> Shared<T, H> {
         requires quiet { IsQuiet locked }
         ensures sent { Sends H.words pass.old pass.new message result }
     {
+        let (locked, message) = match self.hand_over(locked, pass, message) {
+            Ok(()) => return Ok(()),
+            Err(back) => back,
+        };
         if !self.has_buffer {
-            return self.send_or_wait(rt, locked, pass, message);
+            return self.send_waiting(rt, locked, pass, message);
         }
-        let mut locked = locked;
-        match locked.state.hand(&self.board, pass, message) {
-            Ok(owed) => {
-                self.give_back_owed(locked, pass, owed);
-                Ok(())
-            },
-            Err(message) => {
-                locked.give_back_quiet();
-                pause_once();
-                self.send_or_wait(rt, self.hold(rt), pass, message)
-            },
+        locked.give_back_quiet();
+        pause_once();
+        match self.hand_over(self.hold(rt), pass, message) {
+            Ok(()) => Ok(()),
+            Err((locked, message)) => self.send_waiting(rt, locked, pass, message),
         }
     }
 
-    /// The same: the message enters, or is handed to a receiver that waits, or the call waits.
-    fn send_or_wait<R: Wait>(
+    /// The message enters, or is handed to a receiver that waits, and the lock is given back; where neither can
+    /// be so, both come back.
+    #[inline(always)]
+    fn hand_over<'a>(
         &self,
-        rt: &R,
-        locked: Locked<'_, T, H>,
+        locked: Locked<'a, T, H>,
         pass: &mut H::Pass,
         message: T,
-    ) -> Result<(), SendError>
+    ) -> Result<(), (Locked<'a, T, H>, T)>
         requires quiet { IsQuiet locked }
-        ensures sent { Sends H.words pass.old pass.new message result }
+        ensures sent { OnOk result (Sends H.words pass.old pass.new message (Ok tt)) }
+        ensures back { IfErr result (λ back. IsQuiet back.0 × (back.1 ≡ message)) }
+        ensures same { IfErr result (λ _. pass.new ≡ pass.old) }
     {
         let mut locked = locked;
         match locked.state.hand(&self.board, pass, message) {
@@ -114,7 +115,7 @@ impl<T: Drop, H: History<T>> Shared<T, H> {
                 self.give_back_owed(locked, pass, owed);
                 Ok(())
             },
-            Err(message) => self.send_waiting(rt, locked, pass, message),
+            Err(message) => Err((locked, message)),
         }
     }
 

@@ -17,118 +17,27 @@ ghost use Rattle.kanal_history.specs.Entries.{entry, fetched_receipt, handed_ent
 ghost use Rattle.kanal_history.specs.Makes.{HasTooLittleRoom, IsKept, IsNoted, IsTried};
 ghost use Rattle.kanal_channel.specs.Renewing.{Renews};
 
+mod keeping;
 mod leaving;
 
 use crate::delivered::Delivered;
 use crate::seat::{Core, Seat};
 use futures::task::Waker;
-use kanal_board::EntryOf;
 use kanal_cell::signal;
 use kanal_cell::signal::WaitEnd;
 use kanal_core::internal::{Ticket, Waiter};
 use kanal_events::event::{Event, Refusal, Reply};
 use kanal_events::made::{Answered, Kept, Made, Owed, Tried};
 use kanal_events::steps;
-use kanal_history::{Call, History};
+use kanal_history::History;
+use keeping::{
+    Asked, OfAnswer, OfCall, OfEntry, OfFetch, OfHandOver, OfReceipt, OfReply, OfTriedEntry,
+    OfTriedReceipt, OfWithdrawal, note, note_made,
+};
 pub(crate) use leaving::Gone;
 use std::alloc::Global;
 use std::marker::Model;
 use std::snapshot::Snapshot;
-
-/// An event, as it was before it was made.
-type Asked<T> = Snapshot<Event<T>>;
-
-/// The entry of a call: what was asked, and what the step told.
-struct OfCall;
-
-impl<T, W> EntryOf<Asked<T>, Made<T, W>, Call<T>> for OfCall {
-    ghost use Rattle.kanal_history.specs.Entries.{call_from};
-
-    ghost entry = { λ event made. call_from event.value made };
-}
-
-/// The same, of a call that was answered at once.
-struct OfAnswer;
-
-impl<T, W> EntryOf<Asked<T>, Answered<T, W>, Call<T>> for OfAnswer {
-    ghost use Rattle.kanal_events.specs.Made.{made_of};
-    ghost use Rattle.kanal_history.specs.Entries.{call_from};
-
-    ghost entry = { λ event answered. call_from event.value (made_of answered) };
-}
-
-/// The same, of a call that was replied so, and settled nobody.
-struct OfReply;
-
-impl<T> EntryOf<Asked<T>, Reply<T>, Call<T>> for OfReply {
-    ghost use Rattle.kanal_history.specs.Entries.{replied};
-
-    ghost entry = { λ event reply. replied event.value reply };
-}
-
-/// The entry of a send that entered or was handed over, by its message and who is owed it.
-struct OfHandOver;
-
-impl<T, W> EntryOf<Snapshot<T>, Option<Owed<T, W>>, Call<T>> for OfHandOver {
-    ghost use Rattle.kanal_history.specs.Entries.{handed_entry};
-
-    ghost entry = { λ message owed. handed_entry message.value owed };
-}
-
-/// The entry of a receive that got a message, by the message and who is owed that.
-struct OfFetch;
-
-impl<T, W> EntryOf<T, Option<Owed<T, W>>, Call<T>> for OfFetch {
-    ghost use Rattle.kanal_history.specs.Entries.{fetched_receipt};
-
-    ghost entry = { λ message owed. fetched_receipt message owed };
-}
-
-/// The entry of a send that entered and settled nobody, by its message.
-struct OfEntry;
-
-impl<T> EntryOf<Snapshot<T>, (), Call<T>> for OfEntry {
-    ghost use Rattle.kanal_history.specs.Entries.{entry};
-
-    ghost entry = { λ message _. entry message.value };
-}
-
-/// The entry of a receive that got a message and settled nobody, by the message.
-struct OfReceipt;
-
-impl<T> EntryOf<T, (), Call<T>> for OfReceipt {
-    ghost use Rattle.kanal_history.specs.Entries.{receipt};
-
-    ghost entry = { λ message _. receipt message };
-}
-
-/// The entry of a send that doesn't wait, and that entered and settled nobody, by its message.
-struct OfTriedEntry;
-
-impl<T> EntryOf<Snapshot<T>, (), Call<T>> for OfTriedEntry {
-    ghost use Rattle.kanal_history.specs.Entries.{tried_entry};
-
-    ghost entry = { λ message _. tried_entry message.value };
-}
-
-/// The entry of a receive that doesn't wait, and that got a message and settled nobody, by the message.
-struct OfTriedReceipt;
-
-impl<T> EntryOf<T, (), Call<T>> for OfTriedReceipt {
-    ghost use Rattle.kanal_history.specs.Entries.{tried_receipt};
-
-    ghost entry = { λ message _. tried_receipt message };
-}
-
-/// The entry of a withdrawal: the ticket that was asked for, and the wait that left.
-struct OfWithdrawal;
-
-impl<T, W> EntryOf<Ticket, Waiter<T, W>, Call<T>> for OfWithdrawal {
-    ghost use Rattle.kanal_core.specs.Tickets.{number_of};
-    ghost use Rattle.kanal_history.specs.Entries.{withdrawal};
-
-    ghost entry = { λ ticket waiter. withdrawal (number_of ticket) waiter.message };
-}
 
 /// The core, the history of the calls on its line, and what makes the calls that are nobody's: of a handle
 /// that is gone, or of a wait that was left. Contracts see what makes those, and the line.
@@ -192,56 +101,6 @@ fn renew<T: Drop, H: History<T>>(
     };
     seat.renew(spare);
     true
-}
-
-/// Has the call that was made kept, and shows it to the pass; or shows what is kept, where there was no
-/// memory for the call.
-#[inline]
-fn note<T: Drop, Y, M: EntryOf<Asked<T>, Y, Call<T>>, H: History<T>>(
-    history: &mut H,
-    board: &H::Board,
-    pass: &mut H::Pass,
-    asked: &Asked<T>,
-    told: &Y,
-    lacks_memory: bool,
-)
-    requires asked { (M.entry asked.now told.now).event ≡ asked.now.value }
-    requires lacks { lacks_memory ≡ is_no_memory (M.entry asked.now told.now).reply }
-    requires told { (old new : Line _) × H.stands history.old old
-        × Tells old asked.now.value (told_by new (M.entry asked.now told.now)) }
-    ensures stands { (old new : Line _) → H.stands history.old old
-        → Tells old asked.now.value (told_by new (M.entry asked.now told.now))
-        → H.stands history.new new }
-    ensures kept { IsKept H.words pass.old pass.new asked.now.value (M.entry asked.now told.now) }
-    ensures ends { lacks_memory ≡ true → (l : Line _) → H.stands history.old l
-        → H.words.ends pass.new l }
-{
-    if lacks_memory {
-        history.show(board, pass);
-    } else {
-        history.append::<Asked<T>, Y, M>(board, pass, asked, told);
-    }
-}
-
-/// The same, of what any step told.
-#[inline]
-fn note_made<T: Drop, W: Drop, H: History<T>>(
-    history: &mut H,
-    board: &H::Board,
-    pass: &mut H::Pass,
-    asked: &Asked<T>,
-    made: &Made<T, W>,
-)
-    requires told { (old new : Line _) × H.stands history.old old
-        × Tells old asked.now.value (told_of new made.now) }
-    ensures stands { (old new : Line _) → H.stands history.old old
-        → Tells old asked.now.value (told_of new made.now) → H.stands history.new new }
-    ensures noted { IsNoted H.words pass.old pass.new asked.now.value made.now }
-    ensures ends { is_no_memory (reply_of made.now) ≡ true
-        → (l : Line _) → H.stands history.old l → H.words.ends pass.new l }
-{
-    let lacks = made.lacks_memory();
-    note::<T, Made<T, W>, OfCall, H>(history, board, pass, asked, made, lacks);
 }
 
 impl<T: Drop, H: History<T>> State<T, H> {

@@ -11,7 +11,8 @@ ghost use Rattle.kanal_history.specs.Calls.{IsDrop};
 ghost use Rattle.kanal_history.specs.Entries.{call_from};
 ghost use Rattle.kanal_history.specs.Words.{HaveShown};
 
-use super::{Asked, OfCall, OfWithdrawal, State};
+use super::State;
+use super::keeping::{Asked, OfCall, OfWithdrawal};
 use crate::counted::{
     CountedReceiver, CountedSender, CountedWait, GoneReceivers, GoneSenders, GoneWaits,
 };

@@ -1,7 +1,7 @@
 use Rattle.kanal_channel.proofs.Settling.{begun_from}
 use Rattle.kanal_channel.proofs.shared.Shared.begin.Goals as goal
 
-pub returns-in-MustWait : goal.returns-in-MustWait
-returns-in-MustWait g c =
-    let looked = c.in-MustWait.ensures.looked in
-    record { begun = begun_from g.H.History.words g.met.H.History.sound c.args.pass.now c.look_once.new.pass c.begin_held-in-MustWait.new.pass c.args.event c.in-MustWait.event c.begin_held-in-MustWait.result looked.0 looked.1 c.begin_held-in-MustWait.ensures.begun }
+pub returns-in-Err : goal.returns-in-Err
+returns-in-Err g c =
+    let looked = c.in-Err.ensures in
+    record { begun = begun_from g.H.History.words g.met.H.History.sound c.args.pass.now c.look_once.new.pass c.begin_held-in-Err.new.pass c.args.event c.in-Err.event c.begin_held-in-Err.result looked.back.1 looked.looks c.begin_held-in-Err.ensures.begun }

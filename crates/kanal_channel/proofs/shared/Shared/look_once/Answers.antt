@@ -6,8 +6,8 @@ pub give_back_answered-requires-clause-seen : goal.give_back_answered-requires-c
 give_back_answered-requires-clause-seen g c =
     noted_settled g.H.History.words g.met.H.History.sound c.args.pass.now c.start.new.pass c.args.event (made_of c.in-Told.answered) c.in-Told.ensures.tried.0
 
-pub returns-in-Told : goal.returns-in-Told
-returns-in-Told g c =
+pub returns-in-Told-clause-replied : goal.returns-in-Told-clause-replied
+returns-in-Told-clause-replied g c =
     let tried = c.in-Told.ensures.tried in
     let told = c.give_back_answered.ensures in
-    record { looked = noted_replied g.H.History.words c.args.pass.now c.start.new.pass c.give_back_answered.new.pass c.args.event (made_of c.in-Told.answered) c.give_back_answered.result tried.0 tried.1 told.same told.reply }
+    noted_replied g.H.History.words c.args.pass.now c.start.new.pass c.give_back_answered.new.pass c.args.event (made_of c.in-Told.answered) c.give_back_answered.result tried.0 tried.1 told.same told.reply

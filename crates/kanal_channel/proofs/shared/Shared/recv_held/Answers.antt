@@ -1,19 +1,17 @@
-use Rattle.kanal_channel.proofs.Settling.{fetched_at_once, made_settled, received_from}
-use Rattle.kanal_history.specs.Entries.{fetched_receipt}
+use Rattle.std.proofs.Common.{Ok}
+use Rattle.kanal_channel.proofs.Settling.{received_from}
 use Rattle.kanal_channel.proofs.shared.Shared.recv_held.Goals as goal
 
-pub give_back_owed-requires-clause-seen : goal.give_back_owed-requires-clause-seen
-give_back_owed-requires-clause-seen g c =
-    made_settled g.H.History.words g.met.H.History.sound c.args.pass.now c.fetch.new.pass (fetched_receipt c.in-Some.message c.in-Some.owed) c.in-Some.ensures.made
+pub returns-then-not-self : goal.returns-then-not-self
+returns-then-not-self g c =
+    record { received = received_from g.H.History.words c.args.pass.now c.fetch.new.pass c.recv_waiting.new.pass c.recv_waiting.result c.in-Err.ensures.same c.recv_waiting.ensures.received }
 
-pub returns-in-Some : goal.returns-in-Some
-returns-in-Some g c =
-    record {
-      received = fetched_at_once g.H.History.words c.args.pass.now c.fetch.new.pass c.give_back_owed.new.pass c.in-Some.message c.in-Some.owed c.in-Some.ensures.made c.in-Some.ensures.told c.give_back_owed.ensures.same;
-    }
+pub returns-in-Ok-fetch : goal.returns-in-Ok-fetch
+returns-in-Ok-fetch g c =
+    record { received = received_from g.H.History.words c.args.pass.now c.fetch.new.pass c.fetch-2.new.pass (Ok c.in-Ok-fetch.message) c.in-Err.ensures.same c.in-Ok-fetch.ensures.received }
 
-pub returns-in-None : goal.returns-in-None
-returns-in-None g c =
-    record {
-      received = received_from g.H.History.words c.args.pass.now c.fetch.new.pass c.recv_or_wait-in-None.new.pass c.recv_or_wait-in-None.result c.in-None.ensures.refused c.recv_or_wait-in-None.ensures.received;
-    }
+pub returns-in-Err-fetch : goal.returns-in-Err-fetch
+returns-in-Err-fetch g c =
+    let waited = c.recv_waiting-in-Err-fetch in
+    let second = received_from g.H.History.words c.fetch.new.pass c.fetch-2.new.pass waited.new.pass waited.result c.in-Err-fetch.ensures.same waited.ensures.received in
+    record { received = received_from g.H.History.words c.args.pass.now c.fetch.new.pass waited.new.pass waited.result c.in-Err.ensures.same second }

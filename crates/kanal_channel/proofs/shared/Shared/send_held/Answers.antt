@@ -1,20 +1,21 @@
-use Rattle.kanal_channel.proofs.Settling.{handed_at_once, made_settled, sent_from}
-use Rattle.kanal_history.specs.Entries.{handed_entry}
+use Rattle.std.proofs.Common.{Ok}
+use Rattle.kanal_channel.proofs.Settling.{sent_from}
 use Rattle.kanal_channel.proofs.shared.Shared.send_held.Goals as goal
 
-pub give_back_owed-requires-clause-seen : goal.give_back_owed-requires-clause-seen
-give_back_owed-requires-clause-seen g c =
-    made_settled g.H.History.words g.met.H.History.sound c.args.pass.now c.hand.new.pass (handed_entry c.args.message c.in-Ok.owed) c.in-Ok.ensures.made
+pub returns-then-not-self : goal.returns-then-not-self
+returns-then-not-self g c =
+    let back = c.in-Err in
+    record { sent = sent_from g.H.History.words c.args.pass.now c.hand_over.new.pass c.send_waiting.new.pass c.args.message back.back.1 c.send_waiting.result back.ensures.back.1 back.ensures.same c.send_waiting.ensures.sent }
 
-pub returns-in-Ok : goal.returns-in-Ok
-returns-in-Ok g c =
-    record {
-      sent = handed_at_once g.H.History.words c.args.pass.now c.hand.new.pass c.give_back_owed.new.pass c.args.message c.in-Ok.owed c.in-Ok.ensures.made c.in-Ok.ensures.told c.give_back_owed.ensures.same;
-    }
+pub returns-in-Ok-hand_over : goal.returns-in-Ok-hand_over
+returns-in-Ok-hand_over g c =
+    let back = c.in-Err in
+    record { sent = sent_from g.H.History.words c.args.pass.now c.hand_over.new.pass c.hand_over-2.new.pass c.args.message back.back.1 (Ok tt) back.ensures.back.1 back.ensures.same c.in-Ok-hand_over.ensures.sent }
 
-pub returns-in-Err : goal.returns-in-Err
-returns-in-Err g c =
-    let refused = c.in-Err.ensures.refused in
-    record {
-      sent = sent_from g.H.History.words c.args.pass.now c.hand.new.pass c.send_or_wait-in-Err.new.pass c.args.message c.in-Err.message c.send_or_wait-in-Err.result refused.0 refused.1 c.send_or_wait-in-Err.ensures.sent;
-    }
+pub returns-in-Err-hand_over : goal.returns-in-Err-hand_over
+returns-in-Err-hand_over g c =
+    let back = c.in-Err in
+    let again = c.in-Err-hand_over in
+    let waited = c.send_waiting-in-Err-hand_over in
+    let second = sent_from g.H.History.words c.hand_over.new.pass c.hand_over-2.new.pass waited.new.pass back.back.1 again.message waited.result again.ensures.back.1 again.ensures.same waited.ensures.sent in
+    record { sent = sent_from g.H.History.words c.args.pass.now c.hand_over.new.pass waited.new.pass c.args.message back.back.1 waited.result back.ensures.back.1 back.ensures.same second }

@@ -1,0 +1,11 @@
+use Rattle.kanal_channel.proofs.Settling.{fetched_at_once, made_settled}
+use Rattle.kanal_history.specs.Entries.{fetched_receipt}
+use Rattle.kanal_channel.proofs.shared.Shared.fetch.Goals as goal
+
+pub give_back_owed-requires-clause-seen : goal.give_back_owed-requires-clause-seen
+give_back_owed-requires-clause-seen g c =
+    made_settled g.H.History.words g.met.H.History.sound c.args.pass.now c.fetch.new.pass (fetched_receipt c.in-Some.message c.in-Some.owed) c.in-Some.ensures.made
+
+pub returns-in-Some-clause-received : goal.returns-in-Some-clause-received
+returns-in-Some-clause-received g c =
+    fetched_at_once g.H.History.words c.args.pass.now c.fetch.new.pass c.give_back_owed.new.pass c.in-Some.message c.in-Some.owed c.in-Some.ensures.made c.in-Some.ensures.told c.give_back_owed.ensures.same

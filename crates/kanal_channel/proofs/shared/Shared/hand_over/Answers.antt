@@ -1,0 +1,11 @@
+use Rattle.kanal_channel.proofs.Settling.{handed_at_once, made_settled}
+use Rattle.kanal_history.specs.Entries.{handed_entry}
+use Rattle.kanal_channel.proofs.shared.Shared.hand_over.Goals as goal
+
+pub give_back_owed-requires-clause-seen : goal.give_back_owed-requires-clause-seen
+give_back_owed-requires-clause-seen g c =
+    made_settled g.H.History.words g.met.H.History.sound c.args.pass.now c.hand.new.pass (handed_entry c.args.message c.in-Ok.owed) c.in-Ok.ensures.made
+
+pub returns-in-Ok-clause-sent : goal.returns-in-Ok-clause-sent
+returns-in-Ok-clause-sent g c =
+    handed_at_once g.H.History.words c.args.pass.now c.hand.new.pass c.give_back_owed.new.pass c.args.message c.in-Ok.owed c.in-Ok.ensures.made c.in-Ok.ensures.told c.give_back_owed.ensures.same

@@ -3,9 +3,9 @@
 //! Stands on pauses and on the kit's yield. A pause spins: it keeps the processor, and ends by itself. A
 //! yield hands the processor to any thread that is ready. A thread of the same channel gives it back
 //! within a microsecond; a thread that computes keeps it for milliseconds. No call can know beforehand
-//! which of the two it will be. So where the buffer is short, a call yields only while the channel has
-//! credit for that, and the channel gets credit from waits that ended while they paused. On a busy
-//! machine few waits end so, and a call that is not told soon sleeps until it is told.
+//! which of the two it will be. So a call yields only while the channel has credit for that, and the
+//! channel gets credit from waits that ended before they slept. On a busy machine few waits end so, and
+//! a call that is not told soon sleeps until it is told.
 use crate::pauses::pause;
 use std::sync::atomic::AtomicU64;
 use std::sync::atomic::Ordering::SeqCst;
@@ -20,14 +20,18 @@ const LONGEST: u32 = 6;
 /// How often a call pauses before it yields or sleeps, where the buffer is short.
 const PAUSES: u32 = 23;
 
-/// How often a call pauses before it yields, where the buffer is long.
-const FEW_PAUSES: u32 = 7;
+/// The same, where the buffer is long: whoever has the processor meanwhile fills it or empties it.
+const FEW_PAUSES: u32 = 14;
 
 /// How often a call yields at most.
 const YIELDS: u32 = 4;
 
-/// How much credit a call needs to yield. A wait that ended while it paused gives 1.
+/// How much credit a call needs to yield, where the buffer is short. A wait that ended before it slept
+/// gives 1.
 const COST: u64 = 8;
+
+/// The same, where the buffer is long.
+const LOW_COST: u64 = 2;
 
 /// How much credit a channel has at most.
 const MOST: u64 = 64;
@@ -43,20 +47,27 @@ const MOST: u64 = 64;
 /// ```
 #[derive(Drop)]
 pub struct WaitPolicy {
-    is_long: bool,
+    pauses: u32,
+    cost: u64,
     credit: AtomicU64,
 }
 
 impl WaitPolicy {
     /// Of a channel whose buffer has so many places. It has no credit yet.
     pub fn new(places: usize) -> Self {
+        let (pauses, cost) = if places < LONG {
+            (PAUSES, COST)
+        } else {
+            (FEW_PAUSES, LOW_COST)
+        };
         WaitPolicy {
-            is_long: places >= LONG,
+            pauses,
+            cost,
             credit: AtomicU64::new(0),
         }
     }
 
-    /// Adds the credit of a wait that ended while it paused.
+    /// Adds the credit of a wait that ended before it slept.
     fn add_credit(&self) {
         let credit = self.credit.load(SeqCst);
         if credit < MOST {
@@ -67,10 +78,10 @@ impl WaitPolicy {
     /// Takes the credit that a call needs to yield, and answers whether there was so much.
     fn take_credit(&self) -> bool {
         let credit = self.credit.load(SeqCst);
-        if credit < COST {
+        if credit < self.cost {
             return false;
         }
-        self.credit.store(credit - COST, SeqCst);
+        self.credit.store(credit - self.cost, SeqCst);
         true
     }
 }
@@ -98,49 +109,26 @@ impl<'a> Looks<'a> {
 
     /// The call found its outcome.
     pub(super) fn end(self) {
-        if self.count <= PAUSES {
-            self.policy.add_credit();
-        }
+        self.policy.add_credit();
     }
 
-    /// Passes the time until the next look, and answers whether there is one. Where there is none the
-    /// call sleeps.
+    /// Passes the time until the next look, and answers whether there is one: it pauses, yields where there
+    /// is credit, and then there is none, and the call sleeps.
     pub(super) fn go_on(&mut self) -> bool {
         let count = self.count;
         self.count = count.saturating_add(1);
-        if self.policy.is_long {
-            pause_and_yield(count)
-        } else {
-            self.pause_mostly(count)
-        }
-    }
-
-    /// The same, where the buffer is short: it pauses, yields where there is credit, and then sleeps.
-    fn pause_mostly(&self, count: u32) -> bool {
-        if count < PAUSES {
+        let pauses = self.policy.pauses;
+        if count < pauses {
             pause(count.min(LONGEST));
             return true;
         }
-        if count == PAUSES && !self.policy.take_credit() {
+        if count == pauses && !self.policy.take_credit() {
             return false;
         }
-        if count < PAUSES + YIELDS {
+        if count - pauses < YIELDS {
             thread::yield_now();
             return true;
         }
         false
     }
-}
-
-/// The same, where the buffer is long: it pauses for a short time, yields, and pauses again before it
-/// sleeps. Whoever has the processor meanwhile fills the buffer or empties it.
-fn pause_and_yield(count: u32) -> bool {
-    if count < FEW_PAUSES {
-        pause(count);
-    } else if count < FEW_PAUSES + YIELDS {
-        thread::yield_now();
-    } else {
-        pause(LONGEST);
-    }
-    count < PAUSES + YIELDS
 }

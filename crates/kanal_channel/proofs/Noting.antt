@@ -11,7 +11,7 @@ use Rattle.kanal_events.specs.declared.event.Reply.TheVariants.{Sent, Yes, Got, 
 use Rattle.kanal_events.specs.declared.event.Refusal.TheVariants.{Closed, ReceiveClosed, Sealed, SendClosed, TooMany}
 use Rattle.kanal_events.specs.declared.made.Made.{Made}
 use Rattle.kanal_events.specs.Steps.{Told, step, Tells, is_no_memory, moving, nothing_there, only, take_front, wait}
-use Rattle.kanal_events.specs.Made.{entered, got, reply_of, told_of}
+use Rattle.kanal_events.specs.Made.{entered, got, told_of}
 use Rattle.kanal_history.specs.Calls.{IsDrop, IsSilent, IsToldOn, call_of, line_by}
 use Rattle.kanal_history.specs.declared.call.Call.{Call}
 use Rattle.kanal_history.specs.Entries.{call_from, told_by, tried_entry, tried_receipt}

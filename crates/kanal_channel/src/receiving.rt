@@ -2,7 +2,7 @@
 //!
 //! Stands on `blocking` and `timed`. Each call here is one event, and its answer is what the reply reads as. A
 //! message leaves by itself where it can; only where it can't the longer ways are gone.
-ghost use Rattle.std.specs.Prelude.{◌≡◌, ◌∷◌, [], Err, IfErr, IfOk, IsErrOf, Ok, OnErr};
+ghost use Rattle.std.specs.Prelude.{◌≡◌, ◌∷◌, [], Err, IfErr, IfOk, IsErrOf, OnErr};
 ghost use Rattle.std.specs.Option.{option_to_list};
 ghost use Rattle.std.specs.Duration.{as_nanos};
 ghost use Rattle.std.specs.Vec.{vec_capacity, vec_len};
@@ -56,10 +56,8 @@ impl<T: Drop, H: History<T>> Shared<T, H> {
         }
     }
 
-    /// The same, under the lock that was got, where no message left the buffer by itself. A channel with a
-    /// buffer looks once more after a pause before it waits, since the other side is often about to bring a
-    /// message.
-    #[cold]
+    /// The same, under the lock that was got, where no message left the buffer by itself.
+    #[inline(always)]
     fn recv_held<R: Wait>(
         &self,
         rt: &R,
@@ -69,29 +67,51 @@ impl<T: Drop, H: History<T>> Shared<T, H> {
         requires quiet { IsQuiet locked }
         ensures received { Receives H.words pass.old pass.new result }
     {
-        let locked = match self.fetch(locked, pass) {
-            Ok(message) => return Ok(message),
-            Err(back) => back,
-        };
-        if !self.has_buffer {
-            return self.recv_waiting(rt, locked, pass);
-        }
-        locked.give_back_quiet();
-        pause_once();
-        match self.fetch(self.hold(rt), pass) {
-            Ok(message) => Ok(message),
-            Err(locked) => self.recv_waiting(rt, locked, pass),
+        if self.has_buffer {
+            self.recv_again(rt, locked, pass)
+        } else {
+            self.fetch(rt, locked, pass)
         }
     }
 
-    /// Takes the front message, by which a sender that waits may be let in, and the lock is given back; where
-    /// there is no message the lock comes back.
-    #[inline(always)]
-    fn fetch<'a>(&self, locked: Locked<'a, T, H>, pass: &mut H::Pass) -> Result<T, Locked<'a, T, H>>
+    /// The same, where there is a buffer. While that is empty it looks once more after a pause before it waits,
+    /// since the other side is often about to bring a message.
+    #[cold]
+    fn recv_again<R: Wait>(
+        &self,
+        rt: &R,
+        locked: Locked<'_, T, H>,
+        pass: &mut H::Pass,
+    ) -> Result<T, ReceiveError>
         requires quiet { IsQuiet locked }
-        ensures received { IfOk result (λ message. Receives H.words pass.old pass.new (Ok message)) }
-        ensures back { IfErr result IsQuiet }
-        ensures same { IfErr result (λ _. pass.new ≡ pass.old) }
+        ensures received { Receives H.words pass.old pass.new result }
+    {
+        if !locked.state.is_empty() {
+            return self.fetch(rt, locked, pass);
+        }
+        locked.give_back_quiet();
+        pause_once();
+        let mut locked = self.hold(rt);
+        match locked.state.pop(&self.board, pass) {
+            Some(message) => {
+                locked.give_back_quiet();
+                Ok(message)
+            },
+            None => self.fetch(rt, locked, pass),
+        }
+    }
+
+    /// The same, where the front message comes, by which a sender that waits may be let in; where there is no
+    /// message the call is refused, or waits.
+    #[cold]
+    fn fetch<R: Wait>(
+        &self,
+        rt: &R,
+        locked: Locked<'_, T, H>,
+        pass: &mut H::Pass,
+    ) -> Result<T, ReceiveError>
+        requires quiet { IsQuiet locked }
+        ensures received { Receives H.words pass.old pass.new result }
     {
         let mut locked = locked;
         match locked.state.fetch(&self.board, pass) {
@@ -99,7 +119,7 @@ impl<T: Drop, H: History<T>> Shared<T, H> {
                 self.give_back_owed(locked, pass, owed);
                 Ok(message)
             },
-            None => Err(locked),
+            None => self.recv_waiting(rt, locked, pass),
         }
     }
 

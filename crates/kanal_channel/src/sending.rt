@@ -2,7 +2,7 @@
 //!
 //! Stands on `blocking` and `timed`. Each call here is one event, and its answer is what the reply reads as. A
 //! message enters by itself where it can; only where it can't the longer ways are gone.
-ghost use Rattle.std.specs.Prelude.{◌≡◌, ◌≢◌, ◌∷◌, [], cond, IfErr, IfOk, IfSome, IsSome, None, Ok, OnOk, true};
+ghost use Rattle.std.specs.Prelude.{◌≡◌, ◌≢◌, ◌∷◌, [], cond, IfErr, IfOk, IfSome, IsSome, None, Ok, true};
 ghost use Rattle.std.specs.Duration.{as_nanos};
 ghost use Rattle.kanal_history.specs.Handles.{Sends, SendsInTime, TriesToSend, TriesToSendNow};
 ghost use Rattle.kanal_history.specs.Makes.{Comes};
@@ -66,10 +66,8 @@ impl<T: Drop, H: History<T>> Shared<T, H> {
         }
     }
 
-    /// The same, under the lock that was got, where the message did not enter by itself. A channel with a
-    /// buffer looks once more after a pause before it waits, since the other side is often about to make a
-    /// place.
-    #[cold]
+    /// The same, under the lock that was got, where the message did not enter by itself.
+    #[inline(always)]
     fn send_held<R: Wait>(
         &self,
         rt: &R,
@@ -80,34 +78,53 @@ impl<T: Drop, H: History<T>> Shared<T, H> {
         requires quiet { IsQuiet locked }
         ensures sent { Sends H.words pass.old pass.new message result }
     {
-        let (locked, message) = match self.hand_over(locked, pass, message) {
-            Ok(()) => return Ok(()),
-            Err(back) => back,
-        };
-        if !self.has_buffer {
-            return self.send_waiting(rt, locked, pass, message);
-        }
-        locked.give_back_quiet();
-        pause_once();
-        match self.hand_over(self.hold(rt), pass, message) {
-            Ok(()) => Ok(()),
-            Err((locked, message)) => self.send_waiting(rt, locked, pass, message),
+        if self.has_buffer {
+            self.send_again(rt, locked, pass, message)
+        } else {
+            self.hand_over(rt, locked, pass, message)
         }
     }
 
-    /// The message enters, or is handed to a receiver that waits, and the lock is given back; where neither can
-    /// be so, both come back.
-    #[inline(always)]
-    fn hand_over<'a>(
+    /// The same, where there is a buffer. While that is full it looks once more after a pause before it waits,
+    /// since the other side is often about to make a place.
+    #[cold]
+    fn send_again<R: Wait>(
         &self,
-        locked: Locked<'a, T, H>,
+        rt: &R,
+        locked: Locked<'_, T, H>,
         pass: &mut H::Pass,
         message: T,
-    ) -> Result<(), (Locked<'a, T, H>, T)>
+    ) -> Result<(), SendError>
         requires quiet { IsQuiet locked }
-        ensures sent { OnOk result (Sends H.words pass.old pass.new message (Ok tt)) }
-        ensures back { IfErr result (λ back. IsQuiet back.0 × (back.1 ≡ message)) }
-        ensures same { IfErr result (λ _. pass.new ≡ pass.old) }
+        ensures sent { Sends H.words pass.old pass.new message result }
+    {
+        if !locked.state.is_full() {
+            return self.hand_over(rt, locked, pass, message);
+        }
+        locked.give_back_quiet();
+        pause_once();
+        let mut locked = self.hold(rt);
+        match locked.state.push(&self.board, pass, message) {
+            Ok(()) => {
+                locked.give_back_quiet();
+                Ok(())
+            },
+            Err(message) => self.hand_over(rt, locked, pass, message),
+        }
+    }
+
+    /// The same, where the message enters, or is handed to a receiver that waits; where neither can be so, the
+    /// call is refused, or waits.
+    #[cold]
+    fn hand_over<R: Wait>(
+        &self,
+        rt: &R,
+        locked: Locked<'_, T, H>,
+        pass: &mut H::Pass,
+        message: T,
+    ) -> Result<(), SendError>
+        requires quiet { IsQuiet locked }
+        ensures sent { Sends H.words pass.old pass.new message result }
     {
         let mut locked = locked;
         match locked.state.hand(&self.board, pass, message) {
@@ -115,7 +132,7 @@ impl<T: Drop, H: History<T>> Shared<T, H> {
                 self.give_back_owed(locked, pass, owed);
                 Ok(())
             },
-            Err(message) => Err((locked, message)),
+            Err(message) => self.send_waiting(rt, locked, pass, message),
         }
     }
 

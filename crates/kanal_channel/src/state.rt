@@ -280,6 +280,18 @@ impl<T: Drop, H: History<T>> State<T, H> {
         self.core.has_ticket()
     }
 
+    /// Whether the buffer has no place: always at capacity 0, and never without a limit.
+    #[inline]
+    pub(crate) fn is_full(&self) -> bool {
+        self.core.is_full()
+    }
+
+    /// Whether no message is in the buffer, whoever waits.
+    #[inline]
+    pub(crate) fn is_empty(&self) -> bool {
+        self.core.is_empty()
+    }
+
     /// Refuses a call that must wait, since the tickets are used up. That is a call, too.
     pub fn refuse(&mut self, board: &H::Board, pass: &mut H::Pass, event: Event<T>) -> Reply<T>
         requires waits { may_wait event ≡ true }

@@ -1,0 +1,10 @@
+use Rattle.kanal_channel.proofs.Settling.{received_at_once, received_from}
+use Rattle.kanal_channel.proofs.shared.Shared.recv_again.Goals as goal
+
+pub returns-in-Some : goal.returns-in-Some
+returns-in-Some g c =
+    record { received = received_at_once g.H.History.words c.args.pass.now c.pop.new.pass c.in-Some.message c.in-Some.ensures.made c.in-Some.ensures.told }
+
+pub returns-in-None : goal.returns-in-None
+returns-in-None g c =
+    record { received = received_from g.H.History.words c.args.pass.now c.pop.new.pass c.fetch-in-None.new.pass c.fetch-in-None.result c.in-None.ensures.refused c.fetch-in-None.ensures.received }

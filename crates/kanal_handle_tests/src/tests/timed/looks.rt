@@ -31,17 +31,27 @@ fn a_wait_at_its_deadline_reads_no_clock_again(rt: HostRuntime) {
     equal(&rt, clock.reads.get(), 3);
 }
 
-/// How often a clock is read that stands right before a deadline.
-const READS: u64 = 1_000;
-
-/// A clock that stands at 0 for so many reads, and keeps the shortest time between two of them, in the
-/// system's nanoseconds.
+/// A clock that stands at 0 for so many reads, and keeps the shortest time between two of the later half of
+/// them, in the system's nanoseconds. Then it is past every deadline.
 #[derive(Drop)]
 struct Gaps<'a, R> {
     rt: &'a R,
+    still: u64,
     reads: Cell<u64>,
     last: Cell<Option<Instant>>,
     shortest: Cell<u128>,
+}
+
+impl<'a, R> Gaps<'a, R> {
+    fn new(rt: &'a R, still: u64) -> Self {
+        Gaps {
+            rt,
+            still,
+            reads: Cell::new(0),
+            last: Cell::new(None),
+            shortest: Cell::new(u128::MAX),
+        }
+    }
 }
 
 impl<R: time::Clock> Clock for Gaps<'_, R> {
@@ -51,14 +61,18 @@ impl<R: time::Clock> Clock for Gaps<'_, R> {
             let gap = now.duration_since(last).as_nanos();
             self.shortest.set(self.shortest.get().min(gap));
         }
-        // The pauses and yields before a wait sleeps are no sleeps.
-        self.last.set(if self.reads.get() > READS / 2 {
+        // The pauses and yields before a wait sleeps are no sleeps: 64 reads at most.
+        self.last.set(if self.reads.get() > self.still / 2 {
             now
         } else {
             None
         });
         self.reads.set(self.reads.get().wrapping_add(1));
-        if self.reads.get() < READS { 0 } else { 1 }
+        if self.reads.get() < self.still {
+            0
+        } else {
+            u64::MAX
+        }
     }
 }
 
@@ -66,13 +80,18 @@ impl<R: time::Clock> Clock for Gaps<'_, R> {
 #[test]
 fn a_wait_sleeps_no_longer_than_is_left(rt: HostRuntime) {
     let (_sender, receiver) = ends::<u64>(&rt, 0);
-    let clock = Gaps {
-        rt: &rt,
-        reads: Cell::new(0),
-        last: Cell::new(None),
-        shortest: Cell::new(u128::MAX),
-    };
+    let clock = Gaps::new(&rt, 1_000);
     let got = receiver.recv_timeout(&rt, Duration::from_nanos(1), &clock);
     equal(&rt, got, Err(ReceiveErrorTimeout::Timeout));
     holds(&rt, clock.shortest.get() < 1_000_000);
+}
+
+/// A second is left at each read: a sleep of all of that would have the clock read a second later.
+#[test]
+fn a_wait_sleeps_no_longer_than_a_millisecond_or_so(rt: HostRuntime) {
+    let (_sender, receiver) = ends::<u64>(&rt, 0);
+    let clock = Gaps::new(&rt, 140);
+    let got = receiver.recv_timeout(&rt, Duration::from_secs(1), &clock);
+    equal(&rt, got, Err(ReceiveErrorTimeout::Timeout));
+    holds(&rt, clock.shortest.get() < 500_000_000);
 }

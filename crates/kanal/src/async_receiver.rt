@@ -6,6 +6,7 @@
 //! so.
 ghost use Rattle.std.specs.Prelude.{◌≡◌, Some, IfErr, IsErrOf, OnErr, OnOk, Ok, false, codes};
 ghost use Rattle.std.specs.Vec.{vec_capacity, vec_len};
+ghost use Rattle.kanal.specs.Handles.{receiver_for_tasks, viewed_receiver};
 ghost use Rattle.kanal_events.specs.declared.event.Ask.{Ask};
 ghost use Rattle.kanal_events.specs.declared.event.Side.{Side};
 ghost use Rattle.kanal_futures.specs.Plain.{receive_is_over};
@@ -83,7 +84,9 @@ impl<T: Drop, H: History<T>> AsyncReceiver<T, H> {
     /// ```text
     /// receiver.to_sync().receiver_count(&rt)   answers  1   for a new channel
     /// ```
-    pub fn to_sync(self) -> Receiver<T, H> {
+    pub fn to_sync(self) -> Receiver<T, H>
+        ensures same { receiver_for_tasks result ≡ self }
+    {
         Receiver::new(self)
     }
 
@@ -93,7 +96,9 @@ impl<T: Drop, H: History<T>> AsyncReceiver<T, H> {
     /// ```text
     /// receiver.as_sync().recv(&rt)   answers  Ok(7)   where 7 was sent
     /// ```
-    pub fn as_sync(&self) -> ReceiverView<'_, T, H> {
+    pub fn as_sync(&self) -> ReceiverView<'_, T, H>
+        ensures same { viewed_receiver result ≡ self.now }
+    {
         ReceiverView::new(self)
     }
 }

@@ -4,6 +4,7 @@
 //! sender's drop; the sender for threads and the view are made over it. A call without a pass is that of the
 //! channel with the pass of no content, and its clause holds in the words of every history whose pass is so.
 ghost use Rattle.std.specs.Prelude.{◌≡◌, ◌≢◌, IfSome, IsSome, None, OnErr, OnOk, Ok, Some, true, false, codes};
+ghost use Rattle.kanal.specs.Handles.{sender_for_tasks, viewed_sender};
 ghost use Rattle.kanal_events.specs.declared.event.Ask.{Ask};
 ghost use Rattle.kanal_events.specs.declared.event.Side.{Side};
 ghost use Rattle.kanal_futures.specs.Plain.{send_is_over};
@@ -79,7 +80,9 @@ impl<T: Drop, H: History<T>> AsyncSender<T, H> {
     /// ```text
     /// sender.to_sync().sender_count(&rt)   answers  1   for a new channel
     /// ```
-    pub fn to_sync(self) -> Sender<T, H> {
+    pub fn to_sync(self) -> Sender<T, H>
+        ensures same { sender_for_tasks result ≡ self }
+    {
         Sender::new(self)
     }
 
@@ -89,7 +92,9 @@ impl<T: Drop, H: History<T>> AsyncSender<T, H> {
     /// ```text
     /// sender.as_sync().send(&rt, 7)   answers  Ok(())   in a channel with a place
     /// ```
-    pub fn as_sync(&self) -> SenderView<'_, T, H> {
+    pub fn as_sync(&self) -> SenderView<'_, T, H>
+        ensures same { viewed_sender result ≡ self.now }
+    {
         SenderView::new(self)
     }
 }

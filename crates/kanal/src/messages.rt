@@ -2,6 +2,7 @@
 //!
 //! Stands on the receiver for tasks.
 ghost use Rattle.std.specs.Prelude.{IsErrOf};
+ghost use Rattle.kanal.specs.Messages.{ReceivesAll, ReceivesNext};
 
 use crate::async_receiver::AsyncReceiver;
 use kanal_core::error::ReceiveError;
@@ -25,8 +26,11 @@ impl<'a, T: Drop, R: Wait, H: History<T>> Messages<'a, T, R, H> {
 impl<T: Drop, R: Wait, H: History<T, Pass = ()>> Iterator for Messages<'_, T, R, H> {
     type Item = T;
 
+    ghost next_gives = { λ _ item _. ReceivesNext H.words tt tt item };
+
     /// Receives the next message; `None` where that is refused. It waits for the lock, and for a
     /// message where there is none.
+    #[tactic(auto, using(crate::proofs::Receiving::received_next))]
     fn next(&mut self) -> Option<T> {
         self.receiver.channel().recv(self.rt, &mut ()).ok()
     }
@@ -40,6 +44,7 @@ pub(crate) fn for_each<T: Drop, H: History<T, Pass = ()>, R: Wait, F: FnMut(T)>(
     mut call: F,
 ) -> Result<(), ReceiveError>
     requires callable { F.IsAlwaysCallable call }
+    ensures received { ReceivesAll H.words tt tt result }
     ensures ended { IsErrOf result ReceiveError.SendClosed → ⊥ }
 {
     for _ in rt.forever() {

@@ -4,6 +4,8 @@
 ghost use Rattle.std.specs.Prelude.{◌≡◌, IfErr, IsErrOf, OnErr, OnOk, Ok, Some, codes};
 ghost use Rattle.std.specs.Duration.{as_nanos};
 ghost use Rattle.std.specs.Vec.{vec_capacity, vec_len};
+ghost use Rattle.kanal.specs.Handles.{receiver_for_tasks};
+ghost use Rattle.kanal.specs.Messages.{ReceivesAll};
 ghost use Rattle.kanal_events.specs.declared.event.Ask.{Ask};
 ghost use Rattle.kanal_events.specs.declared.event.Side.{Side};
 ghost use Rattle.kanal_history.specs.Handles.{Asks, AsksForTheEnd, Closes, CountsReceiver, Drains, Receives, ReceivesInTime, Seals, TriesToReceive, TriesToReceiveNow};
@@ -31,7 +33,9 @@ pub struct Receiver<T, H: History<T> = NoHistory> {
 
 impl<T: Drop, H: History<T>> Receiver<T, H> {
     /// A receiver for threads.
-    pub(crate) fn new(inner: AsyncReceiver<T, H>) -> Self {
+    pub(crate) fn new(inner: AsyncReceiver<T, H>) -> Self
+        ensures same { receiver_for_tasks result ≡ inner }
+    {
         Receiver { inner }
     }
 
@@ -41,7 +45,9 @@ impl<T: Drop, H: History<T>> Receiver<T, H> {
     /// ```text
     /// receiver.to_async().receiver_count(&rt)   answers  1   for a new channel
     /// ```
-    pub fn to_async(self) -> AsyncReceiver<T, H> {
+    pub fn to_async(self) -> AsyncReceiver<T, H>
+        ensures same { result ≡ receiver_for_tasks self }
+    {
         let Receiver { inner } = self;
         inner
     }
@@ -52,7 +58,9 @@ impl<T: Drop, H: History<T>> Receiver<T, H> {
     /// ```text
     /// receiver.as_async().recv()   answers  a future that receives a message
     /// ```
-    pub fn as_async(&self) -> &AsyncReceiver<T, H> {
+    pub fn as_async(&self) -> &AsyncReceiver<T, H>
+        ensures same { result.now ≡ receiver_for_tasks self.now }
+    {
         &self.inner
     }
 }
@@ -191,6 +199,7 @@ impl<T: Drop, H: History<T, Pass = ()>> Receiver<T, H> {
     /// ```
     pub fn for_each<R: Wait, F: FnMut(T)>(&self, rt: &R, call: F) -> Result<(), ReceiveError>
         requires callable { F.IsAlwaysCallable call }
+        ensures received { ReceivesAll H.words tt tt result }
         ensures ended { IsErrOf result ReceiveError.SendClosed → ⊥ }
     {
         for_each(rt, &self.inner, call)

@@ -5,6 +5,8 @@
 ghost use Rattle.std.specs.Prelude.{◌≡◌, IfErr, IsErrOf, OnErr};
 ghost use Rattle.std.specs.Duration.{as_nanos};
 ghost use Rattle.std.specs.Vec.{vec_capacity, vec_len};
+ghost use Rattle.kanal.specs.Handles.{viewed_receiver};
+ghost use Rattle.kanal.specs.Messages.{ReceivesAll};
 ghost use Rattle.kanal_events.specs.declared.event.Ask.{Ask};
 ghost use Rattle.kanal_events.specs.declared.event.Side.{Side};
 ghost use Rattle.kanal_history.specs.Handles.{Asks, AsksForTheEnd, Closes, Drains, Receives, ReceivesInTime, Seals, TriesToReceive, TriesToReceiveNow};
@@ -29,7 +31,9 @@ pub struct ReceiverView<'a, T, H: History<T> = NoHistory> {
 
 impl<'a, T: Drop, H: History<T>> ReceiverView<'a, T, H> {
     /// A view of the receiver.
-    pub(crate) fn new(receiver: &'a AsyncReceiver<T, H>) -> Self {
+    pub(crate) fn new(receiver: &'a AsyncReceiver<T, H>) -> Self
+        ensures same { viewed_receiver result ≡ receiver.now }
+    {
         ReceiverView { receiver }
     }
 }
@@ -168,6 +172,7 @@ impl<T: Drop, H: History<T, Pass = ()>> ReceiverView<'_, T, H> {
     /// ```
     pub fn for_each<R: Wait, F: FnMut(T)>(&self, rt: &R, call: F) -> Result<(), ReceiveError>
         requires callable { F.IsAlwaysCallable call }
+        ensures received { ReceivesAll H.words tt tt result }
         ensures ended { IsErrOf result ReceiveError.SendClosed → ⊥ }
     {
         for_each(rt, self.receiver, call)

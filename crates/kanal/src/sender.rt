@@ -4,6 +4,7 @@
 //! refused its message is dropped, but for the calls that are lent an option.
 ghost use Rattle.std.specs.Prelude.{◌≡◌, ◌≢◌, IfErr, IfSome, IsSome, None, OnOk, Ok, Some, true, codes};
 ghost use Rattle.std.specs.Duration.{as_nanos};
+ghost use Rattle.kanal.specs.Handles.{sender_for_tasks};
 ghost use Rattle.kanal_events.specs.declared.event.Ask.{Ask};
 ghost use Rattle.kanal_events.specs.declared.event.Side.{Side};
 ghost use Rattle.kanal_history.specs.Handles.{Asks, Closes, CountsSender, Seals, Sends, SendsInTime, TriesToSend, TriesToSendNow};
@@ -30,7 +31,9 @@ pub struct Sender<T, H: History<T> = NoHistory> {
 
 impl<T: Drop, H: History<T>> Sender<T, H> {
     /// A sender for threads.
-    pub(crate) fn new(inner: AsyncSender<T, H>) -> Self {
+    pub(crate) fn new(inner: AsyncSender<T, H>) -> Self
+        ensures same { sender_for_tasks result ≡ inner }
+    {
         Sender { inner }
     }
 
@@ -40,7 +43,9 @@ impl<T: Drop, H: History<T>> Sender<T, H> {
     /// ```text
     /// sender.to_async().sender_count(&rt)   answers  1   for a new channel
     /// ```
-    pub fn to_async(self) -> AsyncSender<T, H> {
+    pub fn to_async(self) -> AsyncSender<T, H>
+        ensures same { result ≡ sender_for_tasks self }
+    {
         let Sender { inner } = self;
         inner
     }
@@ -51,7 +56,9 @@ impl<T: Drop, H: History<T>> Sender<T, H> {
     /// ```text
     /// sender.as_async().send(7)   answers  a future that sends 7
     /// ```
-    pub fn as_async(&self) -> &AsyncSender<T, H> {
+    pub fn as_async(&self) -> &AsyncSender<T, H>
+        ensures same { result.now ≡ sender_for_tasks self.now }
+    {
         &self.inner
     }
 }

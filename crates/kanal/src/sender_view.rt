@@ -4,6 +4,7 @@
 //! no clone, no conversion and no drop of its own.
 ghost use Rattle.std.specs.Prelude.{◌≡◌, ◌≢◌, IfErr, IfSome, IsSome, None, Ok, true};
 ghost use Rattle.std.specs.Duration.{as_nanos};
+ghost use Rattle.kanal.specs.Handles.{viewed_sender};
 ghost use Rattle.kanal_events.specs.declared.event.Ask.{Ask};
 ghost use Rattle.kanal_events.specs.declared.event.Side.{Side};
 ghost use Rattle.kanal_history.specs.Handles.{Asks, Closes, Seals, Sends, SendsInTime, TriesToSend, TriesToSendNow};
@@ -27,7 +28,9 @@ pub struct SenderView<'a, T, H: History<T> = NoHistory> {
 
 impl<'a, T: Drop, H: History<T>> SenderView<'a, T, H> {
     /// A view of the sender.
-    pub(crate) fn new(sender: &'a AsyncSender<T, H>) -> Self {
+    pub(crate) fn new(sender: &'a AsyncSender<T, H>) -> Self
+        ensures same { viewed_sender result ≡ sender.now }
+    {
         SenderView { sender }
     }
 }

@@ -12,7 +12,7 @@ use Rattle.kanal_channel.specs.declared.timed.Ended.TheVariants.{Settled as EndS
 use Rattle.kanal_channel.specs.declared.timed.Timed.{Timed}
 use Rattle.kanal_channel.specs.declared.timed.Timed.TheVariants.{Replied, Settled, Withdrawn, Lacking}
 use Rattle.kanal_channel.specs.Deadlines.{HasEnded, HasPassed, answer_in_time}
-use Rattle.kanal_channel.proofs.Settling.{finishes_replied, has_waited}
+use Rattle.kanal_state.proofs.Settling.{finishes_replied, has_waited}
 
 module _ {T P : Type 0} (w : Words T P) where
   -- a call that waited and was to be taken back: what became of its wait

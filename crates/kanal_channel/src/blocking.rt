@@ -10,14 +10,12 @@ ghost use Rattle.kanal_history.specs.Words.{HaveSettled, HaveShown};
 ghost use Rattle.kanal_channel.specs.Locks.{IsQuiet, line_under};
 ghost use Rattle.kanal_channel.specs.Starts.{HasBegun, HasCome};
 
-use crate::delivered::Delivered;
-use crate::seat::Seat;
 use crate::shared::{Left, Locked, Shared};
-use crate::state::ends;
 use kanal_core::internal::{Outcome, Ticket};
 use kanal_events::event::{Event, Reply};
 use kanal_events::made::{Answered, Kept, Made, Owed, Tried};
 use kanal_history::History;
+use kanal_state::{Delivered, Seat, ends};
 use kanal_waits::{Waiting, pause_once};
 use std::sync::Wait;
 use std::thread;

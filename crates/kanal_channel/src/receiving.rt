@@ -169,7 +169,7 @@ impl<T: Drop, H: History<T>> Shared<T, H> {
 
     /// The same, under the lock that was got, where no message left the buffer by itself.
     #[cold]
-    #[tactic(auto, using(crate::proofs::Settling::free_replied))]
+    #[tactic(auto, using(kanal_state::proofs::Settling::free_replied))]
     fn try_recv_held(
         &self,
         locked: Locked<'_, T, H>,
@@ -191,7 +191,7 @@ impl<T: Drop, H: History<T>> Shared<T, H> {
     /// ```text
     /// shared.try_recv_realtime(&mut pass)   answers  Ok(Some(1))   where 1 was sent
     /// ```
-    #[tactic(auto, using(crate::proofs::Settling::free_replied))]
+    #[tactic(auto, using(kanal_state::proofs::Settling::free_replied))]
     pub fn try_recv_realtime(&self, pass: &mut H::Pass) -> Result<Option<T>, ReceiveError>
         ensures received { TriesToReceiveNow H.words pass.old pass.new result }
     {
@@ -220,7 +220,7 @@ impl<T: Drop, H: History<T>> Shared<T, H> {
     /// shared.recv_timeout(&rt, &mut pass, Duration::from_nanos(1), &clock)
     ///     answers  Err(Timeout)   where nobody sends
     /// ```
-    #[tactic(auto, using(crate::proofs::Settling::free_replied, kanal_history::proofs::Exchanging::receives_in_time_got))]
+    #[tactic(auto, using(kanal_state::proofs::Settling::free_replied, kanal_history::proofs::Exchanging::receives_in_time_got))]
     pub fn recv_timeout<R: Wait + time::Clock, C: Clock>(
         &self,
         rt: &R,

@@ -207,7 +207,7 @@ impl<T: Drop, H: History<T>> Shared<T, H> {
 
     /// The same, under the lock that was got, where the message did not enter by itself.
     #[cold]
-    #[tactic(auto, using(crate::proofs::Settling::comes_replied, crate::proofs::Backs::sent_leaves, crate::proofs::Backs::refused_stays))]
+    #[tactic(auto, using(kanal_state::proofs::Settling::comes_replied, crate::proofs::Backs::sent_leaves, crate::proofs::Backs::refused_stays))]
     fn offer_held(
         &self,
         locked: Locked<'_, T, H>,
@@ -271,7 +271,7 @@ impl<T: Drop, H: History<T>> Shared<T, H> {
     }
 
     /// Offers the message where the lock is free; one that comes back goes into the option.
-    #[tactic(auto, using(crate::proofs::Settling::comes_replied, crate::proofs::Backs::sent_leaves, crate::proofs::Backs::refused_stays))]
+    #[tactic(auto, using(kanal_state::proofs::Settling::comes_replied, crate::proofs::Backs::sent_leaves, crate::proofs::Backs::refused_stays))]
     fn offer_now(
         &self,
         pass: &mut H::Pass,

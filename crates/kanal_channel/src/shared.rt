@@ -10,14 +10,13 @@ ghost use Rattle.kanal_core.specs.Channel.{line_of};
 
 mod locked;
 
-use crate::counted::{
-    CountedReceiver, CountedSender, CountedWait, ReceiverNotices, SenderNotices, WaitNotices,
-};
-use crate::seat::Core;
-use crate::state::State;
 use kanal_core::error::NewError;
 use kanal_core::mutex::Mutex;
 use kanal_history::History;
+use kanal_state::{
+    Core, CountedReceiver, CountedSender, CountedWait, ReceiverNotices, SenderNotices, State,
+    WaitNotices,
+};
 use kanal_waits::WaitPolicy;
 pub use locked::{Left, Locked};
 use std::alloc::Global;

@@ -7,14 +7,14 @@ ghost use Rattle.std.specs.Prelude.{◌≡◌};
 ghost use Rattle.kanal_history.specs.Handles.{Asks, AsksForTheEnd, Closes, CountsReceiver, CountsSender, Seals};
 ghost use Rattle.kanal_history.specs.Makes.{IsReplied};
 ghost use Rattle.kanal_history.specs.Results.{count_by, flag_by, number_by, unread};
-ghost use Rattle.kanal_channel.specs.Counts.{whether_counted};
+ghost use Rattle.kanal_state.specs.Counts.{whether_counted};
 
 use crate::answers::{closed_by, count_by, counted_by, flag_by, number_by};
-use crate::counted::{CountedReceiver, CountedSender};
 use crate::shared::Shared;
 use kanal_core::error::{CloseError, TooMany};
 use kanal_events::event::{Ask, Event, Reply, Side};
 use kanal_history::History;
+use kanal_state::{CountedReceiver, CountedSender};
 use std::sync::Wait;
 
 impl<T: Drop, H: History<T>> Shared<T, H> {
@@ -29,7 +29,7 @@ impl<T: Drop, H: History<T>> Shared<T, H> {
     /// shared.close(&rt, &mut pass)   answers  Ok(())
     /// shared.close(&rt, &mut pass)   answers  Err(CloseError())   after that
     /// ```
-    #[tactic(auto, using(crate::proofs::Settling::free_replied))]
+    #[tactic(auto, using(kanal_state::proofs::Settling::free_replied))]
     pub fn close<R: Wait>(&self, rt: &R, pass: &mut H::Pass) -> Result<(), CloseError>
         ensures closed { Closes H.words pass.old pass.new result }
     {
@@ -47,7 +47,7 @@ impl<T: Drop, H: History<T>> Shared<T, H> {
     /// shared.seal(&rt, &mut pass)      answers  Ok(())
     /// shared.send(&rt, &mut pass, 7)   answers  Err(Sealed)   after that
     /// ```
-    #[tactic(auto, using(crate::proofs::Settling::free_replied))]
+    #[tactic(auto, using(kanal_state::proofs::Settling::free_replied))]
     pub fn seal<R: Wait>(&self, rt: &R, pass: &mut H::Pass) -> Result<(), CloseError>
         ensures sealed { Seals H.words pass.old pass.new result }
     {
@@ -63,7 +63,7 @@ impl<T: Drop, H: History<T>> Shared<T, H> {
     /// ```text
     /// shared.add_sender(&rt, &mut pass)   answers  Ok(())
     /// ```
-    #[tactic(auto, using(crate::proofs::Settling::free_replied))]
+    #[tactic(auto, using(kanal_state::proofs::Settling::free_replied))]
     pub fn add_sender<R: Wait>(&self, rt: &R, pass: &mut H::Pass) -> Result<(), TooMany>
         ensures counted { CountsSender H.words pass.old pass.new result }
     {
@@ -79,7 +79,7 @@ impl<T: Drop, H: History<T>> Shared<T, H> {
     /// ```text
     /// shared.add_receiver(&rt, &mut pass)   answers  Ok(())
     /// ```
-    #[tactic(auto, using(crate::proofs::Settling::free_replied))]
+    #[tactic(auto, using(kanal_state::proofs::Settling::free_replied))]
     pub fn add_receiver<R: Wait>(&self, rt: &R, pass: &mut H::Pass) -> Result<(), TooMany>
         ensures counted { CountsReceiver H.words pass.old pass.new result }
     {
@@ -136,7 +136,7 @@ impl<T: Drop, H: History<T>> Shared<T, H> {
     /// shared.drop_sender_by(&rt, &mut pass);
     /// shared.recv(&rt, &mut pass)   answers  Err(SendClosed)   where that was the last, and nothing is there
     /// ```
-    #[tactic(auto, using(crate::proofs::Settling::free_replied))]
+    #[tactic(auto, using(kanal_state::proofs::Settling::free_replied))]
     pub fn drop_sender_by<R: Wait>(&self, rt: &R, pass: &mut H::Pass)
         ensures dropped { IsReplied H.words pass.old pass.new Event.DropTx unread result }
     {
@@ -151,7 +151,7 @@ impl<T: Drop, H: History<T>> Shared<T, H> {
     /// shared.drop_receiver_by(&rt, &mut pass);
     /// shared.send(&rt, &mut pass, 7)   answers  Err(ReceiveClosed)   where that was the last
     /// ```
-    #[tactic(auto, using(crate::proofs::Settling::free_replied))]
+    #[tactic(auto, using(kanal_state::proofs::Settling::free_replied))]
     pub fn drop_receiver_by<R: Wait>(&self, rt: &R, pass: &mut H::Pass)
         ensures dropped { IsReplied H.words pass.old pass.new Event.DropRx unread result }
     {
@@ -164,7 +164,7 @@ impl<T: Drop, H: History<T>> Shared<T, H> {
     /// ```text
     /// shared.ask(&rt, &mut pass, Side::Tx, Ask::Len)   answers  Number(1)   after one message entered
     /// ```
-    #[tactic(auto, using(crate::proofs::Settling::free_replied))]
+    #[tactic(auto, using(kanal_state::proofs::Settling::free_replied))]
     pub fn ask<R: Wait>(&self, rt: &R, pass: &mut H::Pass, side: Side, question: Ask) -> Reply<T>
         ensures asked { Asks H.words pass.old pass.new side question (λ reply. reply) result }
     {
@@ -177,7 +177,7 @@ impl<T: Drop, H: History<T>> Shared<T, H> {
     /// ```text
     /// shared.ask_flag(&rt, &mut pass, Side::Tx, Ask::IsFull)   answers  true   at capacity 0
     /// ```
-    #[tactic(auto, using(crate::proofs::Settling::free_replied))]
+    #[tactic(auto, using(kanal_state::proofs::Settling::free_replied))]
     pub fn ask_flag<R: Wait>(&self, rt: &R, pass: &mut H::Pass, side: Side, question: Ask) -> bool
         ensures asked { Asks H.words pass.old pass.new side question flag_by result }
     {
@@ -190,7 +190,7 @@ impl<T: Drop, H: History<T>> Shared<T, H> {
     /// ```text
     /// shared.ask_number(&rt, &mut pass, Side::Tx, Ask::Len)   answers  1   after one message entered
     /// ```
-    #[tactic(auto, using(crate::proofs::Settling::free_replied))]
+    #[tactic(auto, using(kanal_state::proofs::Settling::free_replied))]
     pub fn ask_number<R: Wait>(
         &self,
         rt: &R,
@@ -209,7 +209,7 @@ impl<T: Drop, H: History<T>> Shared<T, H> {
     /// ```text
     /// shared.ask_count(&rt, &mut pass, Side::Tx, Ask::SenderCount)   answers  1   for a new channel
     /// ```
-    #[tactic(auto, using(crate::proofs::Settling::free_replied))]
+    #[tactic(auto, using(kanal_state::proofs::Settling::free_replied))]
     pub fn ask_count<R: Wait>(&self, rt: &R, pass: &mut H::Pass, side: Side, question: Ask) -> u32
         ensures asked { Asks H.words pass.old pass.new side question count_by result }
     {
@@ -222,7 +222,7 @@ impl<T: Drop, H: History<T>> Shared<T, H> {
     /// ```text
     /// shared.is_terminated(&rt, &mut pass)   answers  false   in a new channel
     /// ```
-    #[tactic(auto, using(crate::proofs::Settling::free_replied))]
+    #[tactic(auto, using(kanal_state::proofs::Settling::free_replied))]
     pub fn is_terminated<R: Wait>(&self, rt: &R, pass: &mut H::Pass) -> bool
         ensures asked { AsksForTheEnd H.words pass.old pass.new result }
     {

@@ -10,11 +10,11 @@ ghost use Rattle.kanal_channel.specs.Deadlines.{HasEnded, HasPassed};
 ghost use Rattle.kanal_channel.specs.Locks.{IsQuiet};
 
 use crate::blocking::Begun;
-use crate::delivered::Delivered;
 use crate::shared::{Locked, Shared};
 use kanal_core::internal::{Outcome, Ticket, Waiter};
 use kanal_events::event::{Event, Reply};
 use kanal_history::History;
+use kanal_state::Delivered;
 use kanal_waits::{Clock, Waiting};
 use std::sync::Wait;
 use std::time;

@@ -12,7 +12,7 @@ use Rattle.kanal_history.specs.Handles.{Receives, Sends}
 use Rattle.kanal_history.specs.Makes.{HasReplied, HasWaited}
 use Rattle.kanal_history.specs.Results.{received_after, received_by, sent_after, sent_by}
 use Rattle.kanal_history.specs.Words.{Words}
-use Rattle.kanal_channel.proofs.Settling.{finishes_replied}
+use Rattle.kanal_state.proofs.Settling.{finishes_replied}
 use Rattle.kanal_futures.specs.Streams.{HasReceived}
 
 module _ {T P : Type 0} (w : Words T P) (old new : P) where

@@ -52,7 +52,7 @@ impl<T, H: History<T>, M, A: Asks<T, M>> Model for Started<T, H, M, A> {
     ghost use Rattle.kanal_cell.specs.CellEnds.{wait_view};
     ghost use Rattle.kanal_core.specs.Tickets.{number_of};
     ghost use Rattle.kanal_events.specs.declared.event.Reply.TheVariants.{Waits};
-    ghost use Rattle.kanal_channel.specs.Counts.{ticket_of};
+    ghost use Rattle.kanal_state.specs.Counts.{ticket_of};
     ghost use Rattle.kanal_history.specs.Makes.{IsReplied};
 
     ghost Value = { H.Pass × M };

@@ -9,10 +9,8 @@ ghost use Rattle.std.specs.Prelude.{◌≡◌, false, IfSome};
 ghost use Rattle.kanal_channel.specs.Locks.{IsQuiet, is_held, takes_nothing};
 
 use super::Shared;
-use crate::counted::emptied;
-use crate::seat::Leavers;
-use crate::state::{Gone, State};
 use kanal_history::History;
+use kanal_state::{Gone, Leavers, State, emptied};
 use kanal_waits::pause;
 use std::snapshot::Snapshot;
 use std::sync::atomic::Ordering::SeqCst;

@@ -1,4 +1,4 @@
-use Rattle.kanal_channel.proofs.Settling.{begun_from}
+use Rattle.kanal_channel.proofs.Starting.{begun_from}
 use Rattle.kanal_channel.proofs.shared.Shared.begin_held.Goals as goal
 
 pub returns-in-Err : goal.returns-in-Err

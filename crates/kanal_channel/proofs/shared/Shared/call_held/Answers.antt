@@ -1,4 +1,4 @@
-use Rattle.kanal_channel.proofs.Settling.{noted_settled}
+use Rattle.kanal_state.proofs.Settling.{noted_settled}
 use Rattle.kanal_channel.proofs.shared.Shared.call_held.Goals as goal
 
 pub give_back-requires-clause-seen : goal.give_back-requires-clause-seen

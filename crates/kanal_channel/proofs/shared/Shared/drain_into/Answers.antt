@@ -1,6 +1,6 @@
 use Rattle.kanal_events.specs.declared.event.Event.TheVariants.{Drain}
 use Rattle.kanal_channel.proofs.Draining.{noted_drains}
-use Rattle.kanal_channel.proofs.Settling.{noted_settled}
+use Rattle.kanal_state.proofs.Settling.{noted_settled}
 use Rattle.kanal_channel.proofs.shared.Shared.drain_into.Goals as goal
 
 pub give_back-requires-clause-seen : goal.give_back-requires-clause-seen

@@ -1,4 +1,4 @@
-use Rattle.kanal_channel.proofs.Settling.{fetched_at_once, made_settled, received_from}
+use Rattle.kanal_state.proofs.Settling.{fetched_at_once, made_settled, received_from}
 use Rattle.kanal_history.specs.Entries.{fetched_receipt}
 use Rattle.kanal_channel.proofs.shared.Shared.fetch.Goals as goal
 

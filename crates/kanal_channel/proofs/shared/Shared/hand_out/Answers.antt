@@ -1,7 +1,7 @@
 use Rattle.std.proofs.Common.{◌∙◌, subst}
 use Rattle.kanal_events.specs.Made.{settled_of}
 use Rattle.kanal_history.specs.Words.{HaveShown}
-use Rattle.kanal_channel.proofs.Settling.{shown_again}
+use Rattle.kanal_state.proofs.Settling.{shown_again}
 use Rattle.kanal_channel.proofs.shared.Shared.hand_out.Goals as goal
 
 pub loop-owed-preserved : goal.loop-owed-preserved

@@ -1,4 +1,4 @@
-use Rattle.kanal_channel.proofs.Settling.{handed_at_once, made_settled, sent_from}
+use Rattle.kanal_state.proofs.Settling.{handed_at_once, made_settled, sent_from}
 use Rattle.kanal_history.specs.Entries.{handed_entry}
 use Rattle.kanal_channel.proofs.shared.Shared.hand_over.Goals as goal
 

@@ -1,5 +1,5 @@
 use Rattle.kanal_events.specs.Made.{made_of}
-use Rattle.kanal_channel.proofs.Settling.{noted_replied, noted_settled}
+use Rattle.kanal_state.proofs.Settling.{noted_replied, noted_settled}
 use Rattle.kanal_channel.proofs.shared.Shared.look_once.Goals as goal
 
 pub give_back_answered-requires-clause-seen : goal.give_back_answered-requires-clause-seen

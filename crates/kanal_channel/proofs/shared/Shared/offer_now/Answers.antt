@@ -2,7 +2,7 @@ use Rattle.std.proofs.Common.{sym, subst, ◌∙◌}
 use Rattle.kanal_events.specs.declared.event.Event.TheVariants.{TrySend}
 use Rattle.kanal_history.specs.Makes.{IsAnswered}
 use Rattle.kanal_channel.proofs.Backs.{refused_stays}
-use Rattle.kanal_channel.proofs.Settling.{noted_answered, noted_settled}
+use Rattle.kanal_state.proofs.Settling.{noted_answered, noted_settled}
 use Rattle.kanal_channel.proofs.shared.Shared.offer_now.Goals as goal
 
 pub give_back_left-requires-clause-seen : goal.give_back_left-requires-clause-seen

@@ -1,4 +1,4 @@
-use Rattle.kanal_channel.proofs.Settling.{received_at_once, received_from}
+use Rattle.kanal_state.proofs.Settling.{received_at_once, received_from}
 use Rattle.kanal_channel.proofs.shared.Shared.recv_again.Goals as goal
 
 pub returns-in-Some : goal.returns-in-Some

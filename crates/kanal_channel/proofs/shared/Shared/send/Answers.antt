@@ -1,6 +1,6 @@
 use Rattle.std.proofs.Common.{Ok}
 use Rattle.kanal_history.proofs.Exchanging.{sends_put}
-use Rattle.kanal_channel.proofs.Settling.{sent_at_once, sent_from}
+use Rattle.kanal_state.proofs.Settling.{sent_at_once, sent_from}
 use Rattle.kanal_channel.proofs.shared.Shared.send.Goals as goal
 
 pub returns-in-Ok : goal.returns-in-Ok

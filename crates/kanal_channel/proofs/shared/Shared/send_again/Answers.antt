@@ -1,4 +1,4 @@
-use Rattle.kanal_channel.proofs.Settling.{sent_at_once, sent_from}
+use Rattle.kanal_state.proofs.Settling.{sent_at_once, sent_from}
 use Rattle.kanal_channel.proofs.shared.Shared.send_again.Goals as goal
 
 pub returns-in-Ok : goal.returns-in-Ok

@@ -1,5 +1,5 @@
 use Rattle.kanal_events.specs.Made.{settled_of}
-use Rattle.kanal_channel.proofs.Settling.{all_shown}
+use Rattle.kanal_state.proofs.Settling.{all_shown}
 use Rattle.kanal_channel.proofs.shared.Shared.settle.Goals as goal
 
 pub hand_out-requires : goal.hand_out-requires

@@ -1,5 +1,5 @@
 use Rattle.kanal_events.specs.declared.event.Event.TheVariants.{TryRecv}
-use Rattle.kanal_channel.proofs.Settling.{noted_settled}
+use Rattle.kanal_state.proofs.Settling.{noted_settled}
 use Rattle.kanal_channel.proofs.shared.Shared.try_recv_realtime.Goals as goal
 
 pub give_back_left-requires-clause-seen : goal.give_back_left-requires-clause-seen

@@ -1,7 +1,7 @@
 use Rattle.std.proofs.Common.{subst}
 use Rattle.kanal_events.specs.Made.{Keeps}
 use Rattle.kanal_history.specs.Entries.{replied}
-use Rattle.kanal_channel.proofs.Settling.{kept_replied}
+use Rattle.kanal_state.proofs.Settling.{kept_replied}
 use Rattle.kanal_channel.proofs.shared.Shared.wait_held.Goals as goal
 
 pub returns-in-Back : goal.returns-in-Back

@@ -1,6 +1,6 @@
 use Rattle.std.proofs.Common.{Ok, subst, sym}
 use Rattle.kanal_history.specs.Handles.{Receives}
-use Rattle.kanal_channel.proofs.Settling.{received_at_once}
+use Rattle.kanal_state.proofs.Settling.{received_at_once}
 use Rattle.kanal_futures.proofs.receiving.Receiving.at_once.Goals as goal
 
 pub new-requires : goal.new-requires

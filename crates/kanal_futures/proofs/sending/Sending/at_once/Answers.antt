@@ -1,6 +1,6 @@
 use Rattle.std.proofs.Common.{Ok, subst, sym}
 use Rattle.kanal_history.specs.Handles.{Sends}
-use Rattle.kanal_channel.proofs.Settling.{sent_at_once}
+use Rattle.kanal_state.proofs.Settling.{sent_at_once}
 use Rattle.kanal_futures.proofs.sending.Sending.at_once.Goals as goal
 
 pub new-requires : goal.new-requires

@@ -1,7 +1,7 @@
 use Rattle.std.proofs.Common.{subst}
 use Rattle.kanal_events.specs.Made.{made_of}
 use Rattle.kanal_history.specs.Makes.{HasReplied}
-use Rattle.kanal_channel.proofs.Settling.{noted_replied, noted_settled}
+use Rattle.kanal_state.proofs.Settling.{noted_replied, noted_settled}
 use Rattle.kanal_futures.proofs.wakers.Wakers.begin.Goals as goal
 
 pub give_back_answered-reply-requires-clause-seen : goal.give_back_answered-reply-requires-clause-seen

@@ -4,7 +4,7 @@ use Rattle.kanal_events.specs.declared.event.Reply.TheVariants.{Waits}
 use Rattle.kanal_events.specs.Made.{Keeps}
 use Rattle.kanal_history.specs.Entries.{replied}
 use Rattle.kanal_history.specs.Makes.{IsReplied}
-use Rattle.kanal_channel.proofs.Settling.{kept_from, kept_replied, kept_waits}
+use Rattle.kanal_state.proofs.Settling.{kept_from, kept_replied, kept_waits}
 use Rattle.kanal_futures.proofs.wakers.Wakers.start.Goals as goal
 
 pub returns-then-not-has_ticket-clause-replied : goal.returns-then-not-has_ticket-clause-replied

@@ -1,7 +1,7 @@
 use Rattle.std.proofs.Common.{subst, sym}
 use Rattle.kanal_events.specs.Made.{made_of, settled_of}
 use Rattle.kanal_history.specs.Words.{HaveSettled, nothing_told, nothing_sound}
-use Rattle.kanal_channel.proofs.Settling.{noted_settled}
+use Rattle.kanal_state.proofs.Settling.{noted_settled}
 use Rattle.kanal_shared_tests.proofs.tests.served.serve_beside_a_notice.Goals as goal
 
 pub give_back_left-reply-requires-clause-seen : goal.give_back_left-reply-requires-clause-seen

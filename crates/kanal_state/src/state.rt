@@ -15,7 +15,7 @@ ghost use Rattle.kanal_events.specs.Made.{Keeps, MustWait, Tries, drained_of, en
 ghost use Rattle.kanal_history.specs.Calls.{IsTold};
 ghost use Rattle.kanal_history.specs.Entries.{entry, fetched_receipt, handed_entry, receipt, replied, told_by, tried_entry, tried_receipt, withdrawal};
 ghost use Rattle.kanal_history.specs.Makes.{HasTooLittleRoom, IsKept, IsNoted, IsTried};
-ghost use Rattle.kanal_channel.specs.Renewing.{Renews};
+ghost use Rattle.kanal_state.specs.Renewing.{Renews};
 
 mod keeping;
 mod leaving;
@@ -34,7 +34,7 @@ use keeping::{
     Asked, OfAnswer, OfCall, OfEntry, OfFetch, OfHandOver, OfReceipt, OfReply, OfTriedEntry,
     OfTriedReceipt, OfWithdrawal, note, note_made,
 };
-pub(crate) use leaving::Gone;
+pub use leaving::Gone;
 use std::alloc::Global;
 use std::marker::Model;
 use std::snapshot::Snapshot;
@@ -63,10 +63,13 @@ impl<T, H: History<T>> Model for State<T, H> {
 
 /// What a blocked call waits with: the end at which it is told, and the seat for the core. `None` where
 /// there is no memory for them.
+///
+/// # Examples
+/// ```text
+/// let (end, seat) = ends(alloc)?;
+/// ```
 #[inline]
-pub(crate) fn ends<T: Drop, H: History<T>>(
-    alloc: Global,
-) -> Option<(WaitEnd<Delivered<T, H>>, Seat<T, H>)>
+pub fn ends<T: Drop, H: History<T>>(alloc: Global) -> Option<(WaitEnd<Delivered<T, H>>, Seat<T, H>)>
     ensures fresh { IfSome result (λ ends. MaySleep (wait_view ends.0)) }
 {
     let (end, settling) = signal::new(alloc).ok()?;
@@ -105,7 +108,12 @@ fn renew<T: Drop, H: History<T>>(
 
 impl<T: Drop, H: History<T>> State<T, H> {
     /// A core, and what is kept of the calls that led to its line.
-    pub(crate) fn new(core: Core<T, H>, history: H, cleanup: H::Cleanup) -> State<T, H>
+    ///
+    /// # Examples
+    /// ```text
+    /// let state = State::new(core, NoHistory, ());
+    /// ```
+    pub fn new(core: Core<T, H>, history: H, cleanup: H::Cleanup) -> State<T, H>
         requires core { H.stands history (line_of core) }
     {
         State {
@@ -116,7 +124,12 @@ impl<T: Drop, H: History<T>> State<T, H> {
     }
 
     /// Makes a call that never waits.
-    pub(crate) fn call(
+    ///
+    /// # Examples
+    /// ```text
+    /// let made = locked.state.call(board, &mut pass, Event::Close);
+    /// ```
+    pub fn call(
         &mut self,
         board: &H::Board,
         pass: &mut H::Pass,
@@ -168,8 +181,13 @@ impl<T: Drop, H: History<T>> State<T, H> {
 
     /// Makes a send whose message enters, or is handed to a receiver that waits, and answers who is owed it;
     /// where neither can be so nothing changes.
+    ///
+    /// # Examples
+    /// ```text
+    /// locked.state.hand(board, &mut pass, 7)   answers  Ok(None)   where nobody waits and there is a place
+    /// ```
     #[inline(always)]
-    pub(crate) fn hand(
+    pub fn hand(
         &mut self,
         board: &H::Board,
         pass: &mut H::Pass,
@@ -192,8 +210,13 @@ impl<T: Drop, H: History<T>> State<T, H> {
 
     /// Makes a receive that gets the front message, and answers who is owed that, if a sender that waited was
     /// let in; where there is no message so nothing changes.
+    ///
+    /// # Examples
+    /// ```text
+    /// locked.state.fetch(board, &mut pass)   answers  None   in a new channel
+    /// ```
     #[inline(always)]
-    pub(crate) fn fetch(
+    pub fn fetch(
         &mut self,
         board: &H::Board,
         pass: &mut H::Pass,
@@ -212,13 +235,13 @@ impl<T: Drop, H: History<T>> State<T, H> {
 
     /// Makes the send of a call that doesn't wait, where the message enters and nobody waits; where it doesn't
     /// enter so nothing changes.
+    ///
+    /// # Examples
+    /// ```text
+    /// locked.state.try_push(board, &mut pass, 7)   answers  Ok(())   in a channel with a place
+    /// ```
     #[inline(always)]
-    pub(crate) fn try_push(
-        &mut self,
-        board: &H::Board,
-        pass: &mut H::Pass,
-        message: T,
-    ) -> Result<(), T>
+    pub fn try_push(&mut self, board: &H::Board, pass: &mut H::Pass, message: T) -> Result<(), T>
         ensures made { OnOk result (H.words.makes pass.old pass.new (tried_entry message)) }
         ensures told { OnOk result (IsTold (tried_entry message)) }
         ensures refused { IfErr result (λ back. (back ≡ message) × (pass.new ≡ pass.old)) }
@@ -233,8 +256,13 @@ impl<T: Drop, H: History<T>> State<T, H> {
 
     /// Makes the receive of a call that doesn't wait, where it gets its message and nobody waits; where it
     /// gets none so nothing changes.
+    ///
+    /// # Examples
+    /// ```text
+    /// locked.state.try_pop(board, &mut pass)   answers  Some(7)   after 7 entered
+    /// ```
     #[inline(always)]
-    pub(crate) fn try_pop(&mut self, board: &H::Board, pass: &mut H::Pass) -> Option<T>
+    pub fn try_pop(&mut self, board: &H::Board, pass: &mut H::Pass) -> Option<T>
         ensures made { IfSome result (λ m. H.words.makes pass.old pass.new (tried_receipt m)) }
         ensures told { IfSome result (λ m. IsTold (tried_receipt m)) }
         ensures refused { IfNone result (pass.new ≡ pass.old) }
@@ -281,14 +309,24 @@ impl<T: Drop, H: History<T>> State<T, H> {
     }
 
     /// Whether the buffer has no place: always at capacity 0, and never without a limit.
+    ///
+    /// # Examples
+    /// ```text
+    /// locked.state.is_full()   answers  true   at capacity 0
+    /// ```
     #[inline]
-    pub(crate) fn is_full(&self) -> bool {
+    pub fn is_full(&self) -> bool {
         self.core.is_full()
     }
 
     /// Whether no message is in the buffer, whoever waits.
+    ///
+    /// # Examples
+    /// ```text
+    /// locked.state.is_empty()   answers  true   in a new channel
+    /// ```
     #[inline]
-    pub(crate) fn is_empty(&self) -> bool {
+    pub fn is_empty(&self) -> bool {
         self.core.is_empty()
     }
 
@@ -333,7 +371,12 @@ impl<T: Drop, H: History<T>> State<T, H> {
     }
 
     /// Takes the wait with this ticket back, if it waits; where it doesn't, nothing changes.
-    pub(crate) fn withdraw(
+    ///
+    /// # Examples
+    /// ```text
+    /// locked.state.withdraw(board, &mut pass, ticket)   answers  None   where its wait was settled
+    /// ```
+    pub fn withdraw(
         &mut self,
         board: &H::Board,
         pass: &mut H::Pass,
@@ -357,7 +400,12 @@ impl<T: Drop, H: History<T>> State<T, H> {
     }
 
     /// Moves the whole line to the vector's end.
-    pub(crate) fn drain(
+    ///
+    /// # Examples
+    /// ```text
+    /// let made = locked.state.drain(board, &mut pass, &mut messages);
+    /// ```
+    pub fn drain(
         &mut self,
         board: &H::Board,
         pass: &mut H::Pass,

@@ -1,7 +1,7 @@
 use Rattle.std.proofs.Common.{ap, sym, ◌∙◌}
 use Rattle.std.specs.Option.{option_copied_mut}
-use Rattle.kanal_channel.proofs.Renewing.{line-with, renews}
-use Rattle.kanal_channel.proofs.state.renew.Goals as goal
+use Rattle.kanal_state.proofs.Renewing.{line-with, renews}
+use Rattle.kanal_state.proofs.state.renew.Goals as goal
 
 pub returns-clause-line : goal.returns-clause-line
 returns-clause-line g c = line-with c.args.core.now c.args.ticket _

@@ -6,7 +6,7 @@ use Rattle.kanal_core.specs.Waiters.{waiter_of, with_w}
 use Rattle.kanal_core.specs.declared.internal.outcome.Ticket.{Ticket}
 use Rattle.kanal_core.specs.declared.internal.outcome.Waiter.{Waiter}
 use Rattle.kanal_history.specs.declared.history.History.{Ghosts}
-use Rattle.kanal_channel.specs.declared.seat.Seat.{Seat}
+use Rattle.kanal_state.specs.declared.seat.Seat.{Seat}
 
 module _ {T H P B S C : Type 0} {G : Ghosts H T P B S C} where
   -- the waker that a seat's settling will wake

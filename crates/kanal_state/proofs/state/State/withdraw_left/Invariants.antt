@@ -1,5 +1,5 @@
 use Rattle.std.proofs.Common.{◌≤◌, length}
-use Rattle.kanal_channel.proofs.state.State.withdraw_left.Given as goal
+use Rattle.kanal_state.proofs.state.State.withdraw_left.Given as goal
 
 -- at most one is kept a round
 abbrev pub invariant-loop-count : goal.invariant-loop-count

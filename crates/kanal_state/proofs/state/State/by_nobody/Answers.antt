@@ -1,7 +1,7 @@
 use Rattle.kanal_core.specs.Channel.{line_of}
-use Rattle.kanal_channel.proofs.Noting.{drop_on}
-use Rattle.kanal_channel.proofs.Settling.{all_shown, made_settled}
-use Rattle.kanal_channel.proofs.state.State.by_nobody.Goals as goal
+use Rattle.kanal_state.proofs.Noting.{drop_on}
+use Rattle.kanal_state.proofs.Settling.{all_shown, made_settled}
+use Rattle.kanal_state.proofs.state.State.by_nobody.Goals as goal
 
 pub append_silent-requires : goal.append_silent-requires
 append_silent-requires g c =

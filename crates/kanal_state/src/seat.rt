@@ -6,7 +6,7 @@
 ghost use Rattle.std.specs.Prelude.{◌≡◌, ◌<◌, ◌^◌, suc, length};
 ghost use Rattle.kanal_cell.specs.CellRule.{HasNotSettled};
 ghost use Rattle.kanal_cell.specs.CellEnds.{settle_view};
-ghost use Rattle.kanal_channel.specs.Renewing.{Swaps};
+ghost use Rattle.kanal_state.specs.Renewing.{Swaps};
 
 mod room;
 

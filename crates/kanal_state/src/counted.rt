@@ -11,7 +11,7 @@ ghost use Rattle.kanal_core.specs.Waiters.{IsPlaced};
 ghost use Rattle.kanal_events.specs.Made.{not_waiting};
 ghost use Rattle.kanal_events.specs.Steps.{Tells};
 ghost use Rattle.kanal_history.specs.Entries.{call_from, withdrawal};
-ghost use Rattle.kanal_channel.specs.Counts.{gone_receivers, gone_senders, has_receiver, has_sender, has_wait, ticket_of};
+ghost use Rattle.kanal_state.specs.Counts.{are_sought, gone_receivers, gone_senders, has_receiver, has_sender, has_wait, ticket_of};
 
 use crate::delivered::Delivered;
 use crate::seat::Core;
@@ -72,7 +72,13 @@ impl Drop for CountedReceiver {
 
 impl CountedSender {
     /// One sender more.
-    pub(crate) fn new() -> Self {
+    ///
+    /// # Examples
+    /// ```text
+    /// let counted = CountedSender::new();
+    /// shared.drop_sender(counted);
+    /// ```
+    pub fn new() -> Self {
         CountedSender { stands: stands() }
     }
 
@@ -101,7 +107,13 @@ impl CountedSender {
 
 impl CountedReceiver {
     /// One receiver more.
-    pub(crate) fn new() -> Self {
+    ///
+    /// # Examples
+    /// ```text
+    /// let counted = CountedReceiver::new();
+    /// shared.drop_receiver(counted);
+    /// ```
+    pub fn new() -> Self {
         CountedReceiver { stands: stands() }
     }
 
@@ -207,7 +219,7 @@ impl CountedWait {
 }
 
 /// Senders that went away while the lock was held: each has to be counted out.
-pub(crate) struct GoneSenders {
+pub struct GoneSenders {
     count: u64,
 }
 
@@ -240,7 +252,7 @@ impl GoneSenders {
 }
 
 /// Receivers that went away while the lock was held: each has to be counted out.
-pub(crate) struct GoneReceivers {
+pub struct GoneReceivers {
     count: u64,
 }
 
@@ -273,13 +285,13 @@ impl GoneReceivers {
 }
 
 /// Waits that were left while the lock was held: they have to be sought and withdrawn.
-pub(crate) struct GoneWaits {
+pub struct GoneWaits {
     are_sought: bool,
 }
 
 impl Drop for GoneWaits {
     fn drop(self)
-        requires sought { self.are_sought ≡ true }
+        requires sought { are_sought self ≡ true }
     {
         let GoneWaits {
             are_sought: _are_sought,
@@ -298,31 +310,51 @@ impl GoneWaits {
 
 /// How many waits were left while the lock was held.
 #[derive(Drop)]
-pub(crate) struct WaitNotices {
+pub struct WaitNotices {
     count: AtomicU64,
 }
 
 impl WaitNotices {
     /// None.
-    pub(crate) fn new() -> Self {
+    ///
+    /// # Examples
+    /// ```text
+    /// WaitNotices::new().count()   answers  0
+    /// ```
+    pub fn new() -> Self {
         WaitNotices {
             count: AtomicU64::new(0),
         }
     }
 
     /// Counts the wait out into the notices.
-    pub(crate) fn add(&self, counted: CountedWait) {
+    ///
+    /// # Examples
+    /// ```text
+    /// notices.add(counted);
+    /// ```
+    pub fn add(&self, counted: CountedWait) {
         counted.notice();
         self.count.fetch_add(1, SeqCst);
     }
 
     /// How many there are.
-    pub(crate) fn count(&self) -> u64 {
+    ///
+    /// # Examples
+    /// ```text
+    /// notices.count()   answers  1   after `add`
+    /// ```
+    pub fn count(&self) -> u64 {
         self.count.load(SeqCst)
     }
 
     /// Takes all of them, if there are some.
-    pub(crate) fn take(&self) -> Option<GoneWaits> {
+    ///
+    /// # Examples
+    /// ```text
+    /// notices.take()   answers  None   where nothing was added
+    /// ```
+    pub fn take(&self) -> Option<GoneWaits> {
         if emptied(&self.count) == 0 {
             return None;
         }
@@ -332,18 +364,23 @@ impl WaitNotices {
 
 /// How many senders went away while the lock was held.
 #[derive(Drop)]
-pub(crate) struct SenderNotices {
+pub struct SenderNotices {
     count: AtomicU64,
 }
 
 /// How many receivers went away while the lock was held.
 #[derive(Drop)]
-pub(crate) struct ReceiverNotices {
+pub struct ReceiverNotices {
     count: AtomicU64,
 }
 
 /// Empties the counter, which is only written where it is not empty.
-pub(crate) fn emptied(counter: &AtomicU64) -> u64 {
+///
+/// # Examples
+/// ```text
+/// emptied(&counter)   answers  what it held, which is 0 from then on
+/// ```
+pub fn emptied(counter: &AtomicU64) -> u64 {
     if counter.load(SeqCst) == 0 {
         return 0;
     }
@@ -352,27 +389,47 @@ pub(crate) fn emptied(counter: &AtomicU64) -> u64 {
 
 impl SenderNotices {
     /// None.
-    pub(crate) fn new() -> Self {
+    ///
+    /// # Examples
+    /// ```text
+    /// let notices = SenderNotices::new();
+    /// ```
+    pub fn new() -> Self {
         SenderNotices {
             count: AtomicU64::new(0),
         }
     }
 
     /// Counts the sender out into the notices.
-    pub(crate) fn add(&self, counted: CountedSender) {
+    ///
+    /// # Examples
+    /// ```text
+    /// notices.add(counted);
+    /// ```
+    pub fn add(&self, counted: CountedSender) {
         counted.notice();
         self.count.fetch_add(1, SeqCst);
     }
 
     /// Takes all of them.
-    pub(crate) fn take(&self) -> GoneSenders {
+    ///
+    /// # Examples
+    /// ```text
+    /// let (ended, rest) = state.drop_senders(board, notices.take());
+    /// ```
+    pub fn take(&self) -> GoneSenders {
         GoneSenders {
             count: emptied(&self.count),
         }
     }
 
     /// Puts back those that were not counted out.
-    pub(crate) fn put_back(&self, gone: GoneSenders) {
+    ///
+    /// # Examples
+    /// ```text
+    /// notices.put_back(rest);
+    /// ```
+    pub fn put_back(&self, gone: GoneSenders) {
         let count = gone.into_count();
         if count > 0 {
             self.count.fetch_add(count, SeqCst);
@@ -382,27 +439,47 @@ impl SenderNotices {
 
 impl ReceiverNotices {
     /// None.
-    pub(crate) fn new() -> Self {
+    ///
+    /// # Examples
+    /// ```text
+    /// let notices = ReceiverNotices::new();
+    /// ```
+    pub fn new() -> Self {
         ReceiverNotices {
             count: AtomicU64::new(0),
         }
     }
 
     /// Counts the receiver out into the notices.
-    pub(crate) fn add(&self, counted: CountedReceiver) {
+    ///
+    /// # Examples
+    /// ```text
+    /// notices.add(counted);
+    /// ```
+    pub fn add(&self, counted: CountedReceiver) {
         counted.notice();
         self.count.fetch_add(1, SeqCst);
     }
 
     /// Takes all of them.
-    pub(crate) fn take(&self) -> GoneReceivers {
+    ///
+    /// # Examples
+    /// ```text
+    /// let (ended, rest) = state.drop_receivers(board, notices.take());
+    /// ```
+    pub fn take(&self) -> GoneReceivers {
         GoneReceivers {
             count: emptied(&self.count),
         }
     }
 
     /// Puts back those that were not counted out.
-    pub(crate) fn put_back(&self, gone: GoneReceivers) {
+    ///
+    /// # Examples
+    /// ```text
+    /// notices.put_back(rest);
+    /// ```
+    pub fn put_back(&self, gone: GoneReceivers) {
         let count = gone.into_count();
         if count > 0 {
             self.count.fetch_add(count, SeqCst);

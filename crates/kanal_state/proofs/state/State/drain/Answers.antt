@@ -2,7 +2,7 @@ use Rattle.std.proofs.Common.{sym, subst}
 use Rattle.kanal_core.specs.Channel.{line_of}
 use Rattle.kanal_events.specs.Made.{told_of}
 use Rattle.kanal_events.specs.Steps.{Tells}
-use Rattle.kanal_channel.proofs.state.State.drain.Goals as goal
+use Rattle.kanal_state.proofs.state.State.drain.Goals as goal
 
 pub note_made-requires : goal.note_made-requires
 note_made-requires g c =

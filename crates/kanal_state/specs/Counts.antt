@@ -1,11 +1,12 @@
 -- That a handle is counted, and that a future waits.
 use Rattle.std.specs.Prelude.{Bool, true, false, ℕ, List, [], ◌∷◌, Result, Ok, Err}
-use Rattle.kanal_channel.specs.declared.counted.CountedReceiver.{CountedReceiver}
-use Rattle.kanal_channel.specs.declared.counted.CountedSender.{CountedSender}
+use Rattle.kanal_state.specs.declared.counted.CountedReceiver.{CountedReceiver}
+use Rattle.kanal_state.specs.declared.counted.CountedSender.{CountedSender}
 use Rattle.kanal_core.specs.declared.internal.outcome.Ticket.{Ticket}
-use Rattle.kanal_channel.specs.declared.counted.CountedWait.{CountedWait}
-use Rattle.kanal_channel.specs.declared.counted.GoneReceivers.{GoneReceivers}
-use Rattle.kanal_channel.specs.declared.counted.GoneSenders.{GoneSenders}
+use Rattle.kanal_state.specs.declared.counted.CountedWait.{CountedWait}
+use Rattle.kanal_state.specs.declared.counted.GoneReceivers.{GoneReceivers}
+use Rattle.kanal_state.specs.declared.counted.GoneSenders.{GoneSenders}
+use Rattle.kanal_state.specs.declared.counted.GoneWaits.{GoneWaits}
 
 -- the tag of which a token is made says that it has to be counted out
 abbrev pub stands : List ℕ → Bool
@@ -35,6 +36,10 @@ gone_senders gone = gone.count
 -- how many receivers still have to be counted out
 abbrev pub gone_receivers : GoneReceivers → ℕ
 gone_receivers gone = gone.count
+
+-- whether the waits that were left are sought
+abbrev pub are_sought : GoneWaits → Bool
+are_sought gone = gone.are_sought
 
 -- whether one more was counted, and why not
 abbrev pub whether_counted : {A E : Type 0} → Result A E → Result (Unit {0}) E

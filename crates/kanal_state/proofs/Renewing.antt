@@ -10,8 +10,8 @@ use Rattle.kanal_core.specs.Channel.{Channel, line_of, entry_of, demand_of}
 use Rattle.kanal_core.specs.Line.{bare}
 use Rattle.kanal_core.specs.Waiters.{same_ticket, waiter_of, with_w}
 use Rattle.kanal_history.specs.declared.history.History.{Ghosts}
-use Rattle.kanal_channel.specs.Renewing.{Renews, Swaps}
-use Rattle.kanal_channel.specs.declared.seat.Seat.{Seat}
+use Rattle.kanal_state.specs.Renewing.{Renews, Swaps}
+use Rattle.kanal_state.specs.declared.seat.Seat.{Seat}
 
 module _ {T W : Type 0} where
   -- what is read of waiters without their W is read alike where one has another W

@@ -31,7 +31,7 @@ use std::snapshot::Snapshot;
 const MOST: u64 = 1 << 62;
 
 /// What the drop of a last handle ended, with what was seen of it. It has to be told.
-pub(crate) struct Gone<T, H: History<T>> {
+pub struct Gone<T, H: History<T>> {
     made: Made<T, Seat<T, H>>,
     prefix: H::Prefix,
 }
@@ -49,7 +49,12 @@ impl<T, H: History<T>> Model for Gone<T, H> {
 
 impl<T: Drop, H: History<T>> Gone<T, H> {
     /// What was made, and what was seen of it.
-    pub(crate) fn into_parts(self) -> (Made<T, Seat<T, H>>, H::Prefix)
+    ///
+    /// # Examples
+    /// ```text
+    /// let (made, prefix) = gone.into_parts();
+    /// ```
+    pub fn into_parts(self) -> (Made<T, Seat<T, H>>, H::Prefix)
         ensures seen { HaveShown H.shows result.1 (settled_of result.0) }
     {
         let Gone { made, prefix } = self;
@@ -107,7 +112,12 @@ impl<T: Drop, H: History<T>> State<T, H> {
     }
 
     /// Takes this wait back, if it still waits, as a call of nobody's.
-    pub(crate) fn leave(
+    ///
+    /// # Examples
+    /// ```text
+    /// locked.state.leave(board, counted)   answers  None   where its wait was settled
+    /// ```
+    pub fn leave(
         &mut self,
         board: &H::Board,
         counted: CountedWait,
@@ -160,23 +170,34 @@ impl<T: Drop, H: History<T>> State<T, H> {
     }
 
     /// Makes the drop of this sender; what that ended, with what was seen of it.
-    pub(crate) fn drop_sender(&mut self, board: &H::Board, counted: CountedSender) -> Gone<T, H> {
+    ///
+    /// # Examples
+    /// ```text
+    /// let gone = locked.state.drop_sender(board, counted);
+    /// ```
+    pub fn drop_sender(&mut self, board: &H::Board, counted: CountedSender) -> Gone<T, H> {
         let (made, prefix) = self.sender_out(board, counted);
         Gone { made, prefix }
     }
 
     /// Makes the drop of this receiver; what that ended, with what was seen of it.
-    pub(crate) fn drop_receiver(
-        &mut self,
-        board: &H::Board,
-        counted: CountedReceiver,
-    ) -> Gone<T, H> {
+    ///
+    /// # Examples
+    /// ```text
+    /// let gone = locked.state.drop_receiver(board, counted);
+    /// ```
+    pub fn drop_receiver(&mut self, board: &H::Board, counted: CountedReceiver) -> Gone<T, H> {
         let (made, prefix) = self.receiver_out(board, counted);
         Gone { made, prefix }
     }
 
     /// What makes the calls of nobody's as it is now, for proofs alone.
-    pub(crate) fn cleanup(&self) -> Snapshot<H::Cleanup>
+    ///
+    /// # Examples
+    /// ```text
+    /// let before = locked.state.cleanup();
+    /// ```
+    pub fn cleanup(&self) -> Snapshot<H::Cleanup>
         ensures { result.value ≡ self.now.0 }
     {
         Snapshot::of(&self.cleanup)
@@ -184,7 +205,12 @@ impl<T: Drop, H: History<T>> State<T, H> {
 
     /// Makes the drops of these senders until the last one's; what that ended, with what was seen of it, and
     /// those that are left.
-    pub(crate) fn drop_senders(
+    ///
+    /// # Examples
+    /// ```text
+    /// let (ended, rest) = locked.state.drop_senders(board, notices.take());
+    /// ```
+    pub fn drop_senders(
         &mut self,
         board: &H::Board,
         gone: GoneSenders,
@@ -203,7 +229,12 @@ impl<T: Drop, H: History<T>> State<T, H> {
 
     /// Makes the drops of these receivers until the last one's; what that ended, with what was seen of it, and
     /// those that are left.
-    pub(crate) fn drop_receivers(
+    ///
+    /// # Examples
+    /// ```text
+    /// let (ended, rest) = locked.state.drop_receivers(board, notices.take());
+    /// ```
+    pub fn drop_receivers(
         &mut self,
         board: &H::Board,
         gone: GoneReceivers,
@@ -222,7 +253,12 @@ impl<T: Drop, H: History<T>> State<T, H> {
 
     /// Withdraws all waits that were left, and hands out their entries, the last that left first. It asks for
     /// no memory: each is kept in the room that its seat brought.
-    pub(crate) fn withdraw_left(
+    ///
+    /// # Examples
+    /// ```text
+    /// let leavers = locked.state.withdraw_left(board, alloc, waits);
+    /// ```
+    pub fn withdraw_left(
         &mut self,
         board: &H::Board,
         alloc: Global,

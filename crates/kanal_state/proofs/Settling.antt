@@ -1,4 +1,4 @@
--- What passes tell of a call that was noted, one that waited, and one that began where the pass had looked.
+-- What passes tell of a call that was noted, of one that waited, and of one that was made where the pass had looked.
 use Rattle.std.proofs.Common.{◌≡◌, ℕ, Bool, true, false, true≢false, Option, Some, List, [], ◌∷◌, Result, Ok, Err, refl, ap, sym, ◌∙◌, inl, inr, subst}
 use Rattle.std.proofs.lemmas.Bool.{cases_Bool}
 use Rattle.kanal_core.specs.declared.internal.outcome.Outcome.{Outcome}
@@ -20,9 +20,6 @@ use Rattle.kanal_history.specs.Calls.{IsIn, IsTold}
 use Rattle.kanal_events.specs.Made.{settled_of, reply_of}
 use Rattle.kanal_history.specs.Entries.{MayLack, call_from, entry, fetched_receipt, handed_entry, receipt, tried_entry, tried_receipt}
 use Rattle.kanal_history.specs.Words.{Words, AreSound, HaveSettled, HaveShown}
-use Rattle.kanal_channel.specs.declared.blocking.Begun.{Begun}
-use Rattle.kanal_channel.specs.declared.blocking.Begun.TheVariants.{Replied as BegunReplied, Waits as BegunWaits, Lacking as BegunLacking}
-use Rattle.kanal_channel.specs.Starts.{HasBegun}
 use Rattle.kanal_history.specs.Handles.{TriesToReceive, TriesToSend}
 use Rattle.kanal_history.specs.Makes.{Lacks, IsReplied, HasWaited, IsKept, IsNoted, IsAnswered, HasReplied, Finishes, Comes, SeesWait}
 use Rattle.kanal_history.specs.Results.{received_after, received_by, sent_after, sent_by}
@@ -87,15 +84,6 @@ module _ {T P : Type 0} (w : Words T P) (sound : AreSound w) where
   -- a call for which there was no memory, and that the pass has seen must wait
   pub lacks_wait : (old new : P) (event : Event T) → w.looks old new → SeesWait w new event → Lacks w old new event
   lacks_wait old new event looks sees = record { looks = looks; line = sees.line; ends = sees.ends; may = inr sees.must }
-
-  begun-on : {H B S C : Type 0} (old mid new : P) (event : Event T) (begun : Begun T H P B S C) → w.looks old mid → HasBegun w mid new event begun → HasBegun w old new event begun
-  begun-on old mid new event (BegunReplied reply) looks c = (answered-from old mid new event reply looks c.0, c.1)
-  begun-on old mid new event (BegunWaits ticket waiting) looks c = replied-from old mid new event (λ reply. reply) _ looks c
-  begun-on old mid new event (BegunLacking back) looks c = (c.0, lacks-from old mid new event looks c.1)
-
-  -- what the start of a wait came to that began where the pass had looked
-  pub begun_from : {H B S C : Type 0} (old mid new : P) (event back : Event T) (begun : Begun T H P B S C) → back ≡ event → w.looks old mid → HasBegun w mid new back begun → HasBegun w old new event begun
-  begun_from old mid new event back begun same looks c = subst (λ e. HasBegun w old new e begun) same (begun-on old mid new back begun looks c)
 
 module _ {T P : Type 0} (w : Words T P) where
   -- what shows each settlement that a pass has seen shows all

@@ -64,9 +64,14 @@ impl<T: Drop, H: History<T>> Shared<T, H> {
         requires core { H.stands history (line_of core) }
     {
         let places = core.capacity();
+        Shared::round(State::new(core, history, cleanup), places, board, alloc)
+    }
+
+    /// A free lock round this state, of which so many messages may lie in the buffer, and no notices.
+    fn round(state: State<T, H>, places: usize, board: H::Board, alloc: Global) -> Self {
         Shared {
             board,
-            state: Mutex::new(State::new(core, history, cleanup)),
+            state: Mutex::new(state),
             alloc,
             has_buffer: places > 0,
             policy: WaitPolicy::new(places),
@@ -77,7 +82,7 @@ impl<T: Drop, H: History<T>> Shared<T, H> {
         }
     }
 
-    /// The same, for handles: this alone makes the tokens of a channel's first sender and first receiver.
+    /// The same, for handles: it takes the tokens of the channel's first sender and first receiver.
     ///
     /// # Errors
     /// `NoMemory` where there is no memory for the channel.
@@ -96,14 +101,17 @@ impl<T: Drop, H: History<T>> Shared<T, H> {
         requires core { H.stands history (line_of core) }
         ensures large { IsErrOf result NewError.TooLarge → ⊥ }
     {
-        let shared = Shared::new(core, history, cleanup, board, alloc);
+        let places = core.capacity();
+        let (state, first) = State::with_handles(core, history, cleanup);
+        let shared = Shared::round(state, places, board, alloc);
         let Ok(one) = Arc::new(alloc, shared) else {
             return Err(NewError::NoMemory);
         };
         let Ok(other) = Arc::try_clone(&one) else {
             return Err(NewError::NoMemory);
         };
-        Ok(((one, CountedSender::new()), (other, CountedReceiver::new())))
+        let (sender, receiver) = first.into_tokens();
+        Ok(((one, sender), (other, receiver)))
     }
 
     /// What all who share the channel share of what is kept of its calls.

@@ -15,6 +15,7 @@ use kanal_core::error::{CloseError, TooMany};
 use kanal_events::event::{Ask, Event, Reply, Side};
 use kanal_history::History;
 use kanal_state::{CountedReceiver, CountedSender};
+use std::snapshot::Snapshot;
 use std::sync::Wait;
 
 impl<T: Drop, H: History<T>> Shared<T, H> {
@@ -103,8 +104,9 @@ impl<T: Drop, H: History<T>> Shared<T, H> {
     ) -> Result<CountedSender, TooMany>
         ensures counted { CountsSender H.words pass.old pass.new (whether_counted result) }
     {
+        let before = Snapshot::of(pass);
         self.add_sender(rt, pass)?;
-        Ok(CountedSender::new())
+        Ok(CountedSender::count_in::<T, H>(&before, pass))
     }
 
     /// Counts one more receiver, for a handle: the token has to be counted out when the handle goes.
@@ -124,8 +126,9 @@ impl<T: Drop, H: History<T>> Shared<T, H> {
     ) -> Result<CountedReceiver, TooMany>
         ensures counted { CountsReceiver H.words pass.old pass.new (whether_counted result) }
     {
+        let before = Snapshot::of(pass);
         self.add_receiver(rt, pass)?;
-        Ok(CountedReceiver::new())
+        Ok(CountedReceiver::count_in::<T, H>(&before, pass))
     }
 
     /// Counts one sender less; with the last one all that wait end, as `SendClosed`. Where none was left

@@ -3,14 +3,15 @@
 //! Stands on the kit's tag. The prover refuses to let one go. A sender's is counted out by evidence that its
 //! drop was made as a call of nobody's, or into the notices of its own kind. Who takes the notices
 //! has the tokens again: each of those that left by notice is counted out by a call, or put back. Nothing
-//! else makes a token but a new channel and a call that counts one more.
-ghost use Rattle.std.specs.Prelude.{◌≡◌, ◌<◌, true, false, IfNone, IfSome};
+//! else makes a handle's token but a new channel, and evidence that a call of a pass counted one more.
+ghost use Rattle.std.specs.Prelude.{◌≡◌, ◌<◌, true, false, Ok, IfNone, IfSome};
 ghost use Rattle.kanal_core.specs.Tickets.{number_of};
 ghost use Rattle.kanal_core.specs.Channel.{line_of};
 ghost use Rattle.kanal_core.specs.Waiters.{IsPlaced};
 ghost use Rattle.kanal_events.specs.Made.{not_waiting};
 ghost use Rattle.kanal_events.specs.Steps.{Tells};
 ghost use Rattle.kanal_history.specs.Entries.{call_from, withdrawal};
+ghost use Rattle.kanal_history.specs.Handles.{CountsReceiver, CountsSender};
 ghost use Rattle.kanal_state.specs.Counts.{are_sought, gone_receivers, gone_senders, has_receiver, has_sender, has_wait, ticket_of};
 
 use crate::delivered::Delivered;
@@ -72,14 +73,24 @@ impl Drop for CountedReceiver {
 
 impl CountedSender {
     /// One sender more.
+    fn new() -> Self {
+        CountedSender { stands: stands() }
+    }
+
+    /// Counts a sender in: a call of this pass counted one more.
     ///
     /// # Examples
     /// ```text
-    /// let counted = CountedSender::new();
-    /// shared.drop_sender(counted);
+    /// let before = Snapshot::of(pass);
+    /// shared.add_sender(&rt, pass)?;
+    /// let counted = CountedSender::count_in::<T, H>(&before, pass);
     /// ```
-    pub fn new() -> Self {
-        CountedSender { stands: stands() }
+    pub fn count_in<T, H: History<T>>(before: &Snapshot<H::Pass>, after: &H::Pass) -> Self
+        requires made { CountsSender H.words before.now.value after.now (Ok tt) }
+    {
+        let _ = before;
+        let _ = after;
+        CountedSender::new()
     }
 
     /// Counts the sender out into the notices of its kind, which alone call this.
@@ -107,14 +118,24 @@ impl CountedSender {
 
 impl CountedReceiver {
     /// One receiver more.
+    fn new() -> Self {
+        CountedReceiver { stands: stands() }
+    }
+
+    /// Counts a receiver in: a call of this pass counted one more.
     ///
     /// # Examples
     /// ```text
-    /// let counted = CountedReceiver::new();
-    /// shared.drop_receiver(counted);
+    /// let before = Snapshot::of(pass);
+    /// shared.add_receiver(&rt, pass)?;
+    /// let counted = CountedReceiver::count_in::<T, H>(&before, pass);
     /// ```
-    pub fn new() -> Self {
-        CountedReceiver { stands: stands() }
+    pub fn count_in<T, H: History<T>>(before: &Snapshot<H::Pass>, after: &H::Pass) -> Self
+        requires made { CountsReceiver H.words before.now.value after.now (Ok tt) }
+    {
+        let _ = before;
+        let _ = after;
+        CountedReceiver::new()
     }
 
     /// Counts the receiver out into the notices of its kind, which alone call this.
@@ -137,6 +158,28 @@ impl CountedReceiver {
         let _ = after;
         let _ = made;
         drop(stands);
+    }
+}
+
+/// That the core under a new lock counts one sender and one receiver, for which nobody stands yet.
+#[derive(Drop)]
+pub struct FirstHandles(());
+
+impl FirstHandles {
+    /// That of a new lock, which alone calls this.
+    pub(crate) fn new() -> Self {
+        FirstHandles(())
+    }
+
+    /// The tokens of both.
+    ///
+    /// # Examples
+    /// ```text
+    /// let (sender, receiver) = first.into_tokens();
+    /// ```
+    pub fn into_tokens(self) -> (CountedSender, CountedReceiver) {
+        let FirstHandles(()) = self;
+        (CountedSender::new(), CountedReceiver::new())
     }
 }
 

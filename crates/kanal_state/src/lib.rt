@@ -13,8 +13,8 @@ mod seat;
 mod state;
 
 pub use counted::{
-    CountedReceiver, CountedSender, CountedWait, GoneReceivers, GoneSenders, GoneWaits,
-    ReceiverNotices, SenderNotices, WaitNotices, emptied,
+    CountedReceiver, CountedSender, CountedWait, FirstHandles, GoneReceivers, GoneSenders,
+    GoneWaits, ReceiverNotices, SenderNotices, WaitNotices, emptied,
 };
 pub use delivered::Delivered;
 pub use seat::{Core, Leavers, Seat};

@@ -20,6 +20,7 @@ ghost use Rattle.kanal_state.specs.Renewing.{Renews};
 mod keeping;
 mod leaving;
 
+use crate::counted::FirstHandles;
 use crate::delivered::Delivered;
 use crate::seat::{Core, Seat};
 use futures::task::Waker;
@@ -121,6 +122,22 @@ impl<T: Drop, H: History<T>> State<T, H> {
             history,
             cleanup,
         }
+    }
+
+    /// The same, for handles: with that of the core's first sender and first receiver.
+    ///
+    /// # Examples
+    /// ```text
+    /// let (state, first) = State::with_handles(core, NoHistory, ());
+    /// ```
+    pub fn with_handles(
+        core: Core<T, H>,
+        history: H,
+        cleanup: H::Cleanup,
+    ) -> (State<T, H>, FirstHandles)
+        requires core { H.stands history (line_of core) }
+    {
+        (State::new(core, history, cleanup), FirstHandles::new())
     }
 
     /// Makes a call that never waits.

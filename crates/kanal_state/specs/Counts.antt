@@ -4,9 +4,9 @@ use Rattle.kanal_state.specs.declared.counted.CountedReceiver.{CountedReceiver}
 use Rattle.kanal_state.specs.declared.counted.CountedSender.{CountedSender}
 use Rattle.kanal_core.specs.declared.internal.outcome.Ticket.{Ticket}
 use Rattle.kanal_state.specs.declared.counted.CountedWait.{CountedWait}
-use Rattle.kanal_state.specs.declared.counted.GoneReceivers.{GoneReceivers}
-use Rattle.kanal_state.specs.declared.counted.GoneSenders.{GoneSenders}
-use Rattle.kanal_state.specs.declared.counted.GoneWaits.{GoneWaits}
+use Rattle.kanal_state.specs.declared.counted.notices.GoneReceivers.{GoneReceivers}
+use Rattle.kanal_state.specs.declared.counted.notices.GoneSenders.{GoneSenders}
+use Rattle.kanal_state.specs.declared.counted.notices.GoneWaits.{GoneWaits}
 
 -- the tag of which a token is made says that it has to be counted out
 abbrev pub stands : List ℕ → Bool

@@ -4,13 +4,13 @@
 //! `kanal_history`, `specs/Results`: nothing else of this crate reads a reply. A message that a reply gives
 //! back is dropped, but for the forms that are lent an option.
 ghost use Rattle.std.specs.Prelude.{◌≡◌, None};
-ghost use Rattle.kanal_history.specs.Results.{asked_by, back_after, back_by, closed_by, counted_by, drained_by, entered_by, flag_by, receive_error, receive_in_time, received_after, received_by, send_error, send_in_time, sent_after, sent_by, timed_receive_error, timed_received_after, timed_received_by, timed_send_error, timed_sent_after, timed_sent_by};
+ghost use Rattle.kanal_history.specs.Results.{asked_by, back_after, back_by, closed_by, drained_by, entered_by, flag_by, receive_error, receive_in_time, received_after, received_by, send_error, send_in_time, sent_after, sent_by, timed_receive_error, timed_received_after, timed_received_by, timed_send_error, timed_sent_after, timed_sent_by};
 ghost use Rattle.kanal_history.specs.Results.{count_by, number_by};
 ghost use Rattle.kanal_channel.specs.Deadlines.{answer_in_time, back_in_time};
 
 use crate::timed::Timed;
 use kanal_core::error::{
-    CloseError, ReceiveError, ReceiveErrorTimeout, SendError, SendErrorTimeout, TooMany,
+    CloseError, ReceiveError, ReceiveErrorTimeout, SendError, SendErrorTimeout,
 };
 use kanal_core::internal::{Outcome, Reason};
 use kanal_events::event::{Refusal, Reply};
@@ -289,16 +289,6 @@ pub(crate) fn closed_by<T: Drop>(reply: Reply<T>) -> Result<(), CloseError>
         Reply::Done => Ok(()),
         Reply::Cleared(_) => Ok(()),
         _ => Err(CloseError()),
-    }
-}
-
-/// Whether one more was counted.
-pub(crate) fn counted_by<T: Drop>(reply: Reply<T>) -> Result<(), TooMany>
-    ensures { result ≡ counted_by reply }
-{
-    match reply {
-        Reply::Done => Ok(()),
-        _ => Err(TooMany),
     }
 }
 

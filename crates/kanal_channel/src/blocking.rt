@@ -3,10 +3,11 @@
 //! Stands on the lock as a token, on what settles a wait and on how a blocked call waits. A call takes the
 //! lock, makes one step on the state, gives the lock back, and only then tells those whose waits it settled,
 //! and drops what it cleared.
-ghost use Rattle.std.specs.Prelude.{◌≡◌, IfErr, IfOk, true};
+ghost use Rattle.std.specs.Prelude.{◌≡◌, IfErr, IfOk, false, true};
 ghost use Rattle.kanal_events.specs.Made.{MustWait, is_plain, made_of, may_wait, owed_by, reply_of, settled_of};
 ghost use Rattle.kanal_history.specs.Makes.{HasReplied, IsAnswered, SeesWait};
 ghost use Rattle.kanal_history.specs.Words.{HaveSettled, HaveShown};
+ghost use Rattle.kanal_state.specs.Counts.{counts_handle};
 ghost use Rattle.kanal_channel.specs.Locks.{IsQuiet, line_under};
 ghost use Rattle.kanal_channel.specs.Starts.{HasBegun, HasCome};
 
@@ -171,9 +172,10 @@ impl<T: Drop, H: History<T>> Shared<T, H> {
         reply
     }
 
-    /// Makes a call that never waits for the other side.
+    /// Makes a call that never waits for the other side, and counts no handle.
     pub(crate) fn call<R: Wait>(&self, rt: &R, pass: &mut H::Pass, event: Event<T>) -> Reply<T>
         requires plain { is_plain event ≡ true }
+        requires uncounted { counts_handle event ≡ false }
         ensures answered { IsAnswered H.words pass.old pass.new event result }
     {
         self.call_held(self.hold(rt), pass, event)
@@ -187,6 +189,7 @@ impl<T: Drop, H: History<T>> Shared<T, H> {
         event: Event<T>,
     ) -> Reply<T>
         requires plain { is_plain event ≡ true }
+        requires uncounted { counts_handle event ≡ false }
         requires quiet { IsQuiet locked }
         ensures answered { IsAnswered H.words pass.old pass.new event result }
     {

@@ -18,6 +18,8 @@ mod sides;
 mod timed;
 
 pub use answers::{received_after, received_by, sent_after, sent_by};
-pub use kanal_state::{Core, CountedReceiver, CountedSender, CountedWait, Delivered, Seat, State};
+pub use kanal_state::{
+    Core, CountedReceiver, CountedSender, CountedWait, Delivered, Seat, State, TellsCalls,
+};
 pub use kanal_waits::{Clock, SystemClock, TestClock, later};
 pub use shared::{Halves, Left, Locked, Shared};

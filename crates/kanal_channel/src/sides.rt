@@ -1,21 +1,20 @@
 //! The counts of both sides, what ends them, and the questions.
 //!
 //! Stands on `blocking`. Each call here is one event, and waits for the lock alone. A handle is counted by a
-//! token, which `count_sender` and `count_receiver` make; who calls by a pass without handles counts by
-//! `add_sender`, `drop_sender_by` and their likes.
+//! token, which `count_sender` and `count_receiver` give. Without tokens a caller counts by a pass that tells
+//! each call, and by no other: the plain pass of no content can't, so that a plain handle counts by tokens.
 ghost use Rattle.std.specs.Prelude.{◌≡◌};
 ghost use Rattle.kanal_history.specs.Handles.{Asks, AsksForTheEnd, Closes, CountsReceiver, CountsSender, Seals};
 ghost use Rattle.kanal_history.specs.Makes.{IsReplied};
-ghost use Rattle.kanal_history.specs.Results.{count_by, flag_by, number_by, unread};
-ghost use Rattle.kanal_state.specs.Counts.{whether_counted};
+ghost use Rattle.kanal_history.specs.Results.{count_by, counted_by, flag_by, number_by, unread};
+ghost use Rattle.kanal_state.specs.Counts.{one_less, one_more, whether_counted};
 
-use crate::answers::{closed_by, count_by, counted_by, flag_by, number_by};
+use crate::answers::{closed_by, count_by, flag_by, number_by};
 use crate::shared::Shared;
 use kanal_core::error::{CloseError, TooMany};
 use kanal_events::event::{Ask, Event, Reply, Side};
 use kanal_history::History;
-use kanal_state::{CountedReceiver, CountedSender};
-use std::snapshot::Snapshot;
+use kanal_state::{CountedReceiver, CountedSender, TellsCalls};
 use std::sync::Wait;
 
 impl<T: Drop, H: History<T>> Shared<T, H> {
@@ -55,42 +54,11 @@ impl<T: Drop, H: History<T>> Shared<T, H> {
         closed_by(self.call(rt, pass, Event::Seal))
     }
 
-    /// Counts one more sender. Where no sender is left it stays so, and the answer is `Ok`.
+    /// Counts one more sender, for a handle: the token has to be counted out when the handle goes.
+    /// Where no sender is left it stays so, and the answer is `Ok`.
     ///
     /// # Errors
     /// `TooMany` exactly where there are `u32::MAX` senders, and nothing changes.
-    ///
-    /// # Examples
-    /// ```text
-    /// shared.add_sender(&rt, &mut pass)   answers  Ok(())
-    /// ```
-    #[tactic(auto, using(kanal_state::proofs::Settling::free_replied))]
-    pub fn add_sender<R: Wait>(&self, rt: &R, pass: &mut H::Pass) -> Result<(), TooMany>
-        ensures counted { CountsSender H.words pass.old pass.new result }
-    {
-        counted_by(self.call(rt, pass, Event::CloneTx))
-    }
-
-    /// Counts one more receiver. Where no receiver is left it stays so, and the answer is `Ok`.
-    ///
-    /// # Errors
-    /// `TooMany` exactly where there are `u32::MAX` receivers, and nothing changes.
-    ///
-    /// # Examples
-    /// ```text
-    /// shared.add_receiver(&rt, &mut pass)   answers  Ok(())
-    /// ```
-    #[tactic(auto, using(kanal_state::proofs::Settling::free_replied))]
-    pub fn add_receiver<R: Wait>(&self, rt: &R, pass: &mut H::Pass) -> Result<(), TooMany>
-        ensures counted { CountsReceiver H.words pass.old pass.new result }
-    {
-        counted_by(self.call(rt, pass, Event::CloneRx))
-    }
-
-    /// Counts one more sender, for a handle: the token has to be counted out when the handle goes.
-    ///
-    /// # Errors
-    /// As `add_sender`.
     ///
     /// # Examples
     /// ```text
@@ -104,15 +72,17 @@ impl<T: Drop, H: History<T>> Shared<T, H> {
     ) -> Result<CountedSender, TooMany>
         ensures counted { CountsSender H.words pass.old pass.new (whether_counted result) }
     {
-        let before = Snapshot::of(pass);
-        self.add_sender(rt, pass)?;
-        Ok(CountedSender::count_in::<T, H>(&before, pass))
+        let mut locked = self.hold(rt);
+        let counted = locked.state.count_sender(&self.board, pass);
+        locked.give_back_quiet();
+        counted
     }
 
     /// Counts one more receiver, for a handle: the token has to be counted out when the handle goes.
+    /// Where no receiver is left it stays so, and the answer is `Ok`.
     ///
     /// # Errors
-    /// As `add_receiver`.
+    /// `TooMany` exactly where there are `u32::MAX` receivers, and nothing changes.
     ///
     /// # Examples
     /// ```text
@@ -126,39 +96,10 @@ impl<T: Drop, H: History<T>> Shared<T, H> {
     ) -> Result<CountedReceiver, TooMany>
         ensures counted { CountsReceiver H.words pass.old pass.new (whether_counted result) }
     {
-        let before = Snapshot::of(pass);
-        self.add_receiver(rt, pass)?;
-        Ok(CountedReceiver::count_in::<T, H>(&before, pass))
-    }
-
-    /// Counts one sender less; with the last one all that wait end, as `SendClosed`. Where none was left
-    /// nothing changes. It has no error.
-    ///
-    /// # Examples
-    /// ```text
-    /// shared.drop_sender_by(&rt, &mut pass);
-    /// shared.recv(&rt, &mut pass)   answers  Err(SendClosed)   where that was the last, and nothing is there
-    /// ```
-    #[tactic(auto, using(kanal_state::proofs::Settling::free_replied))]
-    pub fn drop_sender_by<R: Wait>(&self, rt: &R, pass: &mut H::Pass)
-        ensures dropped { IsReplied H.words pass.old pass.new Event.DropTx unread result }
-    {
-        self.call(rt, pass, Event::DropTx);
-    }
-
-    /// Counts one receiver less; with the last one all that wait end, as `ReceiveClosed`. Where none was
-    /// left nothing changes. It has no error.
-    ///
-    /// # Examples
-    /// ```text
-    /// shared.drop_receiver_by(&rt, &mut pass);
-    /// shared.send(&rt, &mut pass, 7)   answers  Err(ReceiveClosed)   where that was the last
-    /// ```
-    #[tactic(auto, using(kanal_state::proofs::Settling::free_replied))]
-    pub fn drop_receiver_by<R: Wait>(&self, rt: &R, pass: &mut H::Pass)
-        ensures dropped { IsReplied H.words pass.old pass.new Event.DropRx unread result }
-    {
-        self.call(rt, pass, Event::DropRx);
+        let mut locked = self.hold(rt);
+        let counted = locked.state.count_receiver(&self.board, pass);
+        locked.give_back_quiet();
+        counted
     }
 
     /// Asks a question through a side: the answer is a `Number` or a `Flag`.
@@ -230,5 +171,86 @@ impl<T: Drop, H: History<T>> Shared<T, H> {
         ensures asked { AsksForTheEnd H.words pass.old pass.new result }
     {
         flag_by(self.call(rt, pass, Event::Terminated))
+    }
+}
+
+impl<T: Drop, H: TellsCalls<T>> Shared<T, H> {
+    /// Counts one more sender, without a token, by a pass that tells each call. Where no sender is left it stays
+    /// so, and the answer is `Ok`.
+    ///
+    /// # Errors
+    /// `TooMany` exactly where there are `u32::MAX` senders, and nothing changes.
+    ///
+    /// # Examples
+    /// ```text
+    /// shared.add_sender(&rt, &mut pass)   answers  Ok(())
+    /// ```
+    pub fn add_sender<R: Wait>(&self, rt: &R, pass: &mut H::Pass) -> Result<(), TooMany>
+        ensures counted { CountsSender H.words pass.old pass.new result }
+    {
+        self.add(rt, pass, Side::Tx)
+    }
+
+    /// Counts one more receiver, without a token, by a pass that tells each call. Where no receiver is left it
+    /// stays so, and the answer is `Ok`.
+    ///
+    /// # Errors
+    /// `TooMany` exactly where there are `u32::MAX` receivers, and nothing changes.
+    ///
+    /// # Examples
+    /// ```text
+    /// shared.add_receiver(&rt, &mut pass)   answers  Ok(())
+    /// ```
+    pub fn add_receiver<R: Wait>(&self, rt: &R, pass: &mut H::Pass) -> Result<(), TooMany>
+        ensures counted { CountsReceiver H.words pass.old pass.new result }
+    {
+        self.add(rt, pass, Side::Rx)
+    }
+
+    /// Counts one sender less; with the last one all that wait end, as `SendClosed`. Where none was left
+    /// nothing changes. It has no error.
+    ///
+    /// # Examples
+    /// ```text
+    /// shared.drop_sender_by(&rt, &mut pass);
+    /// shared.recv(&rt, &mut pass)   answers  Err(SendClosed)   where that was the last, and nothing is there
+    /// ```
+    pub fn drop_sender_by<R: Wait>(&self, rt: &R, pass: &mut H::Pass)
+        ensures dropped { IsReplied H.words pass.old pass.new Event.DropTx unread result }
+    {
+        self.drop_by(rt, pass, Side::Tx);
+    }
+
+    /// Counts one receiver less; with the last one all that wait end, as `ReceiveClosed`. Where none was
+    /// left nothing changes. It has no error.
+    ///
+    /// # Examples
+    /// ```text
+    /// shared.drop_receiver_by(&rt, &mut pass);
+    /// shared.send(&rt, &mut pass, 7)   answers  Err(ReceiveClosed)   where that was the last
+    /// ```
+    pub fn drop_receiver_by<R: Wait>(&self, rt: &R, pass: &mut H::Pass)
+        ensures dropped { IsReplied H.words pass.old pass.new Event.DropRx unread result }
+    {
+        self.drop_by(rt, pass, Side::Rx);
+    }
+
+    /// Counts one more of a side.
+    fn add<R: Wait>(&self, rt: &R, pass: &mut H::Pass, side: Side) -> Result<(), TooMany>
+        ensures counted { IsReplied H.words pass.old pass.new (one_more side) counted_by result }
+    {
+        let mut locked = self.hold(rt);
+        let counted = locked.state.add(&self.board, pass, side);
+        locked.give_back_quiet();
+        counted
+    }
+
+    /// Counts one less of a side, and tells those whose waits that ended.
+    fn drop_by<R: Wait>(&self, rt: &R, pass: &mut H::Pass, side: Side)
+        ensures dropped { IsReplied H.words pass.old pass.new (one_less side) unread result }
+    {
+        let mut locked = self.hold(rt);
+        let made = locked.state.drop_by(&self.board, pass, side);
+        self.give_back(locked, pass, made);
     }
 }

@@ -7,6 +7,10 @@ use Rattle.kanal_state.specs.declared.counted.CountedWait.{CountedWait}
 use Rattle.kanal_state.specs.declared.counted.notices.GoneReceivers.{GoneReceivers}
 use Rattle.kanal_state.specs.declared.counted.notices.GoneSenders.{GoneSenders}
 use Rattle.kanal_state.specs.declared.counted.notices.GoneWaits.{GoneWaits}
+use Rattle.kanal_events.specs.declared.event.Event.{Event}
+use Rattle.kanal_events.specs.declared.event.Event.TheVariants.{CloneTx, CloneRx, DropTx, DropRx}
+use Rattle.kanal_events.specs.declared.event.Side.{Side}
+use Rattle.kanal_events.specs.declared.event.Side.TheVariants.{Tx, Rx}
 
 -- the tag of which a token is made says that it has to be counted out
 abbrev pub stands : List ℕ → Bool
@@ -45,3 +49,22 @@ are_sought gone = gone.are_sought
 abbrev pub whether_counted : {A E : Type 0} → Result A E → Result (Unit {0}) E
 whether_counted (Ok counted) = Ok tt
 whether_counted (Err error) = Err error
+
+module _ {T : Type 0} where
+  -- the call that counts one handle more of a side
+  abbrev pub one_more : Side → Event T
+  one_more Tx = CloneTx
+  one_more Rx = CloneRx
+
+  -- the call that counts one handle less of a side
+  abbrev pub one_less : Side → Event T
+  one_less Tx = DropTx
+  one_less Rx = DropRx
+
+  -- a call that counts one handle more or less
+  abbrev pub counts_handle : Event T → Bool
+  counts_handle CloneTx = true
+  counts_handle CloneRx = true
+  counts_handle DropTx = true
+  counts_handle DropRx = true
+  counts_handle event = false

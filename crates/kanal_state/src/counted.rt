@@ -3,7 +3,7 @@
 //! Stands on the kit's tag. The prover refuses to let one go. A sender's is counted out by evidence that its
 //! drop was made as a call of nobody's, or into the notices of its own kind. Who takes the notices
 //! has the tokens again: each of those that left by notice is counted out by a call, or put back. Nothing
-//! else makes a handle's token but a new channel, and evidence that a call of a pass counted one more.
+//! else makes a handle's token but a new channel, and the state, by evidence that a call counted one more.
 ghost use Rattle.std.specs.Prelude.{◌≡◌, false, Ok};
 ghost use Rattle.kanal_core.specs.Tickets.{number_of};
 ghost use Rattle.kanal_core.specs.Channel.{line_of};
@@ -80,15 +80,8 @@ impl CountedSender {
         CountedSender { stands: stands() }
     }
 
-    /// Counts a sender in: a call of this pass counted one more.
-    ///
-    /// # Examples
-    /// ```text
-    /// let before = Snapshot::of(pass);
-    /// shared.add_sender(&rt, pass)?;
-    /// let counted = CountedSender::count_in::<T, H>(&before, pass);
-    /// ```
-    pub fn count_in<T, H: History<T>>(before: &Snapshot<H::Pass>, after: &H::Pass) -> Self
+    /// Counts a sender in: a call of this pass counted one more. The state alone calls this, once a call.
+    pub(crate) fn count_in<T, H: History<T>>(before: &Snapshot<H::Pass>, after: &H::Pass) -> Self
         requires made { CountsSender H.words before.now.value after.now (Ok tt) }
     {
         let _ = before;
@@ -125,15 +118,8 @@ impl CountedReceiver {
         CountedReceiver { stands: stands() }
     }
 
-    /// Counts a receiver in: a call of this pass counted one more.
-    ///
-    /// # Examples
-    /// ```text
-    /// let before = Snapshot::of(pass);
-    /// shared.add_receiver(&rt, pass)?;
-    /// let counted = CountedReceiver::count_in::<T, H>(&before, pass);
-    /// ```
-    pub fn count_in<T, H: History<T>>(before: &Snapshot<H::Pass>, after: &H::Pass) -> Self
+    /// Counts a receiver in: a call of this pass counted one more. The state alone calls this, once a call.
+    pub(crate) fn count_in<T, H: History<T>>(before: &Snapshot<H::Pass>, after: &H::Pass) -> Self
         requires made { CountsReceiver H.words before.now.value after.now (Ok tt) }
     {
         let _ = before;

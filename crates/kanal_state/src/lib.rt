@@ -11,6 +11,7 @@ mod counted;
 mod delivered;
 mod seat;
 mod state;
+mod telling;
 
 pub use counted::{
     CountedReceiver, CountedSender, CountedWait, FirstHandles, GoneReceivers, GoneSenders,
@@ -19,3 +20,4 @@ pub use counted::{
 pub use delivered::Delivered;
 pub use seat::{Core, Leavers, Seat};
 pub use state::{Gone, State, ends};
+pub use telling::TellsCalls;

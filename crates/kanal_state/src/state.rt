@@ -15,8 +15,10 @@ ghost use Rattle.kanal_events.specs.Made.{Keeps, MustWait, Tries, drained_of, en
 ghost use Rattle.kanal_history.specs.Calls.{IsTold};
 ghost use Rattle.kanal_history.specs.Entries.{entry, fetched_receipt, handed_entry, receipt, replied, told_by, tried_entry, tried_receipt, withdrawal};
 ghost use Rattle.kanal_history.specs.Makes.{HasTooLittleRoom, IsKept, IsNoted, IsTried};
+ghost use Rattle.kanal_state.specs.Counts.{counts_handle};
 ghost use Rattle.kanal_state.specs.Renewing.{Renews};
 
+mod counting;
 mod keeping;
 mod leaving;
 
@@ -140,7 +142,7 @@ impl<T: Drop, H: History<T>> State<T, H> {
         (State::new(core, history, cleanup), FirstHandles::new())
     }
 
-    /// Makes a call that never waits.
+    /// Makes a call that never waits, and counts no handle.
     ///
     /// # Examples
     /// ```text
@@ -152,6 +154,17 @@ impl<T: Drop, H: History<T>> State<T, H> {
         pass: &mut H::Pass,
         event: Event<T>,
     ) -> Made<T, Seat<T, H>>
+        requires plain { is_plain event ≡ true }
+        requires uncounted { counts_handle event ≡ false }
+        ensures noted { IsNoted H.words pass.old pass.new event result }
+        ensures step { Tells self.old.1 event (told_of self.new.1 result) }
+        ensures cleanup { self.new.0 ≡ self.old.0 }
+    {
+        self.make(board, pass, event)
+    }
+
+    /// Makes a call that never waits.
+    fn make(&mut self, board: &H::Board, pass: &mut H::Pass, event: Event<T>) -> Made<T, Seat<T, H>>
         requires plain { is_plain event ≡ true }
         ensures noted { IsNoted H.words pass.old pass.new event result }
         ensures step { Tells self.old.1 event (told_of self.new.1 result) }

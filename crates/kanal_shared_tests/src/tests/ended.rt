@@ -1,6 +1,6 @@
 //! Calls whose wait has begun, which the lock shows, and what ends such a wait in an error.
 use crate::tests::counted::{counter, counts_in};
-use crate::tests::given::{common, equal, holds, sender_of};
+use crate::tests::given::{common, equal, halves, holds};
 use kanal_channel::Shared;
 use kanal_core::error::{ReceiveError, SendError};
 use kanal_given::Counted;
@@ -57,11 +57,12 @@ fn a_close_ends_a_receive_that_waits(rt: HostRuntime) {
 
 #[test]
 fn the_last_sender_ends_a_receive_that_waits(rt: HostRuntime) {
-    let (shared, other) = common::<u64>(&rt, 1);
+    let ((shared, sender), (other, receiver)) = halves::<u64>(&rt, 1);
     let thread = start_recv(rt, other);
     holds(&rt, begins(&rt, &shared));
-    shared.drop_sender(sender_of(&rt, &shared));
+    shared.drop_sender(sender);
     equal(&rt, thread.join(&rt), Err(ReceiveError::SendClosed));
+    shared.drop_receiver(receiver);
 }
 
 #[test]

@@ -6,7 +6,7 @@ ghost use Rattle.kanal_events.specs.Made.{may_wait};
 
 use futures::test::MockTask;
 use kanal::{AsyncReceiver, AsyncSender};
-use kanal_channel::{CountedReceiver, CountedSender, Shared};
+use kanal_channel::{Halves, Shared};
 use kanal_core::internal::ChannelInternal;
 use kanal_events::event::{Ask, Event, Reply, Side};
 use kanal_events::made::Tried;
@@ -51,21 +51,10 @@ pub fn common<T: Drop>(
     (first, second)
 }
 
-/// The channel's sender as a token: it has as many as before.
-pub fn sender_of<T: Drop, R: Wait + Abort>(rt: &R, shared: &Shared<T, NoHistory>) -> CountedSender {
-    let counted = shared.count_sender(rt, &mut ()).expect(rt, "one more");
-    shared.drop_sender_by(rt, &mut ());
-    counted
-}
-
-/// The channel's receiver as a token: it has as many as before.
-pub fn receiver_of<T: Drop, R: Wait + Abort>(
-    rt: &R,
-    shared: &Shared<T, NoHistory>,
-) -> CountedReceiver {
-    let counted = shared.count_receiver(rt, &mut ()).expect(rt, "one more");
-    shared.drop_receiver_by(rt, &mut ());
-    counted
+/// A channel with so many places, held twice, with its sender and its receiver as tokens.
+pub fn halves<T: Drop>(rt: &(impl Abort + AllocGlobal), capacity: usize) -> Halves<T, NoHistory> {
+    let core = ChannelInternal::new(rt.alloc(), capacity).expect(rt, "a core");
+    Shared::halves(core, NoHistory, (), (), rt.alloc()).expect(rt, "a channel")
 }
 
 /// How many senders there are.

@@ -1,8 +1,6 @@
 //! Calls and drops while the lock is held by the test.
 use crate::tests::counted::{counter, counts_in};
-use crate::tests::given::{
-    channel, equal, handles, holds, new_task, receiver_of, receivers, sender_of, senders,
-};
+use crate::tests::given::{channel, equal, halves, handles, holds, new_task, receivers, senders};
 use futures::task::Poll;
 use futures::test::MockTask;
 use kanal_channel::{CountedReceiver, CountedSender, Shared};
@@ -112,12 +110,11 @@ fn senders_and_a_send_that_waits_are_dropped_while_the_lock_is_held(rt: HostRunt
 /// then the receivers.
 #[test]
 fn notices_of_all_kinds_are_applied_in_their_order(rt: HostRuntime) {
-    let shared = channel::<u64>(&rt, 0);
+    let ((shared, sender), (_other, receiver)) = halves::<u64>(&rt, 0);
     let task = new_task(&rt);
     let (mut leaves, mut stays) = (receive_future(&shared), receive_future(&shared));
     equal(&rt, task.poll(&mut leaves), Poll::Pending);
     equal(&rt, task.poll(&mut stays), Poll::Pending);
-    let (receiver, sender) = (receiver_of(&rt, &shared), sender_of(&rt, &shared));
     let held = drop_both_held(&rt, &shared, receiver, sender, leaves);
     equal(&rt, held, (1, 1, 1));
     equal(&rt, shared.left_waits(), 0);

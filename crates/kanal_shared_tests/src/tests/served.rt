@@ -1,7 +1,5 @@
 //! Calls that serve or end a wait of the other side, each seen by the task that waits.
-use crate::tests::given::{
-    channel, equal, handles, holds, new_task, receiver_of, sender_of, tell_late,
-};
+use crate::tests::given::{channel, equal, handles, holds, new_task, tell_late};
 use futures::task::Poll;
 use kanal::AsyncSender;
 use kanal_channel::Shared;
@@ -59,13 +57,13 @@ fn each_drop_under_the_lock_counts_once_on_its_side(rt: HostRuntime) {
 
 #[test]
 fn the_last_sender_under_the_lock_ends_a_receive(rt: HostRuntime) {
-    let shared = channel::<u64>(&rt, 0);
+    let (sender, receiver) = handles::<u64>(&rt, 0);
+    let shared = receiver.channel();
     let task = new_task(&rt);
-    let mut receiving = receive_future(&shared);
+    let mut receiving = receive_future(shared);
     equal(&rt, task.poll(&mut receiving), Poll::Pending);
-    let sender = sender_of(&rt, &shared);
     let locked = shared.hold(&rt);
-    shared.drop_sender(sender);
+    drop(sender);
     locked.give_back_quiet();
     holds(&rt, task.is_woken());
     let ended = task.poll(&mut receiving);
@@ -74,30 +72,30 @@ fn the_last_sender_under_the_lock_ends_a_receive(rt: HostRuntime) {
 
 #[test]
 fn the_last_receiver_under_the_lock_ends_a_send(rt: HostRuntime) {
-    let shared = channel::<u64>(&rt, 0);
+    let (sender, receiver) = handles::<u64>(&rt, 0);
+    let shared = sender.channel();
     let task = new_task(&rt);
-    let mut sending = send_future(&shared, 7);
+    let mut sending = send_future(shared, 7);
     equal(&rt, task.poll(&mut sending), Poll::Pending);
-    let receiver = receiver_of(&rt, &shared);
     let locked = shared.hold(&rt);
-    shared.drop_receiver(receiver);
+    drop(receiver);
     locked.give_back_quiet();
     holds(&rt, task.is_woken());
     holds(&rt, task.poll(&mut sending).is_ready());
 }
 
 /// Drops the sender under the lock, and gives the lock back without a look.
-fn drop_unlooked<R: Wait + Abort>(rt: &R, shared: &Shared<u64, NoHistory>) {
-    let sender = sender_of(rt, shared);
+fn drop_unlooked<R: Wait>(rt: &R, shared: &Shared<u64, NoHistory>, sender: AsyncSender<u64>) {
     let locked = shared.hold(rt);
-    shared.drop_sender(sender);
+    drop(sender);
     locked.release();
 }
 
 #[test]
 fn a_call_applies_the_notices_that_it_finds(rt: HostRuntime) {
-    let shared = channel::<u64>(&rt, 1);
-    drop_unlooked(&rt, &shared);
+    let (sender, receiver) = handles::<u64>(&rt, 1);
+    let shared = receiver.channel();
+    drop_unlooked(&rt, shared, sender);
     equal(
         &rt,
         shared.try_recv(&rt, &mut ()),
@@ -107,10 +105,11 @@ fn a_call_applies_the_notices_that_it_finds(rt: HostRuntime) {
 
 #[test]
 fn a_poll_of_a_receive_applies_the_notices_that_it_finds(rt: HostRuntime) {
-    let shared = channel::<u64>(&rt, 1);
-    drop_unlooked(&rt, &shared);
+    let (sender, receiver) = handles::<u64>(&rt, 1);
+    let shared = receiver.channel();
+    drop_unlooked(&rt, shared, sender);
     let task = new_task(&rt);
-    let mut receiving = receive_future(&shared);
+    let mut receiving = receive_future(shared);
     equal(
         &rt,
         task.poll(&mut receiving),
@@ -120,10 +119,11 @@ fn a_poll_of_a_receive_applies_the_notices_that_it_finds(rt: HostRuntime) {
 
 #[test]
 fn a_poll_of_a_send_applies_the_notices_that_it_finds(rt: HostRuntime) {
-    let shared = channel::<u64>(&rt, 1);
-    drop_unlooked(&rt, &shared);
+    let (sender, receiver) = handles::<u64>(&rt, 1);
+    let shared = receiver.channel();
+    drop_unlooked(&rt, shared, sender);
     let task = new_task(&rt);
-    let mut sending = send_future(&shared, 7);
+    let mut sending = send_future(shared, 7);
     equal(
         &rt,
         task.poll(&mut sending),

@@ -1,6 +1,7 @@
 //! Timed calls whose wait is served, ended or late, by a clock that acts when it is read.
-use crate::tests::given::{channel, equal, holds, new_task};
+use crate::tests::given::{channel, equal, handles, holds, new_task};
 use futures::task::Poll;
+use kanal::AsyncSender;
 use kanal_channel::{Clock, Shared, TestClock};
 use kanal_core::error::{ReceiveErrorTimeout, SendErrorTimeout};
 use kanal_futures::send_future;
@@ -31,20 +32,19 @@ impl Clock for Sending<'_> {
     }
 }
 
-/// A clock that stands at 0, and closes the channel at its second read.
+/// A clock that stands at 0, and drops the last sender at its second read.
 #[derive(Drop)]
-struct Ending<'a, R: Wait> {
-    rt: &'a R,
+struct Ending {
     reads: Cell<u64>,
-    shared: &'a Shared<u64, NoHistory>,
+    sender: Cell<Option<AsyncSender<u64>>>,
 }
 
-impl<R: Wait> Clock for Ending<'_, R> {
+impl Clock for Ending {
     fn now(&self) -> u64 {
         let reads = self.reads.get().wrapping_add(1);
         self.reads.set(reads);
         if reads == 2 {
-            self.shared.drop_sender_by(self.rt, &mut ());
+            drop(self.sender.take());
         }
         0
     }
@@ -103,11 +103,11 @@ fn a_timed_out_receive_waits_no_more(rt: HostRuntime) {
 /// The last sender's drop ends the send's wait too, and its message comes back.
 #[test]
 fn a_message_whose_wait_is_ended_comes_back(rt: HostRuntime) {
-    let shared = channel::<u64>(&rt, 0);
+    let (sender, receiver) = handles::<u64>(&rt, 0);
+    let shared = receiver.channel();
     let clock = Ending {
-        rt: &rt,
         reads: Cell::new(0),
-        shared: &shared,
+        sender: Cell::new(Some(sender)),
     };
     let mut option = Some(7);
     let nanosecond = Duration::from_nanos(1);

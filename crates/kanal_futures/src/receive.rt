@@ -1,16 +1,17 @@
-//! Receiving in a task by no pass.
+//! Receiving in a task, with an answer and no pass.
 //!
-//! Stands on `receiving`, for each history whose pass has no content.
-ghost use Rattle.std.specs.Prelude.{◌≡◌, ⊤, true, false, Some, Err, Result, codes};
+//! Stands on `receiving`. The future keeps the pass when it has answered, so that a poll shows in it. Only how
+//! one is made knows that a pass has no content.
+ghost use Rattle.std.specs.Prelude.{◌≡◌, ⊤, true, false, IfSome, Some, Err, Result, codes};
 ghost use Rattle.std.specs.Option.{is_none};
 ghost use Rattle.futures.specs.Task.{Covers, Keeps};
 ghost use Rattle.futures.specs.Poll.{IfReady, OnPending};
 ghost use Rattle.kanal_history.specs.Handles.{Receives};
-ghost use Rattle.kanal_futures.specs.Plain.{receive_future_source, receive_is_over};
+ghost use Rattle.kanal_futures.specs.Plain.{HasAnswered, receive_future_source, receive_is_over, receive_left, receive_pass};
 ghost use Rattle.kanal_futures.specs.Tasks.{Fits, begun_with, passes};
 
 use crate::progress::Rest;
-use crate::receiving::{Receiving, recv_in_task};
+use crate::receiving::{Received, Receiving, recv_in_task};
 use futures::Future;
 use futures::task::{Context, Poll};
 use kanal_channel::Shared;
@@ -30,6 +31,7 @@ use std::fmt;
 #[derive(Drop)]
 pub struct ReceiveFuture<'a, T, H: History<T> = NoHistory> {
     receiving: Receiving<'a, T, H>,
+    left: Option<H::Pass>,
 }
 
 /// A future that receives a message. It does nothing before its first poll, and waits for nobody.
@@ -45,10 +47,23 @@ pub fn receive_future<T: Drop, H: History<T, Pass = ()>>(
 {
     ReceiveFuture {
         receiving: recv_in_task(shared, ()),
+        left: None,
     }
 }
 
-impl<'a, T: Drop, H: History<T, Pass = ()>> ReceiveFuture<'a, T, H> {
+impl<'a, T: Drop, H: History<T>> ReceiveFuture<'a, T, H> {
+    /// Keeps the pass of an answer.
+    #[inline]
+    fn keep(&mut self, received: Received<T, H>) -> Result<T, ReceiveError>
+        ensures received { Receives H.words received.0 received.1 result }
+        ensures left { receive_left self.new ≡ Some received.1 }
+        ensures same { self.new.receiving ≡ self.old.receiving }
+    {
+        let (pass, answer) = received.into_parts();
+        self.left = Some(pass);
+        answer
+    }
+
     /// Goes on with a poll that did not answer at once.
     #[cold]
     fn go_on(
@@ -57,9 +72,9 @@ impl<'a, T: Drop, H: History<T, Pass = ()>> ReceiveFuture<'a, T, H> {
         cx: &mut Context<'_>,
     ) -> Poll<Result<T, ReceiveError>>
         requires fits { Fits rest self.old.receiving.state }
-        ensures received { IfReady result (λ r.
-            is_none (passes (begun_with rest.entry self.old.receiving.state)) ≡ false
-            → Receives H.words tt tt r) }
+        ensures received { IfReady result (λ r. IfSome
+            (passes (begun_with rest.entry self.old.receiving.state)) (λ old.
+            HasAnswered (receive_left self.new) (λ new. Receives H.words old new r))) }
         ensures over { is_none (passes (begun_with rest.entry self.old.receiving.state)) ≡ true
             → (result ≡ Poll.Ready (Err ReceiveError.Finished))
             × (receive_is_over self.new ≡ true) }
@@ -70,17 +85,14 @@ impl<'a, T: Drop, H: History<T, Pass = ()>> ReceiveFuture<'a, T, H> {
         ensures kept { Keeps cx.old cx.new }
     {
         match self.receiving.go_on(rest, cx) {
-            Poll::Ready(Some(received)) => {
-                let (_pass, answer) = received.into_parts();
-                Poll::Ready(answer)
-            },
+            Poll::Ready(Some(received)) => Poll::Ready(self.keep(received)),
             Poll::Ready(None) => Poll::Ready(Err(ReceiveError::Finished)),
             Poll::Pending => Poll::Pending,
         }
     }
 }
 
-impl<T: Drop, H: History<T, Pass = ()>> Future for ReceiveFuture<'_, T, H> {
+impl<T: Drop, H: History<T>> Future for ReceiveFuture<'_, T, H> {
     type Output = Result<T, ReceiveError>;
 
     ghost needs = { λ f s. s ≡ receive_future_source f };
@@ -105,8 +117,8 @@ impl<T: Drop, H: History<T, Pass = ()>> Future for ReceiveFuture<'_, T, H> {
         ensures registered { OnPending result
             (Covers cx.new (λ s. s ≡ receive_future_source self.new)) }
         ensures kept { Keeps cx.old cx.new }
-        ensures received { IfReady result (λ r. receive_is_over self.old ≡ false
-            → Receives H.words tt tt r) }
+        ensures received { IfReady result (λ r. IfSome (receive_pass self.old) (λ old.
+            HasAnswered (receive_left self.new) (λ new. Receives H.words old new r))) }
         ensures over { receive_is_over self.old ≡ true
             → (result ≡ Poll.Ready (Err ReceiveError.Finished))
             × (receive_is_over self.new ≡ true) }
@@ -114,10 +126,7 @@ impl<T: Drop, H: History<T, Pass = ()>> Future for ReceiveFuture<'_, T, H> {
         ensures goes_on { OnPending result (receive_is_over self.new ≡ false) }
     {
         match self.receiving.at_once() {
-            Ok(received) => {
-                let (_pass, answer) = received.into_parts();
-                Poll::Ready(answer)
-            },
+            Ok(received) => Poll::Ready(self.keep(received)),
             Err(rest) => self.go_on(rest, cx),
         }
     }

@@ -1,17 +1,18 @@
-//! Sending in a task by no pass.
+//! Sending in a task, with an answer and no pass.
 //!
-//! Stands on `sending`, for each history whose pass has no content.
+//! Stands on `sending`. The future keeps the pass when it has answered, so that a poll shows in it. Only how
+//! one is made knows that a pass has no content.
 ghost use Rattle.std.specs.Prelude.{◌≡◌, ⊤, true, false, IfSome, Some, Err, Result, codes};
 ghost use Rattle.std.specs.Option.{is_none};
 ghost use Rattle.futures.specs.Task.{Covers, Keeps};
 ghost use Rattle.futures.specs.Poll.{IfReady, OnPending};
 ghost use Rattle.kanal_history.specs.Handles.{Sends};
 ghost use Rattle.kanal_futures.specs.Futures.{send_begun};
-ghost use Rattle.kanal_futures.specs.Plain.{message_in, send_future_source, send_is_over};
+ghost use Rattle.kanal_futures.specs.Plain.{HasAnswered, message_in, send_call, send_future_source, send_is_over, send_left};
 ghost use Rattle.kanal_futures.specs.Tasks.{Fits, begun_with};
 
 use crate::progress::Rest;
-use crate::sending::{Sending, send_in_task};
+use crate::sending::{Sending, Sent, send_in_task};
 use futures::Future;
 use futures::task::{Context, Poll};
 use kanal_channel::Shared;
@@ -31,6 +32,7 @@ use std::fmt;
 #[derive(Drop)]
 pub struct SendFuture<'a, T, H: History<T> = NoHistory> {
     sending: Sending<'a, T, H>,
+    left: Option<H::Pass>,
 }
 
 /// A future that sends the message. It does nothing before its first poll, and waits for nobody.
@@ -47,10 +49,23 @@ pub fn send_future<T: Drop, H: History<T, Pass = ()>>(
 {
     SendFuture {
         sending: send_in_task(shared, (), message),
+        left: None,
     }
 }
 
-impl<'a, T: Drop, H: History<T, Pass = ()>> SendFuture<'a, T, H> {
+impl<'a, T: Drop, H: History<T>> SendFuture<'a, T, H> {
+    /// Keeps the pass of an answer.
+    #[inline]
+    fn keep(&mut self, sent: Sent<T, H>) -> Result<(), SendError>
+        ensures sent { Sends H.words sent.0 sent.2 sent.1 result }
+        ensures left { send_left self.new ≡ Some sent.2 }
+        ensures same { self.new.sending ≡ self.old.sending }
+    {
+        let (pass, answer) = sent.into_parts();
+        self.left = Some(pass);
+        answer
+    }
+
     /// Goes on with a poll that did not answer at once.
     #[cold]
     fn go_on(
@@ -60,7 +75,7 @@ impl<'a, T: Drop, H: History<T, Pass = ()>> SendFuture<'a, T, H> {
     ) -> Poll<Result<(), SendError>>
         requires fits { Fits rest self.old.sending.state }
         ensures sent { IfReady result (λ r. IfSome (begun_with rest.entry self.old.sending.state) (λ begun.
-            Sends H.words tt tt begun.1 r)) }
+            HasAnswered (send_left self.new) (λ new. Sends H.words begun.0 new begun.1 r))) }
         ensures stays { OnPending result (send_begun self.new.sending
             ≡ begun_with rest.entry self.old.sending.state) }
         ensures over { is_none (begun_with rest.entry self.old.sending.state) ≡ true
@@ -72,17 +87,14 @@ impl<'a, T: Drop, H: History<T, Pass = ()>> SendFuture<'a, T, H> {
         ensures kept { Keeps cx.old cx.new }
     {
         match self.sending.go_on(rest, cx) {
-            Poll::Ready(Some(sent)) => {
-                let (_pass, answer) = sent.into_parts();
-                Poll::Ready(answer)
-            },
+            Poll::Ready(Some(sent)) => Poll::Ready(self.keep(sent)),
             Poll::Ready(None) => Poll::Ready(Err(SendError::Finished)),
             Poll::Pending => Poll::Pending,
         }
     }
 }
 
-impl<T: Drop, H: History<T, Pass = ()>> Future for SendFuture<'_, T, H> {
+impl<T: Drop, H: History<T>> Future for SendFuture<'_, T, H> {
     type Output = Result<(), SendError>;
 
     ghost needs = { λ f s. s ≡ send_future_source f };
@@ -106,8 +118,8 @@ impl<T: Drop, H: History<T, Pass = ()>> Future for SendFuture<'_, T, H> {
         ensures same { OnPending result ((x : Result Unit SendError) → ⊤ → ⊤) }
         ensures registered { OnPending result (Covers cx.new (λ s. s ≡ send_future_source self.new)) }
         ensures kept { Keeps cx.old cx.new }
-        ensures sent { IfReady result (λ r. IfSome (message_in self.old) (λ m.
-            Sends H.words tt tt m r)) }
+        ensures sent { IfReady result (λ r. IfSome (send_call self.old) (λ call.
+            HasAnswered (send_left self.new) (λ new. Sends H.words call.0 new call.1 r))) }
         ensures stays { OnPending result (message_in self.new ≡ message_in self.old) }
         ensures over { send_is_over self.old ≡ true → (result ≡ Poll.Ready (Err SendError.Finished))
             × (send_is_over self.new ≡ true) }
@@ -115,10 +127,7 @@ impl<T: Drop, H: History<T, Pass = ()>> Future for SendFuture<'_, T, H> {
         ensures goes_on { OnPending result (send_is_over self.new ≡ false) }
     {
         match self.sending.at_once() {
-            Ok(sent) => {
-                let (_pass, answer) = sent.into_parts();
-                Poll::Ready(answer)
-            },
+            Ok(sent) => Poll::Ready(self.keep(sent)),
             Err(rest) => self.go_on(rest, cx),
         }
     }

@@ -1,6 +1,7 @@
 -- The handle for tasks that a handle for threads is, and the one that a view is over.
 use Rattle.kanal.specs.declared.async_receiver.AsyncReceiver.{AsyncReceiver}
 use Rattle.kanal.specs.declared.async_sender.AsyncSender.{AsyncSender}
+use Rattle.kanal.specs.declared.messages.Messages.{Messages}
 use Rattle.kanal.specs.declared.receiver.Receiver.{Receiver}
 use Rattle.kanal.specs.declared.receiver_view.ReceiverView.{ReceiverView}
 use Rattle.kanal.specs.declared.sender.Sender.{Sender}
@@ -22,3 +23,7 @@ module _ {T H P B S C : Type 0} where
   -- the receiver that a view is over
   abbrev pub viewed_receiver : ReceiverView T H P B S C → AsyncReceiver T H P B S C
   viewed_receiver v = v.receiver.now
+
+  -- the pass by which a receiver's messages come
+  abbrev pub pass_of : {R : Type 0} → Messages T R H P B S C → P
+  pass_of m = m.pass

@@ -1,9 +1,9 @@
 //! The receiver of a channel for tasks: the receiving handle that holds the channel.
 //!
 //! Stands on the shared channel; nothing is done here but handing on and counting. It alone has a
-//! receiver's drop; the receiver for threads and the view are made over it. A call without a pass is that of
-//! the channel with the pass of no content, and its clause holds in the words of every history whose pass is
-//! so.
+//! receiver's drop; the receiver for threads and the view are made over it. A call is the channel's call by
+//! its caller's pass, of which the body knows nothing; a call that takes no caller is made by the pass of no
+//! content.
 ghost use Rattle.std.specs.Prelude.{◌≡◌, Some, IfErr, IsErrOf, OnErr, OnOk, Ok, false, codes};
 ghost use Rattle.std.specs.Vec.{vec_capacity, vec_len};
 ghost use Rattle.kanal.specs.Handles.{receiver_for_tasks, viewed_receiver};
@@ -15,6 +15,8 @@ ghost use Rattle.kanal_history.specs.Handles.{Asks, AsksForTheEnd, Closes, Count
 ghost use Rattle.kanal_history.specs.Makes.{HasTooLittleRoom};
 ghost use Rattle.kanal_history.specs.Results.{count_by, flag_by, number_by};
 
+use crate::caller::Caller;
+use crate::questions::{ask_count, ask_flag, ask_number};
 use crate::receiver::Receiver;
 use crate::receiver_view::ReceiverView;
 use kanal_channel::{CountedReceiver, Shared};
@@ -101,6 +103,260 @@ impl<T: Drop, H: History<T>> AsyncReceiver<T, H> {
     {
         ReceiverView::new(self)
     }
+
+    /// Receives the front message, if there is one. `Ok(None)` says that there is none. It waits for
+    /// the lock.
+    ///
+    /// # Errors
+    /// `Closed` where the channel was closed or no receiver is left, and `SendClosed` where there is
+    /// no message and no sender is left.
+    ///
+    /// # Examples
+    /// ```text
+    /// receiver.try_recv(&rt)   answers  Ok(None)   in a new channel
+    /// ```
+    pub fn try_recv<R: Caller<H::Pass>>(&self, rt: R) -> Result<Option<T>, ReceiveError>
+        ensures received { TriesToReceive H.words (R.before rt) (R.after rt) result }
+    {
+        let (rt, mut pass, end) = rt.begin();
+        let answer = self.shared.try_recv(&rt, &mut pass);
+        R::end(end, pass);
+        answer
+    }
+
+    /// Moves all messages to the vector's end, those of waiting senders too, and answers how many
+    /// they were. What the vector had stays its beginning. It waits for the lock.
+    ///
+    /// # Errors
+    /// `Closed` where no receiver is left, and `NoMemory` where the vector had too little room and
+    /// there was no memory for more. The vector holds what it held then.
+    ///
+    /// # Examples
+    /// ```text
+    /// receiver.drain_into(&rt, &mut messages)   answers  Ok(2)   where two messages were there
+    /// ```
+    pub fn drain_into<R: Caller<H::Pass>>(
+        &self,
+        rt: R,
+        into: &mut Vec<T>,
+    ) -> Result<usize, ReceiveError>
+        ensures drained { Drains H.words (R.before rt) (R.after rt) into.old.items into.new.items result }
+        ensures refused { IfErr result (λ _. into.new.items ≡ into.old.items) }
+        ensures memory { IsErrOf result ReceiveError.NoMemory
+            → HasTooLittleRoom H.words (R.after rt) (vec_len into.old) (vec_capacity into.old) }
+        ensures no_growth { OnErr result (vec_capacity into.new ≡ vec_capacity into.old) }
+    {
+        let (rt, mut pass, end) = rt.begin();
+        let answer = self.shared.drain_into(&rt, &mut pass, into);
+        R::end(end, pass);
+        answer
+    }
+
+    /// One more receiver of the channel. Where no receiver is left it stays so, and the answer is
+    /// still a receiver. It waits for the lock.
+    ///
+    /// # Errors
+    /// `TooMany` where there are `u32::MAX` receivers, or as many handles as may be.
+    ///
+    /// # Examples
+    /// ```text
+    /// let other = receiver.clone(&rt)?;
+    /// receiver.receiver_count(&rt)   answers  2   where it answered 1 before
+    /// ```
+    pub fn clone<R: Caller<H::Pass>>(&self, rt: R) -> Result<Self, TooMany>
+        ensures counted { OnOk result (CountsReceiver H.words (R.before rt) (R.after rt) (Ok tt)) }
+    {
+        let (rt, mut pass, end) = rt.begin();
+        let answer = self.clone_by(&rt, &mut pass);
+        R::end(end, pass);
+        answer
+    }
+
+    /// One more receiver of the channel, for threads. It counts as `clone`, and waits for the lock.
+    ///
+    /// # Errors
+    /// As `clone`.
+    ///
+    /// # Examples
+    /// ```text
+    /// let other = receiver.clone_sync(&rt)?;
+    /// other.receiver_count(&rt)   answers  2   where it answered 1 before
+    /// ```
+    pub fn clone_sync<R: Caller<H::Pass>>(&self, rt: R) -> Result<Receiver<T, H>, TooMany>
+        ensures counted { OnOk result (CountsReceiver H.words (R.before rt) (R.after rt) (Ok tt)) }
+    {
+        let inner = self.clone(rt)?;
+        Ok(inner.to_sync())
+    }
+
+    /// Whether no sender is left. It waits for the lock.
+    ///
+    /// # Examples
+    /// ```text
+    /// receiver.is_disconnected(&rt)   answers  true   after the last sender was dropped
+    /// ```
+    pub fn is_disconnected<R: Caller<H::Pass>>(&self, rt: R) -> bool
+        ensures asked { Asks H.words (R.before rt) (R.after rt) Side.Rx Ask.IsDisconnected flag_by result }
+    {
+        ask_flag(&self.shared, rt, Side::Rx, Ask::IsDisconnected)
+    }
+
+    /// Whether no sender is left and nothing is in the line, waiting senders' messages included, so that
+    /// no message will come. It waits for the lock.
+    ///
+    /// # Examples
+    /// ```text
+    /// receiver.is_terminated(&rt)   answers  false   while a message is in the buffer
+    /// ```
+    pub fn is_terminated<R: Caller<H::Pass>>(&self, rt: R) -> bool
+        ensures asked { AsksForTheEnd H.words (R.before rt) (R.after rt) result }
+    {
+        let (rt, mut pass, end) = rt.begin();
+        let answer = self.shared.is_terminated(&rt, &mut pass);
+        R::end(end, pass);
+        answer
+    }
+
+    /// How many messages are in the buffer. It waits for the lock.
+    ///
+    /// # Examples
+    /// ```text
+    /// receiver.len(&rt)   answers  1   after one message entered a bounded channel for two
+    /// ```
+    pub fn len<R: Caller<H::Pass>>(&self, rt: R) -> usize
+        ensures asked { Asks H.words (R.before rt) (R.after rt) Side.Rx Ask.Len number_by result }
+    {
+        ask_number(&self.shared, rt, Side::Rx, Ask::Len)
+    }
+
+    /// Whether no message is in the buffer, whoever waits. It waits for the lock.
+    ///
+    /// # Examples
+    /// ```text
+    /// receiver.is_empty(&rt)   answers  false   after one message entered
+    /// ```
+    pub fn is_empty<R: Caller<H::Pass>>(&self, rt: R) -> bool
+        ensures asked { Asks H.words (R.before rt) (R.after rt) Side.Rx Ask.IsEmpty flag_by result }
+    {
+        ask_flag(&self.shared, rt, Side::Rx, Ask::IsEmpty)
+    }
+
+    /// Whether the buffer is at the capacity: always at capacity 0, and never without a limit. It
+    /// waits for the lock.
+    ///
+    /// # Examples
+    /// ```text
+    /// receiver.is_full(&rt)   answers  true   after one message entered a bounded channel for one
+    /// ```
+    pub fn is_full<R: Caller<H::Pass>>(&self, rt: R) -> bool
+        ensures asked { Asks H.words (R.before rt) (R.after rt) Side.Rx Ask.IsFull flag_by result }
+    {
+        ask_flag(&self.shared, rt, Side::Rx, Ask::IsFull)
+    }
+
+    /// Whether the channel has a limit. It waits for the lock.
+    ///
+    /// # Examples
+    /// ```text
+    /// receiver.is_bounded(&rt)   answers  true   for a channel that `bounded` made
+    /// ```
+    pub fn is_bounded<R: Caller<H::Pass>>(&self, rt: R) -> bool
+        ensures asked { Asks H.words (R.before rt) (R.after rt) Side.Rx Ask.IsBounded flag_by result }
+    {
+        ask_flag(&self.shared, rt, Side::Rx, Ask::IsBounded)
+    }
+
+    /// How many messages the buffer may hold, which is `usize::MAX` without a limit. It waits for the
+    /// lock.
+    ///
+    /// # Examples
+    /// ```text
+    /// receiver.capacity(&rt)   answers  2   for a bounded channel for two
+    /// ```
+    pub fn capacity<R: Caller<H::Pass>>(&self, rt: R) -> usize
+        ensures asked { Asks H.words (R.before rt) (R.after rt) Side.Rx Ask.Capacity number_by result }
+    {
+        ask_number(&self.shared, rt, Side::Rx, Ask::Capacity)
+    }
+
+    /// How many receivers there are. It waits for the lock.
+    ///
+    /// # Examples
+    /// ```text
+    /// receiver.receiver_count(&rt)   answers  1   for a new channel
+    /// ```
+    pub fn receiver_count<R: Caller<H::Pass>>(&self, rt: R) -> u32
+        ensures asked { Asks H.words (R.before rt) (R.after rt) Side.Rx Ask.ReceiverCount count_by result }
+    {
+        ask_count(&self.shared, rt, Side::Rx, Ask::ReceiverCount)
+    }
+
+    /// How many senders there are. It waits for the lock.
+    ///
+    /// # Examples
+    /// ```text
+    /// receiver.sender_count(&rt)   answers  1   for a new channel
+    /// ```
+    pub fn sender_count<R: Caller<H::Pass>>(&self, rt: R) -> u32
+        ensures asked { Asks H.words (R.before rt) (R.after rt) Side.Rx Ask.SenderCount count_by result }
+    {
+        ask_count(&self.shared, rt, Side::Rx, Ask::SenderCount)
+    }
+
+    /// Whether both sides are gone. It waits for the lock.
+    ///
+    /// # Examples
+    /// ```text
+    /// receiver.is_closed(&rt)   answers  true   after a close
+    /// ```
+    pub fn is_closed<R: Caller<H::Pass>>(&self, rt: R) -> bool
+        ensures asked { Asks H.words (R.before rt) (R.after rt) Side.Rx Ask.IsClosed flag_by result }
+    {
+        ask_flag(&self.shared, rt, Side::Rx, Ask::IsClosed)
+    }
+
+    /// Lets the senders be done: nothing more enters, and the receivers take what is left. A receive
+    /// that waits ends with `SendClosed`, and so does each later one once nothing is left; a send that
+    /// waits is still served. Each later send is refused as `Sealed`. It waits for the lock.
+    ///
+    /// `close` throws away what is in the channel, and the last sender's drop needs every clone gone.
+    ///
+    /// # Errors
+    /// `CloseError` where the channel was sealed or closed already, or no sender is left.
+    ///
+    /// # Examples
+    /// ```text
+    /// receiver.seal(&rt)   answers  Ok(())
+    /// receiver.seal(&rt)   answers  Err(CloseError())   after that
+    /// ```
+    pub fn seal<R: Caller<H::Pass>>(&self, rt: R) -> Result<(), CloseError>
+        ensures sealed { Seals H.words (R.before rt) (R.after rt) result }
+    {
+        let (rt, mut pass, end) = rt.begin();
+        let answer = self.shared.seal(&rt, &mut pass);
+        R::end(end, pass);
+        answer
+    }
+
+    /// Closes the channel for both sides: all waits end with `Closed`, and the buffer's messages are
+    /// dropped after the lock was released. It waits for the lock.
+    ///
+    /// # Errors
+    /// `CloseError` where both sides were gone already.
+    ///
+    /// # Examples
+    /// ```text
+    /// receiver.close(&rt)   answers  Ok(())
+    /// receiver.close(&rt)   answers  Err(CloseError())   after that
+    /// ```
+    pub fn close<R: Caller<H::Pass>>(&self, rt: R) -> Result<(), CloseError>
+        ensures closed { Closes H.words (R.before rt) (R.after rt) result }
+    {
+        let (rt, mut pass, end) = rt.begin();
+        let answer = self.shared.close(&rt, &mut pass);
+        R::end(end, pass);
+        answer
+    }
 }
 
 impl<T: Drop, H: History<T, Pass = ()>> AsyncReceiver<T, H> {
@@ -137,23 +393,6 @@ impl<T: Drop, H: History<T, Pass = ()>> AsyncReceiver<T, H> {
         receive_stream(&self.shared, ())
     }
 
-    /// Receives the front message, if there is one. `Ok(None)` says that there is none. It waits for
-    /// the lock.
-    ///
-    /// # Errors
-    /// `Closed` where the channel was closed or no receiver is left, and `SendClosed` where there is
-    /// no message and no sender is left.
-    ///
-    /// # Examples
-    /// ```text
-    /// receiver.try_recv(&rt)   answers  Ok(None)   in a new channel
-    /// ```
-    pub fn try_recv<R: Wait>(&self, rt: &R) -> Result<Option<T>, ReceiveError>
-        ensures received { TriesToReceive H.words tt tt result }
-    {
-        self.shared.try_recv(rt, &mut ())
-    }
-
     /// Receives the front message, if there is one and the lock is free: it waits for nobody.
     /// `Ok(None)` says that there is none or the lock was held.
     ///
@@ -168,224 +407,6 @@ impl<T: Drop, H: History<T, Pass = ()>> AsyncReceiver<T, H> {
         ensures received { TriesToReceiveNow H.words tt tt result }
     {
         self.shared.try_recv_realtime(&mut ())
-    }
-
-    /// Moves all messages to the vector's end, those of waiting senders too, and answers how many
-    /// they were. What the vector had stays its beginning. It waits for the lock.
-    ///
-    /// # Errors
-    /// `Closed` where no receiver is left, and `NoMemory` where the vector had too little room and
-    /// there was no memory for more. The vector holds what it held then.
-    ///
-    /// # Examples
-    /// ```text
-    /// receiver.drain_into(&rt, &mut messages)   answers  Ok(2)   where two messages were there
-    /// ```
-    pub fn drain_into<R: Wait>(&self, rt: &R, into: &mut Vec<T>) -> Result<usize, ReceiveError>
-        ensures drained { Drains H.words tt tt into.old.items into.new.items result }
-        ensures refused { IfErr result (λ _. into.new.items ≡ into.old.items) }
-        ensures memory { IsErrOf result ReceiveError.NoMemory
-            → HasTooLittleRoom H.words tt (vec_len into.old) (vec_capacity into.old) }
-        ensures no_growth { OnErr result (vec_capacity into.new ≡ vec_capacity into.old) }
-    {
-        self.shared.drain_into(rt, &mut (), into)
-    }
-
-    /// One more receiver of the channel. Where no receiver is left it stays so, and the answer is
-    /// still a receiver. It waits for the lock.
-    ///
-    /// # Errors
-    /// `TooMany` where there are `u32::MAX` receivers, or as many handles as may be.
-    ///
-    /// # Examples
-    /// ```text
-    /// let other = receiver.clone(&rt)?;
-    /// receiver.receiver_count(&rt)   answers  2   where it answered 1 before
-    /// ```
-    pub fn clone<R: Wait>(&self, rt: &R) -> Result<Self, TooMany>
-        ensures counted { OnOk result (CountsReceiver H.words tt tt (Ok tt)) }
-    {
-        self.clone_by(rt, &mut ())
-    }
-
-    /// One more receiver of the channel, for threads. It counts as `clone`, and waits for the lock.
-    ///
-    /// # Errors
-    /// As `clone`.
-    ///
-    /// # Examples
-    /// ```text
-    /// let other = receiver.clone_sync(&rt)?;
-    /// other.receiver_count(&rt)   answers  2   where it answered 1 before
-    /// ```
-    pub fn clone_sync<R: Wait>(&self, rt: &R) -> Result<Receiver<T, H>, TooMany>
-        ensures counted { OnOk result (CountsReceiver H.words tt tt (Ok tt)) }
-    {
-        let inner = self.clone(rt)?;
-        Ok(inner.to_sync())
-    }
-
-    /// Whether no sender is left. It waits for the lock.
-    ///
-    /// # Examples
-    /// ```text
-    /// receiver.is_disconnected(&rt)   answers  true   after the last sender was dropped
-    /// ```
-    pub fn is_disconnected<R: Wait>(&self, rt: &R) -> bool
-        ensures asked { Asks H.words tt tt Side.Rx Ask.IsDisconnected flag_by result }
-    {
-        self.shared
-            .ask_flag(rt, &mut (), Side::Rx, Ask::IsDisconnected)
-    }
-
-    /// Whether no sender is left and nothing is in the line, waiting senders' messages included, so that
-    /// no message will come. It waits for the lock.
-    ///
-    /// # Examples
-    /// ```text
-    /// receiver.is_terminated(&rt)   answers  false   while a message is in the buffer
-    /// ```
-    pub fn is_terminated<R: Wait>(&self, rt: &R) -> bool
-        ensures asked { AsksForTheEnd H.words tt tt result }
-    {
-        self.shared.is_terminated(rt, &mut ())
-    }
-
-    /// How many messages are in the buffer. It waits for the lock.
-    ///
-    /// # Examples
-    /// ```text
-    /// receiver.len(&rt)   answers  1   after one message entered a bounded channel for two
-    /// ```
-    pub fn len<R: Wait>(&self, rt: &R) -> usize
-        ensures asked { Asks H.words tt tt Side.Rx Ask.Len number_by result }
-    {
-        self.shared.ask_number(rt, &mut (), Side::Rx, Ask::Len)
-    }
-
-    /// Whether no message is in the buffer, whoever waits. It waits for the lock.
-    ///
-    /// # Examples
-    /// ```text
-    /// receiver.is_empty(&rt)   answers  false   after one message entered
-    /// ```
-    pub fn is_empty<R: Wait>(&self, rt: &R) -> bool
-        ensures asked { Asks H.words tt tt Side.Rx Ask.IsEmpty flag_by result }
-    {
-        self.shared.ask_flag(rt, &mut (), Side::Rx, Ask::IsEmpty)
-    }
-
-    /// Whether the buffer is at the capacity: always at capacity 0, and never without a limit. It
-    /// waits for the lock.
-    ///
-    /// # Examples
-    /// ```text
-    /// receiver.is_full(&rt)   answers  true   after one message entered a bounded channel for one
-    /// ```
-    pub fn is_full<R: Wait>(&self, rt: &R) -> bool
-        ensures asked { Asks H.words tt tt Side.Rx Ask.IsFull flag_by result }
-    {
-        self.shared.ask_flag(rt, &mut (), Side::Rx, Ask::IsFull)
-    }
-
-    /// Whether the channel has a limit. It waits for the lock.
-    ///
-    /// # Examples
-    /// ```text
-    /// receiver.is_bounded(&rt)   answers  true   for a channel that `bounded` made
-    /// ```
-    pub fn is_bounded<R: Wait>(&self, rt: &R) -> bool
-        ensures asked { Asks H.words tt tt Side.Rx Ask.IsBounded flag_by result }
-    {
-        self.shared.ask_flag(rt, &mut (), Side::Rx, Ask::IsBounded)
-    }
-
-    /// How many messages the buffer may hold, which is `usize::MAX` without a limit. It waits for the
-    /// lock.
-    ///
-    /// # Examples
-    /// ```text
-    /// receiver.capacity(&rt)   answers  2   for a bounded channel for two
-    /// ```
-    pub fn capacity<R: Wait>(&self, rt: &R) -> usize
-        ensures asked { Asks H.words tt tt Side.Rx Ask.Capacity number_by result }
-    {
-        self.shared.ask_number(rt, &mut (), Side::Rx, Ask::Capacity)
-    }
-
-    /// How many receivers there are. It waits for the lock.
-    ///
-    /// # Examples
-    /// ```text
-    /// receiver.receiver_count(&rt)   answers  1   for a new channel
-    /// ```
-    pub fn receiver_count<R: Wait>(&self, rt: &R) -> u32
-        ensures asked { Asks H.words tt tt Side.Rx Ask.ReceiverCount count_by result }
-    {
-        self.shared
-            .ask_count(rt, &mut (), Side::Rx, Ask::ReceiverCount)
-    }
-
-    /// How many senders there are. It waits for the lock.
-    ///
-    /// # Examples
-    /// ```text
-    /// receiver.sender_count(&rt)   answers  1   for a new channel
-    /// ```
-    pub fn sender_count<R: Wait>(&self, rt: &R) -> u32
-        ensures asked { Asks H.words tt tt Side.Rx Ask.SenderCount count_by result }
-    {
-        self.shared
-            .ask_count(rt, &mut (), Side::Rx, Ask::SenderCount)
-    }
-
-    /// Whether both sides are gone. It waits for the lock.
-    ///
-    /// # Examples
-    /// ```text
-    /// receiver.is_closed(&rt)   answers  true   after a close
-    /// ```
-    pub fn is_closed<R: Wait>(&self, rt: &R) -> bool
-        ensures asked { Asks H.words tt tt Side.Rx Ask.IsClosed flag_by result }
-    {
-        self.shared.ask_flag(rt, &mut (), Side::Rx, Ask::IsClosed)
-    }
-
-    /// Lets the senders be done: nothing more enters, and the receivers take what is left. A receive
-    /// that waits ends with `SendClosed`, and so does each later one once nothing is left; a send that
-    /// waits is still served. Each later send is refused as `Sealed`. It waits for the lock.
-    ///
-    /// `close` throws away what is in the channel, and the last sender's drop needs every clone gone.
-    ///
-    /// # Errors
-    /// `CloseError` where the channel was sealed or closed already, or no sender is left.
-    ///
-    /// # Examples
-    /// ```text
-    /// receiver.seal(&rt)   answers  Ok(())
-    /// receiver.seal(&rt)   answers  Err(CloseError())   after that
-    /// ```
-    pub fn seal<R: Wait>(&self, rt: &R) -> Result<(), CloseError>
-        ensures sealed { Seals H.words tt tt result }
-    {
-        self.shared.seal(rt, &mut ())
-    }
-
-    /// Closes the channel for both sides: all waits end with `Closed`, and the buffer's messages are
-    /// dropped after the lock was released. It waits for the lock.
-    ///
-    /// # Errors
-    /// `CloseError` where both sides were gone already.
-    ///
-    /// # Examples
-    /// ```text
-    /// receiver.close(&rt)   answers  Ok(())
-    /// receiver.close(&rt)   answers  Err(CloseError())   after that
-    /// ```
-    pub fn close<R: Wait>(&self, rt: &R) -> Result<(), CloseError>
-        ensures closed { Closes H.words tt tt result }
-    {
-        self.shared.close(rt, &mut ())
     }
 }
 

@@ -1,8 +1,9 @@
 //! The sender of a channel for tasks: the sending handle that holds the channel.
 //!
 //! Stands on the shared channel; nothing is done here but handing on and counting. It alone has a
-//! sender's drop; the sender for threads and the view are made over it. A call without a pass is that of the
-//! channel with the pass of no content, and its clause holds in the words of every history whose pass is so.
+//! sender's drop; the sender for threads and the view are made over it. A call is the channel's call by its
+//! caller's pass, of which the body knows nothing; a call that takes no caller is made by the pass of no
+//! content.
 ghost use Rattle.std.specs.Prelude.{◌≡◌, ◌≢◌, IfSome, IsSome, None, OnErr, OnOk, Ok, Some, true, false, codes};
 ghost use Rattle.kanal.specs.Handles.{sender_for_tasks, viewed_sender};
 ghost use Rattle.kanal_events.specs.declared.event.Ask.{Ask};
@@ -11,6 +12,8 @@ ghost use Rattle.kanal_futures.specs.Plain.{send_is_over};
 ghost use Rattle.kanal_history.specs.Handles.{Asks, Closes, CountsSender, Seals, TriesToSend, TriesToSendNow};
 ghost use Rattle.kanal_history.specs.Results.{count_by, flag_by, number_by};
 
+use crate::caller::Caller;
+use crate::questions::{ask_count, ask_flag, ask_number};
 use crate::sender::Sender;
 use crate::sender_view::SenderView;
 use kanal_channel::{CountedSender, Shared};
@@ -97,6 +100,247 @@ impl<T: Drop, H: History<T>> AsyncSender<T, H> {
     {
         SenderView::new(self)
     }
+
+    /// Sends the message where there is a place for it. `Ok(false)` says that there is none, and the
+    /// message was dropped. It waits for the lock.
+    ///
+    /// # Errors
+    /// `Closed` where the channel was closed, `ReceiveClosed` where the last receiver was dropped,
+    /// `Sealed` after a `seal`, and `NoMemory` where memory was refused. The message is dropped then.
+    ///
+    /// # Examples
+    /// ```text
+    /// sender.try_send(&rt, 1)   answers  Ok(true)    in a new bounded channel for one
+    /// sender.try_send(&rt, 2)   answers  Ok(false)   after that
+    /// ```
+    pub fn try_send<R: Caller<H::Pass>>(&self, rt: R, message: T) -> Result<bool, SendError>
+        ensures sent { TriesToSend H.words (R.before rt) (R.after rt) message result }
+    {
+        let (rt, mut pass, end) = rt.begin();
+        let answer = self.shared.try_send(&rt, &mut pass, message);
+        R::end(end, pass);
+        answer
+    }
+
+    /// Sends the option's message where there is a place for it, and empties the option exactly
+    /// then. It waits for the lock.
+    ///
+    /// The caller knows that the option holds a message.
+    ///
+    /// # Errors
+    /// As `try_send`. The option holds the same message then.
+    ///
+    /// # Examples
+    /// ```text
+    /// let mut option = Some(1);
+    /// sender.try_send_option(&rt, &mut option)   answers  Ok(false)   at capacity 0
+    /// option   is  Some(1)
+    /// ```
+    pub fn try_send_option<R: Caller<H::Pass>>(
+        &self,
+        rt: R,
+        option: &mut Option<T>,
+    ) -> Result<bool, SendError>
+        requires { IsSome option.old }
+        ensures sends { IfSome option.old (λ m. TriesToSend H.words (R.before rt) (R.after rt) m result) }
+        ensures sent { result ≡ Ok true → option.new ≡ None }
+        ensures kept { result ≢ Ok true → option.new ≡ option.old }
+    {
+        let (rt, mut pass, end) = rt.begin();
+        let answer = self.shared.try_send_option(&rt, &mut pass, option);
+        R::end(end, pass);
+        answer
+    }
+
+    /// One more sender of the channel. Where no sender is left it stays so, and the answer is still
+    /// a sender. It waits for the lock.
+    ///
+    /// # Errors
+    /// `TooMany` where there are `u32::MAX` senders, or as many handles as may be.
+    ///
+    /// # Examples
+    /// ```text
+    /// let other = sender.clone(&rt)?;
+    /// sender.sender_count(&rt)   answers  2   where it answered 1 before
+    /// ```
+    pub fn clone<R: Caller<H::Pass>>(&self, rt: R) -> Result<Self, TooMany>
+        ensures counted { OnOk result (CountsSender H.words (R.before rt) (R.after rt) (Ok tt)) }
+    {
+        let (rt, mut pass, end) = rt.begin();
+        let answer = self.clone_by(&rt, &mut pass);
+        R::end(end, pass);
+        answer
+    }
+
+    /// One more sender of the channel, for threads. It counts as `clone`, and waits for the lock.
+    ///
+    /// # Errors
+    /// As `clone`.
+    ///
+    /// # Examples
+    /// ```text
+    /// let other = sender.clone_sync(&rt)?;
+    /// other.sender_count(&rt)   answers  2   where it answered 1 before
+    /// ```
+    pub fn clone_sync<R: Caller<H::Pass>>(&self, rt: R) -> Result<Sender<T, H>, TooMany>
+        ensures counted { OnOk result (CountsSender H.words (R.before rt) (R.after rt) (Ok tt)) }
+    {
+        let inner = self.clone(rt)?;
+        Ok(inner.to_sync())
+    }
+
+    /// Whether no receiver is left. It waits for the lock.
+    ///
+    /// # Examples
+    /// ```text
+    /// sender.is_disconnected(&rt)   answers  true   after the last receiver was dropped
+    /// ```
+    pub fn is_disconnected<R: Caller<H::Pass>>(&self, rt: R) -> bool
+        ensures asked { Asks H.words (R.before rt) (R.after rt) Side.Tx Ask.IsDisconnected flag_by result }
+    {
+        ask_flag(&self.shared, rt, Side::Tx, Ask::IsDisconnected)
+    }
+
+    /// How many messages are in the buffer. It waits for the lock.
+    ///
+    /// # Examples
+    /// ```text
+    /// sender.len(&rt)   answers  1   after one message entered a bounded channel for two
+    /// ```
+    pub fn len<R: Caller<H::Pass>>(&self, rt: R) -> usize
+        ensures asked { Asks H.words (R.before rt) (R.after rt) Side.Tx Ask.Len number_by result }
+    {
+        ask_number(&self.shared, rt, Side::Tx, Ask::Len)
+    }
+
+    /// Whether no message is in the buffer, whoever waits. It waits for the lock.
+    ///
+    /// # Examples
+    /// ```text
+    /// sender.is_empty(&rt)   answers  false   after one message entered
+    /// ```
+    pub fn is_empty<R: Caller<H::Pass>>(&self, rt: R) -> bool
+        ensures asked { Asks H.words (R.before rt) (R.after rt) Side.Tx Ask.IsEmpty flag_by result }
+    {
+        ask_flag(&self.shared, rt, Side::Tx, Ask::IsEmpty)
+    }
+
+    /// Whether the buffer is at the capacity: always at capacity 0, and never without a limit. It
+    /// waits for the lock.
+    ///
+    /// # Examples
+    /// ```text
+    /// sender.is_full(&rt)   answers  true   after one message entered a bounded channel for one
+    /// ```
+    pub fn is_full<R: Caller<H::Pass>>(&self, rt: R) -> bool
+        ensures asked { Asks H.words (R.before rt) (R.after rt) Side.Tx Ask.IsFull flag_by result }
+    {
+        ask_flag(&self.shared, rt, Side::Tx, Ask::IsFull)
+    }
+
+    /// Whether the channel has a limit. It waits for the lock.
+    ///
+    /// # Examples
+    /// ```text
+    /// sender.is_bounded(&rt)   answers  true   for a channel that `bounded` made
+    /// ```
+    pub fn is_bounded<R: Caller<H::Pass>>(&self, rt: R) -> bool
+        ensures asked { Asks H.words (R.before rt) (R.after rt) Side.Tx Ask.IsBounded flag_by result }
+    {
+        ask_flag(&self.shared, rt, Side::Tx, Ask::IsBounded)
+    }
+
+    /// How many messages the buffer may hold, which is `usize::MAX` without a limit. It waits for the
+    /// lock.
+    ///
+    /// # Examples
+    /// ```text
+    /// sender.capacity(&rt)   answers  2   for a bounded channel for two
+    /// ```
+    pub fn capacity<R: Caller<H::Pass>>(&self, rt: R) -> usize
+        ensures asked { Asks H.words (R.before rt) (R.after rt) Side.Tx Ask.Capacity number_by result }
+    {
+        ask_number(&self.shared, rt, Side::Tx, Ask::Capacity)
+    }
+
+    /// How many receivers there are. It waits for the lock.
+    ///
+    /// # Examples
+    /// ```text
+    /// sender.receiver_count(&rt)   answers  1   for a new channel
+    /// ```
+    pub fn receiver_count<R: Caller<H::Pass>>(&self, rt: R) -> u32
+        ensures asked { Asks H.words (R.before rt) (R.after rt) Side.Tx Ask.ReceiverCount count_by result }
+    {
+        ask_count(&self.shared, rt, Side::Tx, Ask::ReceiverCount)
+    }
+
+    /// How many senders there are. It waits for the lock.
+    ///
+    /// # Examples
+    /// ```text
+    /// sender.sender_count(&rt)   answers  1   for a new channel
+    /// ```
+    pub fn sender_count<R: Caller<H::Pass>>(&self, rt: R) -> u32
+        ensures asked { Asks H.words (R.before rt) (R.after rt) Side.Tx Ask.SenderCount count_by result }
+    {
+        ask_count(&self.shared, rt, Side::Tx, Ask::SenderCount)
+    }
+
+    /// Whether both sides are gone. It waits for the lock.
+    ///
+    /// # Examples
+    /// ```text
+    /// sender.is_closed(&rt)   answers  true   after a close
+    /// ```
+    pub fn is_closed<R: Caller<H::Pass>>(&self, rt: R) -> bool
+        ensures asked { Asks H.words (R.before rt) (R.after rt) Side.Tx Ask.IsClosed flag_by result }
+    {
+        ask_flag(&self.shared, rt, Side::Tx, Ask::IsClosed)
+    }
+
+    /// Lets the senders be done: nothing more enters, and the receivers take what is left. A receive
+    /// that waits ends with `SendClosed`, and so does each later one once nothing is left; a send that
+    /// waits is still served. Each later send is refused as `Sealed`. It waits for the lock.
+    ///
+    /// `close` throws away what is in the channel, and the last sender's drop needs every clone gone.
+    ///
+    /// # Errors
+    /// `CloseError` where the channel was sealed or closed already, or no sender is left.
+    ///
+    /// # Examples
+    /// ```text
+    /// sender.seal(&rt)   answers  Ok(())
+    /// sender.seal(&rt)   answers  Err(CloseError())   after that
+    /// ```
+    pub fn seal<R: Caller<H::Pass>>(&self, rt: R) -> Result<(), CloseError>
+        ensures sealed { Seals H.words (R.before rt) (R.after rt) result }
+    {
+        let (rt, mut pass, end) = rt.begin();
+        let answer = self.shared.seal(&rt, &mut pass);
+        R::end(end, pass);
+        answer
+    }
+
+    /// Closes the channel for both sides: all waits end with `Closed`, and the buffer's messages are
+    /// dropped after the lock was released. It waits for the lock.
+    ///
+    /// # Errors
+    /// `CloseError` where both sides were gone already.
+    ///
+    /// # Examples
+    /// ```text
+    /// sender.close(&rt)   answers  Ok(())
+    /// sender.close(&rt)   answers  Err(CloseError())   after that
+    /// ```
+    pub fn close<R: Caller<H::Pass>>(&self, rt: R) -> Result<(), CloseError>
+        ensures closed { Closes H.words (R.before rt) (R.after rt) result }
+    {
+        let (rt, mut pass, end) = rt.begin();
+        let answer = self.shared.close(&rt, &mut pass);
+        R::end(end, pass);
+        answer
+    }
 }
 
 impl<T: Drop, H: History<T, Pass = ()>> AsyncSender<T, H> {
@@ -120,51 +364,6 @@ impl<T: Drop, H: History<T, Pass = ()>> AsyncSender<T, H> {
         ensures fresh { send_is_over result ≡ false }
     {
         send_future(&self.shared, message)
-    }
-
-    /// Sends the message where there is a place for it. `Ok(false)` says that there is none, and the
-    /// message was dropped. It waits for the lock.
-    ///
-    /// # Errors
-    /// `Closed` where the channel was closed, `ReceiveClosed` where the last receiver was dropped,
-    /// `Sealed` after a `seal`, and `NoMemory` where memory was refused. The message is dropped then.
-    ///
-    /// # Examples
-    /// ```text
-    /// sender.try_send(&rt, 1)   answers  Ok(true)    in a new bounded channel for one
-    /// sender.try_send(&rt, 2)   answers  Ok(false)   after that
-    /// ```
-    pub fn try_send<R: Wait>(&self, rt: &R, message: T) -> Result<bool, SendError>
-        ensures sent { TriesToSend H.words tt tt message result }
-    {
-        self.shared.try_send(rt, &mut (), message)
-    }
-
-    /// Sends the option's message where there is a place for it, and empties the option exactly
-    /// then. It waits for the lock.
-    ///
-    /// The caller knows that the option holds a message.
-    ///
-    /// # Errors
-    /// As `try_send`. The option holds the same message then.
-    ///
-    /// # Examples
-    /// ```text
-    /// let mut option = Some(1);
-    /// sender.try_send_option(&rt, &mut option)   answers  Ok(false)   at capacity 0
-    /// option   is  Some(1)
-    /// ```
-    pub fn try_send_option<R: Wait>(
-        &self,
-        rt: &R,
-        option: &mut Option<T>,
-    ) -> Result<bool, SendError>
-        requires { IsSome option.old }
-        ensures sends { IfSome option.old (λ m. TriesToSend H.words tt tt m result) }
-        ensures sent { result ≡ Ok true → option.new ≡ None }
-        ensures kept { result ≢ Ok true → option.new ≡ option.old }
-    {
-        self.shared.try_send_option(rt, &mut (), option)
     }
 
     /// Sends the message where there is a place for it and the lock is free: it waits for nobody.
@@ -204,190 +403,6 @@ impl<T: Drop, H: History<T, Pass = ()>> AsyncSender<T, H> {
         ensures kept { result ≢ Ok true → option.new ≡ option.old }
     {
         self.shared.try_send_option_realtime(&mut (), option)
-    }
-
-    /// One more sender of the channel. Where no sender is left it stays so, and the answer is still
-    /// a sender. It waits for the lock.
-    ///
-    /// # Errors
-    /// `TooMany` where there are `u32::MAX` senders, or as many handles as may be.
-    ///
-    /// # Examples
-    /// ```text
-    /// let other = sender.clone(&rt)?;
-    /// sender.sender_count(&rt)   answers  2   where it answered 1 before
-    /// ```
-    pub fn clone<R: Wait>(&self, rt: &R) -> Result<Self, TooMany>
-        ensures counted { OnOk result (CountsSender H.words tt tt (Ok tt)) }
-    {
-        self.clone_by(rt, &mut ())
-    }
-
-    /// One more sender of the channel, for threads. It counts as `clone`, and waits for the lock.
-    ///
-    /// # Errors
-    /// As `clone`.
-    ///
-    /// # Examples
-    /// ```text
-    /// let other = sender.clone_sync(&rt)?;
-    /// other.sender_count(&rt)   answers  2   where it answered 1 before
-    /// ```
-    pub fn clone_sync<R: Wait>(&self, rt: &R) -> Result<Sender<T, H>, TooMany>
-        ensures counted { OnOk result (CountsSender H.words tt tt (Ok tt)) }
-    {
-        let inner = self.clone(rt)?;
-        Ok(inner.to_sync())
-    }
-
-    /// Whether no receiver is left. It waits for the lock.
-    ///
-    /// # Examples
-    /// ```text
-    /// sender.is_disconnected(&rt)   answers  true   after the last receiver was dropped
-    /// ```
-    pub fn is_disconnected<R: Wait>(&self, rt: &R) -> bool
-        ensures asked { Asks H.words tt tt Side.Tx Ask.IsDisconnected flag_by result }
-    {
-        self.shared
-            .ask_flag(rt, &mut (), Side::Tx, Ask::IsDisconnected)
-    }
-
-    /// How many messages are in the buffer. It waits for the lock.
-    ///
-    /// # Examples
-    /// ```text
-    /// sender.len(&rt)   answers  1   after one message entered a bounded channel for two
-    /// ```
-    pub fn len<R: Wait>(&self, rt: &R) -> usize
-        ensures asked { Asks H.words tt tt Side.Tx Ask.Len number_by result }
-    {
-        self.shared.ask_number(rt, &mut (), Side::Tx, Ask::Len)
-    }
-
-    /// Whether no message is in the buffer, whoever waits. It waits for the lock.
-    ///
-    /// # Examples
-    /// ```text
-    /// sender.is_empty(&rt)   answers  false   after one message entered
-    /// ```
-    pub fn is_empty<R: Wait>(&self, rt: &R) -> bool
-        ensures asked { Asks H.words tt tt Side.Tx Ask.IsEmpty flag_by result }
-    {
-        self.shared.ask_flag(rt, &mut (), Side::Tx, Ask::IsEmpty)
-    }
-
-    /// Whether the buffer is at the capacity: always at capacity 0, and never without a limit. It
-    /// waits for the lock.
-    ///
-    /// # Examples
-    /// ```text
-    /// sender.is_full(&rt)   answers  true   after one message entered a bounded channel for one
-    /// ```
-    pub fn is_full<R: Wait>(&self, rt: &R) -> bool
-        ensures asked { Asks H.words tt tt Side.Tx Ask.IsFull flag_by result }
-    {
-        self.shared.ask_flag(rt, &mut (), Side::Tx, Ask::IsFull)
-    }
-
-    /// Whether the channel has a limit. It waits for the lock.
-    ///
-    /// # Examples
-    /// ```text
-    /// sender.is_bounded(&rt)   answers  true   for a channel that `bounded` made
-    /// ```
-    pub fn is_bounded<R: Wait>(&self, rt: &R) -> bool
-        ensures asked { Asks H.words tt tt Side.Tx Ask.IsBounded flag_by result }
-    {
-        self.shared.ask_flag(rt, &mut (), Side::Tx, Ask::IsBounded)
-    }
-
-    /// How many messages the buffer may hold, which is `usize::MAX` without a limit. It waits for the
-    /// lock.
-    ///
-    /// # Examples
-    /// ```text
-    /// sender.capacity(&rt)   answers  2   for a bounded channel for two
-    /// ```
-    pub fn capacity<R: Wait>(&self, rt: &R) -> usize
-        ensures asked { Asks H.words tt tt Side.Tx Ask.Capacity number_by result }
-    {
-        self.shared.ask_number(rt, &mut (), Side::Tx, Ask::Capacity)
-    }
-
-    /// How many receivers there are. It waits for the lock.
-    ///
-    /// # Examples
-    /// ```text
-    /// sender.receiver_count(&rt)   answers  1   for a new channel
-    /// ```
-    pub fn receiver_count<R: Wait>(&self, rt: &R) -> u32
-        ensures asked { Asks H.words tt tt Side.Tx Ask.ReceiverCount count_by result }
-    {
-        self.shared
-            .ask_count(rt, &mut (), Side::Tx, Ask::ReceiverCount)
-    }
-
-    /// How many senders there are. It waits for the lock.
-    ///
-    /// # Examples
-    /// ```text
-    /// sender.sender_count(&rt)   answers  1   for a new channel
-    /// ```
-    pub fn sender_count<R: Wait>(&self, rt: &R) -> u32
-        ensures asked { Asks H.words tt tt Side.Tx Ask.SenderCount count_by result }
-    {
-        self.shared
-            .ask_count(rt, &mut (), Side::Tx, Ask::SenderCount)
-    }
-
-    /// Whether both sides are gone. It waits for the lock.
-    ///
-    /// # Examples
-    /// ```text
-    /// sender.is_closed(&rt)   answers  true   after a close
-    /// ```
-    pub fn is_closed<R: Wait>(&self, rt: &R) -> bool
-        ensures asked { Asks H.words tt tt Side.Tx Ask.IsClosed flag_by result }
-    {
-        self.shared.ask_flag(rt, &mut (), Side::Tx, Ask::IsClosed)
-    }
-
-    /// Lets the senders be done: nothing more enters, and the receivers take what is left. A receive
-    /// that waits ends with `SendClosed`, and so does each later one once nothing is left; a send that
-    /// waits is still served. Each later send is refused as `Sealed`. It waits for the lock.
-    ///
-    /// `close` throws away what is in the channel, and the last sender's drop needs every clone gone.
-    ///
-    /// # Errors
-    /// `CloseError` where the channel was sealed or closed already, or no sender is left.
-    ///
-    /// # Examples
-    /// ```text
-    /// sender.seal(&rt)   answers  Ok(())
-    /// sender.seal(&rt)   answers  Err(CloseError())   after that
-    /// ```
-    pub fn seal<R: Wait>(&self, rt: &R) -> Result<(), CloseError>
-        ensures sealed { Seals H.words tt tt result }
-    {
-        self.shared.seal(rt, &mut ())
-    }
-
-    /// Closes the channel for both sides: all waits end with `Closed`, and the buffer's messages are
-    /// dropped after the lock was released. It waits for the lock.
-    ///
-    /// # Errors
-    /// `CloseError` where both sides were gone already.
-    ///
-    /// # Examples
-    /// ```text
-    /// sender.close(&rt)   answers  Ok(())
-    /// sender.close(&rt)   answers  Err(CloseError())   after that
-    /// ```
-    pub fn close<R: Wait>(&self, rt: &R) -> Result<(), CloseError>
-        ensures closed { Closes H.words tt tt result }
-    {
-        self.shared.close(rt, &mut ())
     }
 }
 

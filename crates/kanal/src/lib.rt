@@ -8,8 +8,9 @@
 //! futures it hands on, and on `kanal_core` and `kanal_cell`, whose core, cells and errors it hands on. A
 //! handle counts itself and hands on each call; no lock is taken here.
 //!
-//! Each handle has a history, `NoHistory` where none is named. A plain call's contract says which step of a
-//! line of messages it was, in the words of every history whose pass has no content.
+//! Each handle has a history, `NoHistory` where none is named. A call's contract says which step of a line of
+//! messages it was, in the words of every history. Its body is proved for every caller, of whose pass it knows
+//! nothing: so the prover refuses one that makes a second call.
 #![tactic(auto)]
 
 pub use kanal_cell::signal;
@@ -26,8 +27,10 @@ pub mod error {
 
 mod async_receiver;
 mod async_sender;
+mod caller;
 mod channel;
 mod messages;
+mod questions;
 mod receiver;
 mod receiver_view;
 mod sender;
@@ -35,6 +38,7 @@ mod sender_view;
 
 pub use async_receiver::AsyncReceiver;
 pub use async_sender::AsyncSender;
+pub use caller::Caller;
 pub use channel::{bounded, bounded_async, over, unbounded, unbounded_async};
 pub use error::{
     CloseError, DrainError, NewError, NoMemory, ReceiveError, ReceiveErrorTimeout, SendError,

@@ -1,54 +1,76 @@
 //! The messages that a receiver goes through.
 //!
-//! Stands on the receiver for tasks.
+//! Stands on the receiver for tasks and on who makes a call.
 ghost use Rattle.std.specs.Prelude.{IsErrOf};
+ghost use Rattle.kanal.specs.Handles.{pass_of};
 ghost use Rattle.kanal.specs.Messages.{ReceivesAll, ReceivesNext};
 
 use crate::async_receiver::AsyncReceiver;
+use crate::caller::Caller;
 use kanal_core::error::ReceiveError;
 use kanal_history::{History, NoHistory};
 use std::sync::Wait;
 
 /// The messages of a receiver, as `Receiver::iter` and `ReceiverView::iter` answer them.
+///
+/// Contracts see the pass by which it receives.
 #[derive(Drop)]
 pub struct Messages<'a, T, R: Wait, H: History<T> = NoHistory> {
     rt: &'a R,
     receiver: &'a AsyncReceiver<T, H>,
+    pass: H::Pass,
 }
 
 impl<'a, T: Drop, R: Wait, H: History<T>> Messages<'a, T, R, H> {
-    /// The messages that come to this receiver.
-    pub(crate) fn new(rt: &'a R, receiver: &'a AsyncReceiver<T, H>) -> Self {
-        Messages { rt, receiver }
+    /// The messages that come to this receiver, by this pass.
+    pub(crate) fn new(rt: &'a R, receiver: &'a AsyncReceiver<T, H>, pass: H::Pass) -> Self {
+        Messages { rt, receiver, pass }
     }
 }
 
-impl<T: Drop, R: Wait, H: History<T, Pass = ()>> Iterator for Messages<'_, T, R, H> {
+impl<T: Drop, R: Wait, H: History<T>> Iterator for Messages<'_, T, R, H> {
     type Item = T;
 
-    ghost next_gives = { λ _ item _. ReceivesNext H.words tt tt item };
+    ghost next_gives = { λ old item new. ReceivesNext H.words (pass_of old) (pass_of new) item };
 
     /// Receives the next message; `None` where that is refused. It waits for the lock, and for a
     /// message where there is none.
     #[tactic(auto, using(crate::proofs::Receiving::received_next))]
     fn next(&mut self) -> Option<T> {
-        self.receiver.channel().recv(self.rt, &mut ()).ok()
+        self.receiver.channel().recv(self.rt, &mut self.pass).ok()
     }
 }
 
 /// Hands each message that comes to the call, until a receive is refused; `Ok` where that is since no
 /// sender is left.
-pub(crate) fn for_each<T: Drop, H: History<T, Pass = ()>, R: Wait, F: FnMut(T)>(
+pub(crate) fn for_each<T: Drop, H: History<T>, R: Caller<H::Pass>, F: FnMut(T)>(
+    rt: R,
+    receiver: &AsyncReceiver<T, H>,
+    call: F,
+) -> Result<(), ReceiveError>
+    requires callable { F.IsAlwaysCallable call }
+    ensures received { ReceivesAll H.words (R.before rt) (R.after rt) result }
+    ensures ended { IsErrOf result ReceiveError.SendClosed → ⊥ }
+{
+    let (rt, mut pass, end) = rt.begin();
+    let answer = receive_all(&rt, receiver, &mut pass, call);
+    R::end(end, pass);
+    answer
+}
+
+/// The same, by this pass.
+fn receive_all<T: Drop, H: History<T>, R: Wait, F: FnMut(T)>(
     rt: &R,
     receiver: &AsyncReceiver<T, H>,
+    pass: &mut H::Pass,
     mut call: F,
 ) -> Result<(), ReceiveError>
     requires callable { F.IsAlwaysCallable call }
-    ensures received { ReceivesAll H.words tt tt result }
+    ensures received { ReceivesAll H.words pass.old pass.new result }
     ensures ended { IsErrOf result ReceiveError.SendClosed → ⊥ }
 {
     for _ in rt.forever() {
-        match receiver.channel().recv(rt, &mut ()) {
+        match receiver.channel().recv(rt, pass) {
             Ok(message) => call(message),
             Err(ReceiveError::SendClosed) => return Ok(()),
             Err(error) => return Err(error),

@@ -14,6 +14,7 @@ ghost use Rattle.kanal_history.specs.Makes.{HasTooLittleRoom};
 ghost use Rattle.kanal_history.specs.Results.{count_by, flag_by, number_by};
 
 use crate::async_receiver::AsyncReceiver;
+use crate::caller::Caller;
 use crate::messages::{Messages, for_each};
 use kanal_channel::Clock;
 use kanal_core::error::{CloseError, ReceiveError, ReceiveErrorTimeout};
@@ -38,7 +39,7 @@ impl<'a, T: Drop, H: History<T>> ReceiverView<'a, T, H> {
     }
 }
 
-impl<T: Drop, H: History<T, Pass = ()>> ReceiverView<'_, T, H> {
+impl<T: Drop, H: History<T>> ReceiverView<'_, T, H> {
     /// Receives the front message. Where there is none it waits until a message is sent, or the
     /// channel ends; and it waits for the lock.
     ///
@@ -52,10 +53,13 @@ impl<T: Drop, H: History<T, Pass = ()>> ReceiverView<'_, T, H> {
     /// view.recv(&rt)   answers  Ok(7)                            where 7 was sent
     /// view.recv(&rt)   answers  Err(ReceiveError::SendClosed)    after the last sender's drop
     /// ```
-    pub fn recv<R: Wait>(&self, rt: &R) -> Result<T, ReceiveError>
-        ensures received { Receives H.words tt tt result }
+    pub fn recv<R: Caller<H::Pass>>(&self, rt: R) -> Result<T, ReceiveError>
+        ensures received { Receives H.words (R.before rt) (R.after rt) result }
     {
-        self.receiver.channel().recv(rt, &mut ())
+        let (rt, mut pass, end) = rt.begin();
+        let answer = self.receiver.channel().recv(&rt, &mut pass);
+        R::end(end, pass);
+        answer
     }
 
     /// Receives the front message. Where there is none it waits until a message is sent, the channel
@@ -72,18 +76,24 @@ impl<T: Drop, H: History<T, Pass = ()>> ReceiverView<'_, T, H> {
     /// view.recv_timeout(&rt, Duration::from_millis(50), &SystemClock::new(&rt))
     ///     answers  Err(ReceiveErrorTimeout::Timeout)   where nothing was sent within 50 ms
     /// ```
-    pub fn recv_timeout<R: Wait + time::Clock, C: Clock>(
+    pub fn recv_timeout<R: Caller<H::Pass>, C: Clock>(
         &self,
-        rt: &R,
+        rt: R,
         duration: Duration,
         clock: &C,
     ) -> Result<T, ReceiveErrorTimeout>
-        ensures received { ReceivesInTime H.words tt tt (C.answers clock.now) (as_nanos duration)
+    where
+        R::Runtime: time::Clock,
+        ensures received { ReceivesInTime H.words (R.before rt) (R.after rt) (C.answers clock.now) (as_nanos duration)
             result }
     {
-        self.receiver
+        let (rt, mut pass, end) = rt.begin();
+        let answer = self
+            .receiver
             .channel()
-            .recv_timeout(rt, &mut (), duration, clock)
+            .recv_timeout(&rt, &mut pass, duration, clock);
+        R::end(end, pass);
+        answer
     }
 
     /// Receives the front message, if there is one. `Ok(None)` says that there is none. It waits for
@@ -97,26 +107,10 @@ impl<T: Drop, H: History<T, Pass = ()>> ReceiverView<'_, T, H> {
     /// ```text
     /// view.try_recv(&rt)   answers  Ok(None)   in a new channel
     /// ```
-    pub fn try_recv<R: Wait>(&self, rt: &R) -> Result<Option<T>, ReceiveError>
-        ensures received { TriesToReceive H.words tt tt result }
+    pub fn try_recv<R: Caller<H::Pass>>(&self, rt: R) -> Result<Option<T>, ReceiveError>
+        ensures received { TriesToReceive H.words (R.before rt) (R.after rt) result }
     {
-        self.receiver.channel().try_recv(rt, &mut ())
-    }
-
-    /// Receives the front message, if there is one and the lock is free: it waits for nobody.
-    /// `Ok(None)` says that there is none or the lock was held.
-    ///
-    /// # Errors
-    /// As `try_recv`.
-    ///
-    /// # Examples
-    /// ```text
-    /// view.try_recv_realtime()   answers  Ok(Some(1))   where 1 was sent
-    /// ```
-    pub fn try_recv_realtime(&self) -> Result<Option<T>, ReceiveError>
-        ensures received { TriesToReceiveNow H.words tt tt result }
-    {
-        self.receiver.channel().try_recv_realtime(&mut ())
+        self.receiver.try_recv(rt)
     }
 
     /// Moves all messages to the vector's end, those of waiting senders too, and answers how many
@@ -130,30 +124,18 @@ impl<T: Drop, H: History<T, Pass = ()>> ReceiverView<'_, T, H> {
     /// ```text
     /// view.drain_into(&rt, &mut messages)   answers  Ok(2)   where two messages were there
     /// ```
-    pub fn drain_into<R: Wait>(&self, rt: &R, into: &mut Vec<T>) -> Result<usize, ReceiveError>
-        ensures drained { Drains H.words tt tt into.old.items into.new.items result }
+    pub fn drain_into<R: Caller<H::Pass>>(
+        &self,
+        rt: R,
+        into: &mut Vec<T>,
+    ) -> Result<usize, ReceiveError>
+        ensures drained { Drains H.words (R.before rt) (R.after rt) into.old.items into.new.items result }
         ensures refused { IfErr result (λ _. into.new.items ≡ into.old.items) }
         ensures memory { IsErrOf result ReceiveError.NoMemory
-            → HasTooLittleRoom H.words tt (vec_len into.old) (vec_capacity into.old) }
+            → HasTooLittleRoom H.words (R.after rt) (vec_len into.old) (vec_capacity into.old) }
         ensures no_growth { OnErr result (vec_capacity into.new ≡ vec_capacity into.old) }
     {
-        self.receiver.channel().drain_into(rt, &mut (), into)
-    }
-
-    /// The messages, one `recv` after the other, until one is refused. It keeps the runtime value, and
-    /// does nothing else; each item waits as a `recv` does.
-    ///
-    /// The items end where a `recv` would be refused, whatever the reason; a `recv` after the end tells
-    /// it. To contracts the items have no end, so they are used with a limit.
-    ///
-    /// # Examples
-    /// ```text
-    /// for message in view.iter(&rt).take(3) {
-    ///     sum += message;
-    /// }
-    /// ```
-    pub fn iter<'m, R: Wait>(&'m mut self, rt: &'m R) -> Messages<'m, T, R, H> {
-        Messages::new(rt, self.receiver)
+        self.receiver.drain_into(rt, into)
     }
 
     /// Hands each message that comes to the call, until no more come. Each receive waits as a `recv`
@@ -170,9 +152,13 @@ impl<T: Drop, H: History<T, Pass = ()>> ReceiverView<'_, T, H> {
     /// ```text
     /// view.for_each(&rt, |message| sum += message)   answers  Ok(())   after the last sender's drop
     /// ```
-    pub fn for_each<R: Wait, F: FnMut(T)>(&self, rt: &R, call: F) -> Result<(), ReceiveError>
+    pub fn for_each<R: Caller<H::Pass>, F: FnMut(T)>(
+        &self,
+        rt: R,
+        call: F,
+    ) -> Result<(), ReceiveError>
         requires callable { F.IsAlwaysCallable call }
-        ensures received { ReceivesAll H.words tt tt result }
+        ensures received { ReceivesAll H.words (R.before rt) (R.after rt) result }
         ensures ended { IsErrOf result ReceiveError.SendClosed → ⊥ }
     {
         for_each(rt, self.receiver, call)
@@ -184,12 +170,10 @@ impl<T: Drop, H: History<T, Pass = ()>> ReceiverView<'_, T, H> {
     /// ```text
     /// view.is_disconnected(&rt)   answers  true   after the last sender was dropped
     /// ```
-    pub fn is_disconnected<R: Wait>(&self, rt: &R) -> bool
-        ensures asked { Asks H.words tt tt Side.Rx Ask.IsDisconnected flag_by result }
+    pub fn is_disconnected<R: Caller<H::Pass>>(&self, rt: R) -> bool
+        ensures asked { Asks H.words (R.before rt) (R.after rt) Side.Rx Ask.IsDisconnected flag_by result }
     {
-        self.receiver
-            .channel()
-            .ask_flag(rt, &mut (), Side::Rx, Ask::IsDisconnected)
+        self.receiver.is_disconnected(rt)
     }
 
     /// Whether no sender is left and nothing is in the line, waiting senders' messages included, so that
@@ -199,10 +183,10 @@ impl<T: Drop, H: History<T, Pass = ()>> ReceiverView<'_, T, H> {
     /// ```text
     /// view.is_terminated(&rt)   answers  false   while a message is in the buffer
     /// ```
-    pub fn is_terminated<R: Wait>(&self, rt: &R) -> bool
-        ensures asked { AsksForTheEnd H.words tt tt result }
+    pub fn is_terminated<R: Caller<H::Pass>>(&self, rt: R) -> bool
+        ensures asked { AsksForTheEnd H.words (R.before rt) (R.after rt) result }
     {
-        self.receiver.channel().is_terminated(rt, &mut ())
+        self.receiver.is_terminated(rt)
     }
 
     /// How many messages are in the buffer. It waits for the lock.
@@ -211,12 +195,10 @@ impl<T: Drop, H: History<T, Pass = ()>> ReceiverView<'_, T, H> {
     /// ```text
     /// view.len(&rt)   answers  1   after one message entered a bounded channel for two
     /// ```
-    pub fn len<R: Wait>(&self, rt: &R) -> usize
-        ensures asked { Asks H.words tt tt Side.Rx Ask.Len number_by result }
+    pub fn len<R: Caller<H::Pass>>(&self, rt: R) -> usize
+        ensures asked { Asks H.words (R.before rt) (R.after rt) Side.Rx Ask.Len number_by result }
     {
-        self.receiver
-            .channel()
-            .ask_number(rt, &mut (), Side::Rx, Ask::Len)
+        self.receiver.len(rt)
     }
 
     /// Whether no message is in the buffer, whoever waits. It waits for the lock.
@@ -225,12 +207,10 @@ impl<T: Drop, H: History<T, Pass = ()>> ReceiverView<'_, T, H> {
     /// ```text
     /// view.is_empty(&rt)   answers  false   after one message entered
     /// ```
-    pub fn is_empty<R: Wait>(&self, rt: &R) -> bool
-        ensures asked { Asks H.words tt tt Side.Rx Ask.IsEmpty flag_by result }
+    pub fn is_empty<R: Caller<H::Pass>>(&self, rt: R) -> bool
+        ensures asked { Asks H.words (R.before rt) (R.after rt) Side.Rx Ask.IsEmpty flag_by result }
     {
-        self.receiver
-            .channel()
-            .ask_flag(rt, &mut (), Side::Rx, Ask::IsEmpty)
+        self.receiver.is_empty(rt)
     }
 
     /// Whether the buffer is at the capacity: always at capacity 0, and never without a limit. It
@@ -240,12 +220,10 @@ impl<T: Drop, H: History<T, Pass = ()>> ReceiverView<'_, T, H> {
     /// ```text
     /// view.is_full(&rt)   answers  true   after one message entered a bounded channel for one
     /// ```
-    pub fn is_full<R: Wait>(&self, rt: &R) -> bool
-        ensures asked { Asks H.words tt tt Side.Rx Ask.IsFull flag_by result }
+    pub fn is_full<R: Caller<H::Pass>>(&self, rt: R) -> bool
+        ensures asked { Asks H.words (R.before rt) (R.after rt) Side.Rx Ask.IsFull flag_by result }
     {
-        self.receiver
-            .channel()
-            .ask_flag(rt, &mut (), Side::Rx, Ask::IsFull)
+        self.receiver.is_full(rt)
     }
 
     /// Whether the channel has a limit. It waits for the lock.
@@ -254,12 +232,10 @@ impl<T: Drop, H: History<T, Pass = ()>> ReceiverView<'_, T, H> {
     /// ```text
     /// view.is_bounded(&rt)   answers  true   for a channel that `bounded` made
     /// ```
-    pub fn is_bounded<R: Wait>(&self, rt: &R) -> bool
-        ensures asked { Asks H.words tt tt Side.Rx Ask.IsBounded flag_by result }
+    pub fn is_bounded<R: Caller<H::Pass>>(&self, rt: R) -> bool
+        ensures asked { Asks H.words (R.before rt) (R.after rt) Side.Rx Ask.IsBounded flag_by result }
     {
-        self.receiver
-            .channel()
-            .ask_flag(rt, &mut (), Side::Rx, Ask::IsBounded)
+        self.receiver.is_bounded(rt)
     }
 
     /// How many messages the buffer may hold, which is `usize::MAX` without a limit. It waits for the
@@ -269,12 +245,10 @@ impl<T: Drop, H: History<T, Pass = ()>> ReceiverView<'_, T, H> {
     /// ```text
     /// view.capacity(&rt)   answers  2   for a bounded channel for two
     /// ```
-    pub fn capacity<R: Wait>(&self, rt: &R) -> usize
-        ensures asked { Asks H.words tt tt Side.Rx Ask.Capacity number_by result }
+    pub fn capacity<R: Caller<H::Pass>>(&self, rt: R) -> usize
+        ensures asked { Asks H.words (R.before rt) (R.after rt) Side.Rx Ask.Capacity number_by result }
     {
-        self.receiver
-            .channel()
-            .ask_number(rt, &mut (), Side::Rx, Ask::Capacity)
+        self.receiver.capacity(rt)
     }
 
     /// How many receivers there are. It waits for the lock.
@@ -283,12 +257,10 @@ impl<T: Drop, H: History<T, Pass = ()>> ReceiverView<'_, T, H> {
     /// ```text
     /// view.receiver_count(&rt)   answers  1   for a new channel
     /// ```
-    pub fn receiver_count<R: Wait>(&self, rt: &R) -> u32
-        ensures asked { Asks H.words tt tt Side.Rx Ask.ReceiverCount count_by result }
+    pub fn receiver_count<R: Caller<H::Pass>>(&self, rt: R) -> u32
+        ensures asked { Asks H.words (R.before rt) (R.after rt) Side.Rx Ask.ReceiverCount count_by result }
     {
-        self.receiver
-            .channel()
-            .ask_count(rt, &mut (), Side::Rx, Ask::ReceiverCount)
+        self.receiver.receiver_count(rt)
     }
 
     /// How many senders there are. It waits for the lock.
@@ -297,12 +269,10 @@ impl<T: Drop, H: History<T, Pass = ()>> ReceiverView<'_, T, H> {
     /// ```text
     /// view.sender_count(&rt)   answers  1   for a new channel
     /// ```
-    pub fn sender_count<R: Wait>(&self, rt: &R) -> u32
-        ensures asked { Asks H.words tt tt Side.Rx Ask.SenderCount count_by result }
+    pub fn sender_count<R: Caller<H::Pass>>(&self, rt: R) -> u32
+        ensures asked { Asks H.words (R.before rt) (R.after rt) Side.Rx Ask.SenderCount count_by result }
     {
-        self.receiver
-            .channel()
-            .ask_count(rt, &mut (), Side::Rx, Ask::SenderCount)
+        self.receiver.sender_count(rt)
     }
 
     /// Whether both sides are gone. It waits for the lock.
@@ -311,12 +281,10 @@ impl<T: Drop, H: History<T, Pass = ()>> ReceiverView<'_, T, H> {
     /// ```text
     /// view.is_closed(&rt)   answers  true   after a close
     /// ```
-    pub fn is_closed<R: Wait>(&self, rt: &R) -> bool
-        ensures asked { Asks H.words tt tt Side.Rx Ask.IsClosed flag_by result }
+    pub fn is_closed<R: Caller<H::Pass>>(&self, rt: R) -> bool
+        ensures asked { Asks H.words (R.before rt) (R.after rt) Side.Rx Ask.IsClosed flag_by result }
     {
-        self.receiver
-            .channel()
-            .ask_flag(rt, &mut (), Side::Rx, Ask::IsClosed)
+        self.receiver.is_closed(rt)
     }
 
     /// Lets the senders be done: nothing more enters, and the receivers take what is left. A receive
@@ -333,10 +301,10 @@ impl<T: Drop, H: History<T, Pass = ()>> ReceiverView<'_, T, H> {
     /// view.seal(&rt)   answers  Ok(())
     /// view.seal(&rt)   answers  Err(CloseError())   after that
     /// ```
-    pub fn seal<R: Wait>(&self, rt: &R) -> Result<(), CloseError>
-        ensures sealed { Seals H.words tt tt result }
+    pub fn seal<R: Caller<H::Pass>>(&self, rt: R) -> Result<(), CloseError>
+        ensures sealed { Seals H.words (R.before rt) (R.after rt) result }
     {
-        self.receiver.channel().seal(rt, &mut ())
+        self.receiver.seal(rt)
     }
 
     /// Closes the channel for both sides: all waits end with `Closed`, and the buffer's messages are
@@ -350,9 +318,43 @@ impl<T: Drop, H: History<T, Pass = ()>> ReceiverView<'_, T, H> {
     /// view.close(&rt)   answers  Ok(())
     /// view.close(&rt)   answers  Err(CloseError())   after that
     /// ```
-    pub fn close<R: Wait>(&self, rt: &R) -> Result<(), CloseError>
-        ensures closed { Closes H.words tt tt result }
+    pub fn close<R: Caller<H::Pass>>(&self, rt: R) -> Result<(), CloseError>
+        ensures closed { Closes H.words (R.before rt) (R.after rt) result }
     {
-        self.receiver.channel().close(rt, &mut ())
+        self.receiver.close(rt)
+    }
+}
+
+impl<T: Drop, H: History<T, Pass = ()>> ReceiverView<'_, T, H> {
+    /// Receives the front message, if there is one and the lock is free: it waits for nobody.
+    /// `Ok(None)` says that there is none or the lock was held.
+    ///
+    /// # Errors
+    /// As `try_recv`.
+    ///
+    /// # Examples
+    /// ```text
+    /// view.try_recv_realtime()   answers  Ok(Some(1))   where 1 was sent
+    /// ```
+    pub fn try_recv_realtime(&self) -> Result<Option<T>, ReceiveError>
+        ensures received { TriesToReceiveNow H.words tt tt result }
+    {
+        self.receiver.try_recv_realtime()
+    }
+
+    /// The messages, one `recv` after the other, until one is refused. It keeps the runtime value, and
+    /// does nothing else; each item waits as a `recv` does.
+    ///
+    /// The items end where a `recv` would be refused, whatever the reason; a `recv` after the end tells
+    /// it. To contracts the items have no end, so they are used with a limit.
+    ///
+    /// # Examples
+    /// ```text
+    /// for message in view.iter(&rt).take(3) {
+    ///     sum += message;
+    /// }
+    /// ```
+    pub fn iter<'m, R: Wait>(&'m mut self, rt: &'m R) -> Messages<'m, T, R, H> {
+        Messages::new(rt, self.receiver, ())
     }
 }

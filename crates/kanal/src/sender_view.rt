@@ -12,6 +12,7 @@ ghost use Rattle.kanal_history.specs.Refusals.{StartedNoWait};
 ghost use Rattle.kanal_history.specs.Results.{count_by, flag_by, number_by};
 
 use crate::async_sender::AsyncSender;
+use crate::caller::Caller;
 use kanal_channel::Clock;
 use kanal_core::error::{CloseError, SendError, SendErrorTimeout};
 use kanal_events::event::{Ask, Side};
@@ -35,7 +36,7 @@ impl<'a, T: Drop, H: History<T>> SenderView<'a, T, H> {
     }
 }
 
-impl<T: Drop, H: History<T, Pass = ()>> SenderView<'_, T, H> {
+impl<T: Drop, H: History<T>> SenderView<'_, T, H> {
     /// Sends the message. Where the buffer is full it waits until a receiver takes the message, or
     /// the channel ends; and it waits for the lock.
     ///
@@ -49,10 +50,13 @@ impl<T: Drop, H: History<T, Pass = ()>> SenderView<'_, T, H> {
     /// view.send(&rt, 7)   answers  Ok(())                      in a channel with a place
     /// view.send(&rt, 7)   answers  Err(SendError::Closed)      after a close
     /// ```
-    pub fn send<R: Wait>(&self, rt: &R, message: T) -> Result<(), SendError>
-        ensures sent { Sends H.words tt tt message result }
+    pub fn send<R: Caller<H::Pass>>(&self, rt: R, message: T) -> Result<(), SendError>
+        ensures sent { Sends H.words (R.before rt) (R.after rt) message result }
     {
-        self.sender.channel().send(rt, &mut (), message)
+        let (rt, mut pass, end) = rt.begin();
+        let answer = self.sender.channel().send(&rt, &mut pass, message);
+        R::end(end, pass);
+        answer
     }
 
     /// Sends the message. Where the buffer is full it waits until a receiver takes the message, the
@@ -68,19 +72,25 @@ impl<T: Drop, H: History<T, Pass = ()>> SenderView<'_, T, H> {
     /// view.send_timeout(&rt, 7, Duration::from_millis(50), &SystemClock::new(&rt))
     ///     answers  Err(SendErrorTimeout::Timeout)   where no place came within 50 ms
     /// ```
-    pub fn send_timeout<R: Wait + time::Clock, C: Clock>(
+    pub fn send_timeout<R: Caller<H::Pass>, C: Clock>(
         &self,
-        rt: &R,
+        rt: R,
         message: T,
         duration: Duration,
         clock: &C,
     ) -> Result<(), SendErrorTimeout>
-        ensures sent { SendsInTime H.words tt tt (C.answers clock.now) (as_nanos duration)
+    where
+        R::Runtime: time::Clock,
+        ensures sent { SendsInTime H.words (R.before rt) (R.after rt) (C.answers clock.now) (as_nanos duration)
             message result }
     {
-        self.sender
+        let (rt, mut pass, end) = rt.begin();
+        let answer = self
+            .sender
             .channel()
-            .send_timeout(rt, &mut (), message, duration, clock)
+            .send_timeout(&rt, &mut pass, message, duration, clock);
+        R::end(end, pass);
+        answer
     }
 
     /// Sends the option's message as `send_timeout`, and empties the option exactly where it was sent.
@@ -97,22 +107,28 @@ impl<T: Drop, H: History<T, Pass = ()>> SenderView<'_, T, H> {
     ///     answers  Err(SendErrorTimeout::Timeout)   in a full channel
     /// option   is  Some(7)
     /// ```
-    pub fn send_option_timeout<R: Wait + time::Clock, C: Clock>(
+    pub fn send_option_timeout<R: Caller<H::Pass>, C: Clock>(
         &self,
-        rt: &R,
+        rt: R,
         option: &mut Option<T>,
         duration: Duration,
         clock: &C,
     ) -> Result<(), SendErrorTimeout>
+    where
+        R::Runtime: time::Clock,
         requires { IsSome option.old }
-        ensures sends { IfSome option.old (λ m. SendsInTime H.words tt tt (C.answers clock.now)
+        ensures sends { IfSome option.old (λ m. SendsInTime H.words (R.before rt) (R.after rt) (C.answers clock.now)
             (as_nanos duration) m result) }
         ensures sent { result ≡ Ok tt → option.new ≡ None }
         ensures kept { IfErr result (λ e. StartedNoWait e → option.new ≡ option.old) }
     {
-        self.sender
+        let (rt, mut pass, end) = rt.begin();
+        let answer = self
+            .sender
             .channel()
-            .send_option_timeout(rt, &mut (), option, duration, clock)
+            .send_option_timeout(&rt, &mut pass, option, duration, clock);
+        R::end(end, pass);
+        answer
     }
 
     /// Sends the message where there is a place for it. `Ok(false)` says that there is none, and the
@@ -127,10 +143,10 @@ impl<T: Drop, H: History<T, Pass = ()>> SenderView<'_, T, H> {
     /// view.try_send(&rt, 1)   answers  Ok(true)    in a new bounded channel for one
     /// view.try_send(&rt, 2)   answers  Ok(false)   after that
     /// ```
-    pub fn try_send<R: Wait>(&self, rt: &R, message: T) -> Result<bool, SendError>
-        ensures sent { TriesToSend H.words tt tt message result }
+    pub fn try_send<R: Caller<H::Pass>>(&self, rt: R, message: T) -> Result<bool, SendError>
+        ensures sent { TriesToSend H.words (R.before rt) (R.after rt) message result }
     {
-        self.sender.channel().try_send(rt, &mut (), message)
+        self.sender.try_send(rt, message)
     }
 
     /// Sends the option's message where there is a place for it, and empties the option exactly
@@ -147,19 +163,168 @@ impl<T: Drop, H: History<T, Pass = ()>> SenderView<'_, T, H> {
     /// view.try_send_option(&rt, &mut option)   answers  Ok(false)   at capacity 0
     /// option   is  Some(1)
     /// ```
-    pub fn try_send_option<R: Wait>(
+    pub fn try_send_option<R: Caller<H::Pass>>(
         &self,
-        rt: &R,
+        rt: R,
         option: &mut Option<T>,
     ) -> Result<bool, SendError>
         requires { IsSome option.old }
-        ensures sends { IfSome option.old (λ m. TriesToSend H.words tt tt m result) }
+        ensures sends { IfSome option.old (λ m. TriesToSend H.words (R.before rt) (R.after rt) m result) }
         ensures sent { result ≡ Ok true → option.new ≡ None }
         ensures kept { result ≢ Ok true → option.new ≡ option.old }
     {
-        self.sender.channel().try_send_option(rt, &mut (), option)
+        self.sender.try_send_option(rt, option)
     }
 
+    /// Whether no receiver is left. It waits for the lock.
+    ///
+    /// # Examples
+    /// ```text
+    /// view.is_disconnected(&rt)   answers  true   after the last receiver was dropped
+    /// ```
+    pub fn is_disconnected<R: Caller<H::Pass>>(&self, rt: R) -> bool
+        ensures asked { Asks H.words (R.before rt) (R.after rt) Side.Tx Ask.IsDisconnected flag_by result }
+    {
+        self.sender.is_disconnected(rt)
+    }
+
+    /// How many messages are in the buffer. It waits for the lock.
+    ///
+    /// # Examples
+    /// ```text
+    /// view.len(&rt)   answers  1   after one message entered a bounded channel for two
+    /// ```
+    pub fn len<R: Caller<H::Pass>>(&self, rt: R) -> usize
+        ensures asked { Asks H.words (R.before rt) (R.after rt) Side.Tx Ask.Len number_by result }
+    {
+        self.sender.len(rt)
+    }
+
+    /// Whether no message is in the buffer, whoever waits. It waits for the lock.
+    ///
+    /// # Examples
+    /// ```text
+    /// view.is_empty(&rt)   answers  false   after one message entered
+    /// ```
+    pub fn is_empty<R: Caller<H::Pass>>(&self, rt: R) -> bool
+        ensures asked { Asks H.words (R.before rt) (R.after rt) Side.Tx Ask.IsEmpty flag_by result }
+    {
+        self.sender.is_empty(rt)
+    }
+
+    /// Whether the buffer is at the capacity: always at capacity 0, and never without a limit. It
+    /// waits for the lock.
+    ///
+    /// # Examples
+    /// ```text
+    /// view.is_full(&rt)   answers  true   after one message entered a bounded channel for one
+    /// ```
+    pub fn is_full<R: Caller<H::Pass>>(&self, rt: R) -> bool
+        ensures asked { Asks H.words (R.before rt) (R.after rt) Side.Tx Ask.IsFull flag_by result }
+    {
+        self.sender.is_full(rt)
+    }
+
+    /// Whether the channel has a limit. It waits for the lock.
+    ///
+    /// # Examples
+    /// ```text
+    /// view.is_bounded(&rt)   answers  true   for a channel that `bounded` made
+    /// ```
+    pub fn is_bounded<R: Caller<H::Pass>>(&self, rt: R) -> bool
+        ensures asked { Asks H.words (R.before rt) (R.after rt) Side.Tx Ask.IsBounded flag_by result }
+    {
+        self.sender.is_bounded(rt)
+    }
+
+    /// How many messages the buffer may hold, which is `usize::MAX` without a limit. It waits for the
+    /// lock.
+    ///
+    /// # Examples
+    /// ```text
+    /// view.capacity(&rt)   answers  2   for a bounded channel for two
+    /// ```
+    pub fn capacity<R: Caller<H::Pass>>(&self, rt: R) -> usize
+        ensures asked { Asks H.words (R.before rt) (R.after rt) Side.Tx Ask.Capacity number_by result }
+    {
+        self.sender.capacity(rt)
+    }
+
+    /// How many receivers there are. It waits for the lock.
+    ///
+    /// # Examples
+    /// ```text
+    /// view.receiver_count(&rt)   answers  1   for a new channel
+    /// ```
+    pub fn receiver_count<R: Caller<H::Pass>>(&self, rt: R) -> u32
+        ensures asked { Asks H.words (R.before rt) (R.after rt) Side.Tx Ask.ReceiverCount count_by result }
+    {
+        self.sender.receiver_count(rt)
+    }
+
+    /// How many senders there are. It waits for the lock.
+    ///
+    /// # Examples
+    /// ```text
+    /// view.sender_count(&rt)   answers  1   for a new channel
+    /// ```
+    pub fn sender_count<R: Caller<H::Pass>>(&self, rt: R) -> u32
+        ensures asked { Asks H.words (R.before rt) (R.after rt) Side.Tx Ask.SenderCount count_by result }
+    {
+        self.sender.sender_count(rt)
+    }
+
+    /// Whether both sides are gone. It waits for the lock.
+    ///
+    /// # Examples
+    /// ```text
+    /// view.is_closed(&rt)   answers  true   after a close
+    /// ```
+    pub fn is_closed<R: Caller<H::Pass>>(&self, rt: R) -> bool
+        ensures asked { Asks H.words (R.before rt) (R.after rt) Side.Tx Ask.IsClosed flag_by result }
+    {
+        self.sender.is_closed(rt)
+    }
+
+    /// Lets the senders be done: nothing more enters, and the receivers take what is left. A receive
+    /// that waits ends with `SendClosed`, and so does each later one once nothing is left; a send that
+    /// waits is still served. Each later send is refused as `Sealed`. It waits for the lock.
+    ///
+    /// `close` throws away what is in the channel, and the last sender's drop needs every clone gone.
+    ///
+    /// # Errors
+    /// `CloseError` where the channel was sealed or closed already, or no sender is left.
+    ///
+    /// # Examples
+    /// ```text
+    /// view.seal(&rt)   answers  Ok(())
+    /// view.seal(&rt)   answers  Err(CloseError())   after that
+    /// ```
+    pub fn seal<R: Caller<H::Pass>>(&self, rt: R) -> Result<(), CloseError>
+        ensures sealed { Seals H.words (R.before rt) (R.after rt) result }
+    {
+        self.sender.seal(rt)
+    }
+
+    /// Closes the channel for both sides: all waits end with `Closed`, and the buffer's messages are
+    /// dropped after the lock was released. It waits for the lock.
+    ///
+    /// # Errors
+    /// `CloseError` where both sides were gone already.
+    ///
+    /// # Examples
+    /// ```text
+    /// view.close(&rt)   answers  Ok(())
+    /// view.close(&rt)   answers  Err(CloseError())   after that
+    /// ```
+    pub fn close<R: Caller<H::Pass>>(&self, rt: R) -> Result<(), CloseError>
+        ensures closed { Closes H.words (R.before rt) (R.after rt) result }
+    {
+        self.sender.close(rt)
+    }
+}
+
+impl<T: Drop, H: History<T, Pass = ()>> SenderView<'_, T, H> {
     /// Sends the message where there is a place for it and the lock is free: it waits for nobody.
     /// `Ok(false)` says that there is no place or the lock was held, and the message was dropped.
     ///
@@ -173,7 +338,7 @@ impl<T: Drop, H: History<T, Pass = ()>> SenderView<'_, T, H> {
     pub fn try_send_realtime(&self, message: T) -> Result<bool, SendError>
         ensures sent { TriesToSendNow H.words tt tt message result }
     {
-        self.sender.channel().try_send_realtime(&mut (), message)
+        self.sender.try_send_realtime(message)
     }
 
     /// Sends the option's message where there is a place for it and the lock is free, and empties
@@ -196,173 +361,6 @@ impl<T: Drop, H: History<T, Pass = ()>> SenderView<'_, T, H> {
         ensures sent { result ≡ Ok true → option.new ≡ None }
         ensures kept { result ≢ Ok true → option.new ≡ option.old }
     {
-        self.sender
-            .channel()
-            .try_send_option_realtime(&mut (), option)
-    }
-
-    /// Whether no receiver is left. It waits for the lock.
-    ///
-    /// # Examples
-    /// ```text
-    /// view.is_disconnected(&rt)   answers  true   after the last receiver was dropped
-    /// ```
-    pub fn is_disconnected<R: Wait>(&self, rt: &R) -> bool
-        ensures asked { Asks H.words tt tt Side.Tx Ask.IsDisconnected flag_by result }
-    {
-        self.sender
-            .channel()
-            .ask_flag(rt, &mut (), Side::Tx, Ask::IsDisconnected)
-    }
-
-    /// How many messages are in the buffer. It waits for the lock.
-    ///
-    /// # Examples
-    /// ```text
-    /// view.len(&rt)   answers  1   after one message entered a bounded channel for two
-    /// ```
-    pub fn len<R: Wait>(&self, rt: &R) -> usize
-        ensures asked { Asks H.words tt tt Side.Tx Ask.Len number_by result }
-    {
-        self.sender
-            .channel()
-            .ask_number(rt, &mut (), Side::Tx, Ask::Len)
-    }
-
-    /// Whether no message is in the buffer, whoever waits. It waits for the lock.
-    ///
-    /// # Examples
-    /// ```text
-    /// view.is_empty(&rt)   answers  false   after one message entered
-    /// ```
-    pub fn is_empty<R: Wait>(&self, rt: &R) -> bool
-        ensures asked { Asks H.words tt tt Side.Tx Ask.IsEmpty flag_by result }
-    {
-        self.sender
-            .channel()
-            .ask_flag(rt, &mut (), Side::Tx, Ask::IsEmpty)
-    }
-
-    /// Whether the buffer is at the capacity: always at capacity 0, and never without a limit. It
-    /// waits for the lock.
-    ///
-    /// # Examples
-    /// ```text
-    /// view.is_full(&rt)   answers  true   after one message entered a bounded channel for one
-    /// ```
-    pub fn is_full<R: Wait>(&self, rt: &R) -> bool
-        ensures asked { Asks H.words tt tt Side.Tx Ask.IsFull flag_by result }
-    {
-        self.sender
-            .channel()
-            .ask_flag(rt, &mut (), Side::Tx, Ask::IsFull)
-    }
-
-    /// Whether the channel has a limit. It waits for the lock.
-    ///
-    /// # Examples
-    /// ```text
-    /// view.is_bounded(&rt)   answers  true   for a channel that `bounded` made
-    /// ```
-    pub fn is_bounded<R: Wait>(&self, rt: &R) -> bool
-        ensures asked { Asks H.words tt tt Side.Tx Ask.IsBounded flag_by result }
-    {
-        self.sender
-            .channel()
-            .ask_flag(rt, &mut (), Side::Tx, Ask::IsBounded)
-    }
-
-    /// How many messages the buffer may hold, which is `usize::MAX` without a limit. It waits for the
-    /// lock.
-    ///
-    /// # Examples
-    /// ```text
-    /// view.capacity(&rt)   answers  2   for a bounded channel for two
-    /// ```
-    pub fn capacity<R: Wait>(&self, rt: &R) -> usize
-        ensures asked { Asks H.words tt tt Side.Tx Ask.Capacity number_by result }
-    {
-        self.sender
-            .channel()
-            .ask_number(rt, &mut (), Side::Tx, Ask::Capacity)
-    }
-
-    /// How many receivers there are. It waits for the lock.
-    ///
-    /// # Examples
-    /// ```text
-    /// view.receiver_count(&rt)   answers  1   for a new channel
-    /// ```
-    pub fn receiver_count<R: Wait>(&self, rt: &R) -> u32
-        ensures asked { Asks H.words tt tt Side.Tx Ask.ReceiverCount count_by result }
-    {
-        self.sender
-            .channel()
-            .ask_count(rt, &mut (), Side::Tx, Ask::ReceiverCount)
-    }
-
-    /// How many senders there are. It waits for the lock.
-    ///
-    /// # Examples
-    /// ```text
-    /// view.sender_count(&rt)   answers  1   for a new channel
-    /// ```
-    pub fn sender_count<R: Wait>(&self, rt: &R) -> u32
-        ensures asked { Asks H.words tt tt Side.Tx Ask.SenderCount count_by result }
-    {
-        self.sender
-            .channel()
-            .ask_count(rt, &mut (), Side::Tx, Ask::SenderCount)
-    }
-
-    /// Whether both sides are gone. It waits for the lock.
-    ///
-    /// # Examples
-    /// ```text
-    /// view.is_closed(&rt)   answers  true   after a close
-    /// ```
-    pub fn is_closed<R: Wait>(&self, rt: &R) -> bool
-        ensures asked { Asks H.words tt tt Side.Tx Ask.IsClosed flag_by result }
-    {
-        self.sender
-            .channel()
-            .ask_flag(rt, &mut (), Side::Tx, Ask::IsClosed)
-    }
-
-    /// Lets the senders be done: nothing more enters, and the receivers take what is left. A receive
-    /// that waits ends with `SendClosed`, and so does each later one once nothing is left; a send that
-    /// waits is still served. Each later send is refused as `Sealed`. It waits for the lock.
-    ///
-    /// `close` throws away what is in the channel, and the last sender's drop needs every clone gone.
-    ///
-    /// # Errors
-    /// `CloseError` where the channel was sealed or closed already, or no sender is left.
-    ///
-    /// # Examples
-    /// ```text
-    /// view.seal(&rt)   answers  Ok(())
-    /// view.seal(&rt)   answers  Err(CloseError())   after that
-    /// ```
-    pub fn seal<R: Wait>(&self, rt: &R) -> Result<(), CloseError>
-        ensures sealed { Seals H.words tt tt result }
-    {
-        self.sender.channel().seal(rt, &mut ())
-    }
-
-    /// Closes the channel for both sides: all waits end with `Closed`, and the buffer's messages are
-    /// dropped after the lock was released. It waits for the lock.
-    ///
-    /// # Errors
-    /// `CloseError` where both sides were gone already.
-    ///
-    /// # Examples
-    /// ```text
-    /// view.close(&rt)   answers  Ok(())
-    /// view.close(&rt)   answers  Err(CloseError())   after that
-    /// ```
-    pub fn close<R: Wait>(&self, rt: &R) -> Result<(), CloseError>
-        ensures closed { Closes H.words tt tt result }
-    {
-        self.sender.channel().close(rt, &mut ())
+        self.sender.try_send_option_realtime(option)
     }
 }

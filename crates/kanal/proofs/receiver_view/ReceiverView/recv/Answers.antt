@@ -1,0 +1,9 @@
+use Rattle.kanal_history.specs.Handles.{Receives}
+use Rattle.kanal.proofs.Calling.{by_caller}
+use Rattle.kanal.proofs.receiver_view.ReceiverView.recv.Goals as goal
+
+pub returns : goal.returns
+returns g c = record {
+  received = by_caller (λ old new. Receives g.H.History.words old new c.recv-answer.result)
+      c.begin-rt.ensures.before c.end.ensures.back c.begin-rt.ensures.owed c.recv-answer.ensures.received;
+}

@@ -1,0 +1,11 @@
+use Rattle.std.specs.Duration.{as_nanos}
+use Rattle.kanal_history.specs.Handles.{ReceivesInTime}
+use Rattle.kanal.proofs.Calling.{by_caller}
+use Rattle.kanal.proofs.receiver_view.ReceiverView.recv_timeout.Goals as goal
+
+pub returns : goal.returns
+returns g c = record {
+  received = by_caller (λ old new. ReceivesInTime g.H.History.words old new (g.C.Clock.answers c.args.clock.now)
+      (as_nanos c.args.duration) c.recv_timeout-answer.result)
+      c.begin-rt.ensures.before c.end.ensures.back c.begin-rt.ensures.owed c.recv_timeout-answer.ensures.received;
+}

@@ -1,0 +1,9 @@
+use Rattle.kanal_history.specs.Handles.{Sends}
+use Rattle.kanal.proofs.Calling.{by_caller}
+use Rattle.kanal.proofs.sender_view.SenderView.send.Goals as goal
+
+pub returns : goal.returns
+returns g c = record {
+  sent = by_caller (λ old new. Sends g.H.History.words old new c.args.message c.send-answer.result)
+      c.begin-rt.ensures.before c.end.ensures.back c.begin-rt.ensures.owed c.send-answer.ensures.sent;
+}

@@ -1,0 +1,11 @@
+use Rattle.std.specs.Duration.{as_nanos}
+use Rattle.kanal_history.specs.Handles.{SendsInTime}
+use Rattle.kanal.proofs.Calling.{by_caller}
+use Rattle.kanal.proofs.sender_view.SenderView.send_timeout.Goals as goal
+
+pub returns : goal.returns
+returns g c = record {
+  sent = by_caller (λ old new. SendsInTime g.H.History.words old new (g.C.Clock.answers c.args.clock.now)
+      (as_nanos c.args.duration) c.args.message c.send_timeout-answer.result)
+      c.begin-rt.ensures.before c.end.ensures.back c.begin-rt.ensures.owed c.send_timeout-answer.ensures.sent;
+}

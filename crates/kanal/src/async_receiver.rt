@@ -15,14 +15,13 @@ ghost use Rattle.kanal_history.specs.Handles.{Asks, AsksForTheEnd, Closes, Count
 ghost use Rattle.kanal_history.specs.Makes.{HasTooLittleRoom};
 ghost use Rattle.kanal_history.specs.Results.{count_by, flag_by, number_by};
 
-use crate::caller::Caller;
 use crate::questions::{ask_count, ask_flag, ask_number};
 use crate::receiver::Receiver;
 use crate::receiver_view::ReceiverView;
 use kanal_channel::{CountedReceiver, Shared};
 use kanal_core::error::{CloseError, ReceiveError, TooMany};
 use kanal_events::event::{Ask, Side};
-use kanal_futures::{ReceiveFuture, ReceiveStream, receive_future, receive_stream};
+use kanal_futures::{Caller, ReceiveFuture, ReceiveStream, receive_future, receive_stream};
 use kanal_history::{History, NoHistory};
 use std::fmt;
 use std::sync::{Arc, Wait};

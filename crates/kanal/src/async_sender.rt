@@ -12,14 +12,13 @@ ghost use Rattle.kanal_futures.specs.Plain.{send_is_over};
 ghost use Rattle.kanal_history.specs.Handles.{Asks, Closes, CountsSender, Seals, TriesToSend, TriesToSendNow};
 ghost use Rattle.kanal_history.specs.Results.{count_by, flag_by, number_by};
 
-use crate::caller::Caller;
 use crate::questions::{ask_count, ask_flag, ask_number};
 use crate::sender::Sender;
 use crate::sender_view::SenderView;
 use kanal_channel::{CountedSender, Shared};
 use kanal_core::error::{CloseError, SendError, TooMany};
 use kanal_events::event::{Ask, Side};
-use kanal_futures::{SendFuture, send_future};
+use kanal_futures::{Caller, SendFuture, send_future};
 use kanal_history::{History, NoHistory};
 use std::fmt;
 use std::sync::{Arc, Wait};

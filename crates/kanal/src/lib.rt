@@ -27,7 +27,6 @@ pub mod error {
 
 mod async_receiver;
 mod async_sender;
-mod caller;
 mod channel;
 mod messages;
 mod questions;
@@ -38,14 +37,13 @@ mod sender_view;
 
 pub use async_receiver::AsyncReceiver;
 pub use async_sender::AsyncSender;
-pub use caller::Caller;
 pub use channel::{bounded, bounded_async, over, unbounded, unbounded_async};
 pub use error::{
     CloseError, DrainError, NewError, NoMemory, ReceiveError, ReceiveErrorTimeout, SendError,
     SendErrorTimeout, TooMany, WaitError,
 };
 pub use kanal_channel::{Clock, Shared, SystemClock, TestClock};
-pub use kanal_futures::{ReceiveFuture, ReceiveStream, SendFuture};
+pub use kanal_futures::{Caller, ReceiveFuture, ReceiveStream, SendFuture};
 pub use kanal_history::{History, NoHistory};
 pub use messages::Messages;
 pub use receiver::Receiver;

@@ -6,8 +6,8 @@ ghost use Rattle.kanal.specs.Handles.{pass_of};
 ghost use Rattle.kanal.specs.Messages.{ReceivesAll, ReceivesNext};
 
 use crate::async_receiver::AsyncReceiver;
-use crate::caller::Caller;
 use kanal_core::error::ReceiveError;
+use kanal_futures::Caller;
 use kanal_history::{History, NoHistory};
 use std::sync::Wait;
 

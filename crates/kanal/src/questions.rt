@@ -4,9 +4,9 @@
 ghost use Rattle.kanal_history.specs.Handles.{Asks};
 ghost use Rattle.kanal_history.specs.Results.{count_by, flag_by, number_by};
 
-use crate::caller::Caller;
 use kanal_channel::Shared;
 use kanal_events::event::{Ask, Side};
+use kanal_futures::Caller;
 use kanal_history::History;
 
 /// Asks through a side what is answered by yes or no.

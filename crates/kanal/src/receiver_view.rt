@@ -14,11 +14,11 @@ ghost use Rattle.kanal_history.specs.Makes.{HasTooLittleRoom};
 ghost use Rattle.kanal_history.specs.Results.{count_by, flag_by, number_by};
 
 use crate::async_receiver::AsyncReceiver;
-use crate::caller::Caller;
 use crate::messages::{Messages, for_each};
 use kanal_channel::Clock;
 use kanal_core::error::{CloseError, ReceiveError, ReceiveErrorTimeout};
 use kanal_events::event::{Ask, Side};
+use kanal_futures::Caller;
 use kanal_history::{History, NoHistory};
 use std::sync::Wait;
 use std::time;

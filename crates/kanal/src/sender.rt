@@ -12,10 +12,10 @@ ghost use Rattle.kanal_history.specs.Refusals.{StartedNoWait};
 ghost use Rattle.kanal_history.specs.Results.{count_by, flag_by, number_by};
 
 use crate::async_sender::AsyncSender;
-use crate::caller::Caller;
 use kanal_channel::Clock;
 use kanal_core::error::{CloseError, SendError, SendErrorTimeout, TooMany};
 use kanal_events::event::{Ask, Side};
+use kanal_futures::Caller;
 use kanal_history::{History, NoHistory};
 use std::sync::Wait;
 use std::time::Duration;

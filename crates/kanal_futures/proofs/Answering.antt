@@ -29,6 +29,6 @@ module _ {T P : Type 0} (w : Words T P) (old new : P) where
   sent_settled message outcome answer waited is = inr (inl (outcome, waited, is))
 
   -- a message that a stream took is one that its pass received
-  pub received_on : (before after : Option P) (taken : Option T) → before ≡ Some old → after ≡ Some new → IfSome taken (λ m. Receives w old new (Ok m)) → IfSome taken (λ m. HasReceived w before after m)
+  pub received_on : (before after : Option P) (taken : Option T) → before ≡ Some old → after ≡ Some new → IfSome taken (λ m. Receives w old new (Ok m)) → IfSome taken (λ m. HasReceived w before after (Ok m))
   received_on before after None from to received = tt
   received_on before after (Some m) from to received = record { old = old; new = new; from = from; to = to; receives = received }

@@ -2,7 +2,7 @@
 use Rattle.std.specs.Prelude.{ℕ, Bool, Option}
 use Rattle.kanal_futures.specs.declared.receiving.Receiving.{Receiving}
 use Rattle.kanal_futures.specs.declared.sending.Sending.{Sending}
-use Rattle.kanal_futures.specs.Tasks.{begun_by, is_waiting, passes, source_of}
+use Rattle.kanal_futures.specs.Tasks.{answered_by, begun_by, is_waiting, passes, source_of}
 
 module _ {T H P B S C : Type 0} where
   -- what the pass of a receive was at first, if it has not answered
@@ -12,6 +12,14 @@ module _ {T H P B S C : Type 0} where
   -- what the pass of a send was at first, and its message, if it has not answered
   abbrev pub send_begun : Sending T H P B S C → Option (P × T)
   send_begun f = begun_by f.state
+
+  -- the pass of a receive that has answered, where it is kept
+  abbrev pub receive_kept : Receiving T H P B S C → Option P
+  receive_kept f = answered_by f.state
+
+  -- the pass of a send that has answered, where it is kept
+  abbrev pub send_kept : Sending T H P B S C → Option P
+  send_kept f = answered_by f.state
 
   -- a receive whose wait was started, and not polled to its end
   abbrev pub receive_waits : Receiving T H P B S C → Bool

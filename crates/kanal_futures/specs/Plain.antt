@@ -3,7 +3,7 @@ use Rattle.std.specs.Prelude.{ℕ, Bool, Option, Some, None, MatchOption}
 use Rattle.std.specs.Option.{is_none}
 use Rattle.kanal_futures.specs.declared.receive.ReceiveFuture.{ReceiveFuture}
 use Rattle.kanal_futures.specs.declared.send.SendFuture.{SendFuture}
-use Rattle.kanal_futures.specs.Futures.{receive_begun, receive_source, send_begun, send_source}
+use Rattle.kanal_futures.specs.Futures.{receive_begun, receive_kept, receive_source, send_begun, send_kept, send_source}
 
 -- the message of what a send began with
 abbrev pub message_of : {T P : Type 0} → Option (P × T) → Option T
@@ -25,7 +25,7 @@ module _ {T H P B S C : Type 0} where
 
   -- the pass of a receive that has answered
   abbrev pub receive_left : ReceiveFuture T H P B S C → Option P
-  receive_left f = f.left
+  receive_left f = receive_kept f.receiving
 
   -- the name of what a receive waits for
   abbrev pub receive_future_source : ReceiveFuture T H P B S C → ℕ
@@ -41,7 +41,7 @@ module _ {T H P B S C : Type 0} where
 
   -- the pass of a send that has answered
   abbrev pub send_left : SendFuture T H P B S C → Option P
-  send_left f = f.left
+  send_left f = send_kept f.sending
 
   -- the message of a send that has not answered
   abbrev pub message_in : SendFuture T H P B S C → Option T

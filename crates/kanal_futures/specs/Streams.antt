@@ -1,5 +1,6 @@
 -- Where a stream is, and what its messages are.
-use Rattle.std.specs.Prelude.{◌≡◌, ℕ, Bool, Option, Some, Ok, is_some}
+use Rattle.std.specs.Prelude.{◌≡◌, ℕ, Bool, Option, Some, Result, Err, MatchOption, is_some}
+use Rattle.kanal_core.specs.declared.error.ReceiveError.{ReceiveError}
 use Rattle.kanal_history.specs.Handles.{Receives}
 use Rattle.kanal_history.specs.Words.{Words}
 use Rattle.kanal_futures.specs.declared.stream.ReceiveStream.{ReceiveStream}
@@ -9,6 +10,10 @@ module _ {T H P B S C : Type 0} where
   -- a stream that has answered that there is no more
   abbrev pub stream_is_over : ReceiveStream T H P B S C → Bool
   stream_is_over s = is_some s.fault
+
+  -- the refusal that ended a stream
+  abbrev pub stream_fault : ReceiveStream T H P B S C → Option ReceiveError
+  stream_fault s = s.fault
 
   -- a stream with a wait of its own that was not polled to its end
   abbrev pub stream_waits : ReceiveStream T H P B S C → Bool
@@ -23,10 +28,14 @@ module _ {T H P B S C : Type 0} where
   stream_pass s = receive_begun s.receiving
 
 module _ {T P : Type 0} where
-  -- the message was received by the pass that was there before, and made it the one that is there after
-  pub record HasReceived (w : Words T P) (before after : Option P) (message : T) : Type 0 where
+  -- a receive by the pass that was there before has this answer, and the pass that is there after made it
+  pub record HasReceived (w : Words T P) (before after : Option P) (answer : Result T ReceiveError) : Type 0 where
     pub old : P
     pub new : P
     pub from : before ≡ Some old
     pub to : after ≡ Some new
-    pub receives : Receives w old new (Ok message)
+    pub receives : Receives w old new answer
+
+  -- a receive by the pass that was there before was refused so
+  abbrev pub HasEnded : Words T P → Option P → Option P → Option ReceiveError → Type 0
+  HasEnded w before after fault = MatchOption fault ⊥ (λ error. HasReceived w before after (Err error))

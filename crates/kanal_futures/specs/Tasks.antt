@@ -26,19 +26,25 @@ module _ {T H M A P B S C : Type 0} where
   abbrev pub begun_by : Progress T H M A P B S C → Option (P × M)
   begun_by (Zero pass asked) = Some (pass, asked)
   begun_by (Waiting started) = Some started
-  begun_by Done = None
+  begun_by (Done kept) = None
 
   -- there is a wait that has to be counted out
   abbrev pub is_waiting : Progress T H M A P B S C → Bool
   is_waiting (Zero pass asked) = false
   is_waiting (Waiting started) = true
-  is_waiting Done = false
+  is_waiting (Done kept) = false
 
   -- there is a call that was not made yet
   abbrev pub is_fresh : Progress T H M A P B S C → Bool
   is_fresh (Zero pass asked) = true
   is_fresh (Waiting started) = false
-  is_fresh Done = false
+  is_fresh (Done kept) = false
+
+  -- the pass of a call that has answered, where it is kept
+  abbrev pub answered_by : Progress T H M A P B S C → Option P
+  answered_by (Zero pass asked) = None
+  answered_by (Waiting started) = None
+  answered_by (Done kept) = kept
 
   -- what a call began with of whose poll this is left, beside where its future is
   abbrev pub begun_with : Rest T H M P B S C → Progress T H M A P B S C → Option (P × M)

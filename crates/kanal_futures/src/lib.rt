@@ -8,10 +8,12 @@
 //! history's own words which call the pass made. `ReceiveFuture` and `SendFuture` do so with the pass of no
 //! content, for handles that have none. `ReceiveStream` is one receive after the other, by a pass that it
 //! carries. What both directions have in common stands once: the wait of a task in `started`, where a future
-//! is in `progress`, a task's wakers in `wakers`.
+//! is in `progress`, a task's wakers in `wakers`. `Caller` is who makes a call that may wait, of a stream or of
+//! a handle above.
 #![tactic(auto)]
 
 mod asks;
+mod caller;
 mod earlier;
 mod progress;
 mod receive;
@@ -22,6 +24,7 @@ mod started;
 mod stream;
 mod wakers;
 
+pub use caller::Caller;
 pub use receive::{ReceiveFuture, receive_future};
 pub use receiving::{Received, Receiving, recv_in_task};
 pub use send::{SendFuture, send_future};

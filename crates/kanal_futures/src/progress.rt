@@ -2,8 +2,8 @@
 //!
 //! Stands on the started wait. The prover refuses to let one go that still waits. A first poll takes the call
 //! out, and makes it where it needs no more than the lock; what more it needs is told by `Rest`.
-ghost use Rattle.std.specs.Prelude.{◌≡◌, false, true, IfNone, IfSome, Some, None};
-ghost use Rattle.kanal_futures.specs.Tasks.{begun_by, is_fresh, is_waiting, passes};
+ghost use Rattle.std.specs.Prelude.{◌≡◌, false, true, IfNone, IfSome, IsSome, Some, None};
+ghost use Rattle.kanal_futures.specs.Tasks.{answered_by, begun_by, is_fresh, is_waiting, passes};
 
 use crate::asks::Asks;
 use crate::started::Started;
@@ -17,8 +17,8 @@ pub(crate) enum Progress<T, H: History<T>, M, A: Asks<T, M>> {
     Zero(H::Pass, M),
     /// It waits.
     Waiting(Started<T, H, M, A>),
-    /// It has answered.
-    Done,
+    /// It has answered. The pass of its answer is here where it is kept.
+    Done(Option<H::Pass>),
 }
 
 /// What is left of a poll that did not answer at once.
@@ -41,7 +41,7 @@ impl<T: Drop, H: History<T>, M: Drop, A: Asks<T, M>> Drop for Progress<T, H, M, 
                 drop(asked);
             },
             Progress::Waiting(_started) => unreachable!(),
-            Progress::Done => {},
+            Progress::Done(kept) => drop(kept),
         }
     }
 }
@@ -58,7 +58,7 @@ impl<T: Drop, H: History<T>, M: Drop, A: Asks<T, M>> Progress<T, H, M, A> {
         if !matches!(self, Progress::Zero(_, _)) {
             return None;
         }
-        let fresh = mem::replace(self, Progress::Done);
+        let fresh = mem::replace(self, Progress::Done(None));
         Some(fresh.into_call())
     }
 
@@ -71,15 +71,43 @@ impl<T: Drop, H: History<T>, M: Drop, A: Asks<T, M>> Progress<T, H, M, A> {
         match self {
             Progress::Zero(pass, asked) => (pass, asked),
             Progress::Waiting(_started) => unreachable!(),
-            Progress::Done => unreachable!(),
+            Progress::Done(_kept) => unreachable!(),
         }
+    }
+
+    /// Keeps the pass of its answer.
+    #[inline]
+    pub(crate) fn keep(&mut self, pass: H::Pass)
+        requires over { begun_by self.old ≡ None }
+        ensures kept { answered_by self.new ≡ Some pass }
+        ensures over { begun_by self.new ≡ None }
+    {
+        match self {
+            Progress::Zero(_pass, _asked) => unreachable!(),
+            Progress::Waiting(_started) => unreachable!(),
+            Progress::Done(kept) => *kept = Some(pass),
+        }
+    }
+
+    /// Takes out the wait, where there is one.
+    pub(crate) fn take_wait(&mut self) -> Option<Started<T, H, M, A>>
+        ensures waits { IfSome result (λ started. begun_by self.old ≡ Some started) }
+        ensures over { IfSome result (λ _. begun_by self.new ≡ None) }
+        ensures stays { IfNone result (self.new ≡ self.old) }
+        ensures answered { is_fresh self.old ≡ false → IfNone result (begun_by self.old ≡ None) }
+    {
+        if !matches!(self, Progress::Waiting(_)) {
+            return None;
+        }
+        let waiting = mem::replace(self, Progress::Done(None));
+        waiting.into_wait()
     }
 
     /// The wait, if there is one.
     #[inline]
     pub(crate) fn into_wait(self) -> Option<Started<T, H, M, A>>
+        ensures found { is_waiting self ≡ true → IsSome result }
         ensures waits { IfSome result (λ started. begun_by self ≡ Some started) }
-        ensures answered { is_fresh self ≡ false → IfNone result (begun_by self ≡ None) }
     {
         match self {
             Progress::Zero(pass, asked) => {
@@ -88,7 +116,10 @@ impl<T: Drop, H: History<T>, M: Drop, A: Asks<T, M>> Progress<T, H, M, A> {
                 None
             },
             Progress::Waiting(started) => Some(started),
-            Progress::Done => None,
+            Progress::Done(kept) => {
+                drop(kept);
+                None
+            },
         }
     }
 
@@ -102,7 +133,7 @@ impl<T: Drop, H: History<T>, M: Drop, A: Asks<T, M>> Progress<T, H, M, A> {
                 return Some(pass);
             },
             Progress::Waiting(started) => started.leave(shared),
-            Progress::Done => {},
+            Progress::Done(kept) => drop(kept),
         }
         None
     }

@@ -1,7 +1,7 @@
 //! Receiving in a task, with an answer and no pass.
 //!
-//! Stands on `receiving`. The future keeps the pass when it has answered, so that a poll shows in it. Only how
-//! one is made knows that a pass has no content.
+//! Stands on `receiving`. The future keeps the pass when it has answered, so that each poll shows in it. Only
+//! how one is made knows that a pass has no content.
 ghost use Rattle.std.specs.Prelude.{◌≡◌, ⊤, true, false, IfSome, Some, Err, Result, codes};
 ghost use Rattle.std.specs.Option.{is_none};
 ghost use Rattle.futures.specs.Task.{Covers, Keeps};
@@ -31,7 +31,6 @@ use std::fmt;
 #[derive(Drop)]
 pub struct ReceiveFuture<'a, T, H: History<T> = NoHistory> {
     receiving: Receiving<'a, T, H>,
-    left: Option<H::Pass>,
 }
 
 /// A future that receives a message. It does nothing before its first poll, and waits for nobody.
@@ -47,7 +46,6 @@ pub fn receive_future<T: Drop, H: History<T, Pass = ()>>(
 {
     ReceiveFuture {
         receiving: recv_in_task(shared, ()),
-        left: None,
     }
 }
 
@@ -55,12 +53,14 @@ impl<'a, T: Drop, H: History<T>> ReceiveFuture<'a, T, H> {
     /// Keeps the pass of an answer.
     #[inline]
     fn keep(&mut self, received: Received<T, H>) -> Result<T, ReceiveError>
+        requires over { receive_is_over self.old ≡ true }
         ensures received { Receives H.words received.0 received.1 result }
         ensures left { receive_left self.new ≡ Some received.1 }
-        ensures same { self.new.receiving ≡ self.old.receiving }
+        ensures ends { receive_is_over self.new ≡ true }
+        ensures source { receive_future_source self.new ≡ receive_future_source self.old }
     {
         let (pass, answer) = received.into_parts();
-        self.left = Some(pass);
+        self.receiving.keep(pass);
         answer
     }
 
@@ -75,9 +75,11 @@ impl<'a, T: Drop, H: History<T>> ReceiveFuture<'a, T, H> {
         ensures received { IfReady result (λ r. IfSome
             (passes (begun_with rest.entry self.old.receiving.state)) (λ old.
             HasAnswered (receive_left self.new) (λ new. Receives H.words old new r))) }
+        ensures stays { OnPending result (receive_pass self.new
+            ≡ passes (begun_with rest.entry self.old.receiving.state)) }
         ensures over { is_none (passes (begun_with rest.entry self.old.receiving.state)) ≡ true
             → (result ≡ Poll.Ready (Err ReceiveError.Finished))
-            × (receive_is_over self.new ≡ true) }
+            × (receive_is_over self.new ≡ true) × (receive_left self.new ≡ receive_left self.old) }
         ensures ends { IfReady result (λ _. receive_is_over self.new ≡ true) }
         ensures goes_on { OnPending result (receive_is_over self.new ≡ false) }
         ensures registered { OnPending result
@@ -119,9 +121,10 @@ impl<T: Drop, H: History<T>> Future for ReceiveFuture<'_, T, H> {
         ensures kept { Keeps cx.old cx.new }
         ensures received { IfReady result (λ r. IfSome (receive_pass self.old) (λ old.
             HasAnswered (receive_left self.new) (λ new. Receives H.words old new r))) }
+        ensures stays { OnPending result (receive_pass self.new ≡ receive_pass self.old) }
         ensures over { receive_is_over self.old ≡ true
             → (result ≡ Poll.Ready (Err ReceiveError.Finished))
-            × (receive_is_over self.new ≡ true) }
+            × (receive_is_over self.new ≡ true) × (receive_left self.new ≡ receive_left self.old) }
         ensures ends { IfReady result (λ _. receive_is_over self.new ≡ true) }
         ensures goes_on { OnPending result (receive_is_over self.new ≡ false) }
     {

@@ -10,7 +10,7 @@ ghost use Rattle.kanal_core.specs.declared.error.ReceiveError.{ReceiveError};
 ghost use Rattle.kanal_history.specs.Handles.{Receives};
 ghost use Rattle.kanal_channel.specs.Locks.{IsQuiet};
 ghost use Rattle.kanal_futures.specs.Tasks.{Fits, begun_by, begun_with, is_fresh, passes};
-ghost use Rattle.kanal_futures.specs.Futures.{receive_begun, receive_source, receive_waits};
+ghost use Rattle.kanal_futures.specs.Futures.{receive_begun, receive_kept, receive_source, receive_waits};
 
 use crate::asks::{OfReceive, Opening};
 use crate::progress::{Progress, Rest};
@@ -22,8 +22,8 @@ use kanal_channel::{Locked, Shared, received_after, received_by};
 use kanal_core::error::ReceiveError;
 use kanal_history::History;
 use kanal_waits::Pauses;
+use std::fmt;
 use std::marker::Model;
-use std::{fmt, mem};
 
 /// What a receive in a task came to: the answer, and the pass. Contracts see what the pass was at first, the
 /// pass, and the answer.
@@ -169,6 +169,17 @@ impl<'a, T: Drop, H: History<T>> Receiving<'a, T, H> {
         state.into_pass(shared)
     }
 
+    /// Keeps the pass of its answer.
+    #[inline]
+    pub(crate) fn keep(&mut self, pass: H::Pass)
+        requires over { receive_begun self.old ≡ None }
+        ensures kept { receive_kept self.new ≡ Some pass }
+        ensures over { receive_begun self.new ≡ None }
+        ensures source { receive_source self.new ≡ receive_source self.old }
+    {
+        self.state.keep(pass);
+    }
+
     /// Begins the next receive by this pass, of a future that has answered. The spare waker stays.
     pub(crate) fn restart(&mut self, pass: H::Pass)
         requires over { receive_begun self.old ≡ None }
@@ -187,6 +198,7 @@ impl<'a, T: Drop, H: History<T>> Receiving<'a, T, H> {
         ensures rest { IfErr result (λ rest. begun_with rest self.new.state
             ≡ begun_by self.old.state) }
         ensures fits { IfErr result (λ rest. Fits rest self.new.state) }
+        ensures idle { IfErr result (λ _. receive_begun self.old ≡ None → self.new.state ≡ self.old.state) }
         ensures source { receive_source self.new ≡ receive_source self.old }
     {
         let Some((pass, ())) = self.state.take() else {
@@ -340,7 +352,8 @@ impl<'a, T: Drop, H: History<T>> Receiving<'a, T, H> {
         ensures ends { IfReady result (λ _. receive_begun self.new ≡ None) }
         ensures goes_on { OnPending result (receive_begun self.new
             ≡ passes (begun_with rest.entry self.old.state)) }
-        ensures over { is_none (begun_with rest.entry self.old.state) ≡ true → result ≡ Poll.Ready None }
+        ensures over { is_none (begun_with rest.entry self.old.state) ≡ true → (result ≡ Poll.Ready None)
+            × (self.new.state ≡ self.old.state) }
         ensures registered { OnPending result (Covers cx.new (λ s. s ≡ receive_source self.new)) }
         ensures kept { Keeps cx.old cx.new }
         ensures source { receive_source self.new ≡ receive_source self.old }
@@ -363,13 +376,13 @@ impl<'a, T: Drop, H: History<T>> Receiving<'a, T, H> {
         ensures answered { IfReady result (λ r. IfNone r (receive_begun self.old ≡ None)) }
         ensures ends { IfReady result (λ _. receive_begun self.new ≡ None) }
         ensures goes_on { OnPending result (receive_begun self.new ≡ receive_begun self.old) }
-        ensures over { is_none (receive_begun self.old) ≡ true → result ≡ Poll.Ready None }
+        ensures over { is_none (receive_begun self.old) ≡ true → (result ≡ Poll.Ready None)
+            × (self.new.state ≡ self.old.state) }
         ensures registered { OnPending result (Covers cx.new (λ s. s ≡ receive_source self.new)) }
         ensures kept { Keeps cx.old cx.new }
         ensures source { receive_source self.new ≡ receive_source self.old }
     {
-        let made = mem::replace(&mut self.state, Progress::Done);
-        let Some(started) = made.into_wait() else {
+        let Some(started) = self.state.take_wait() else {
             return Poll::Ready(None);
         };
         match self.wait(started, cx) {

@@ -1,6 +1,6 @@
 //! Sending in a task, with an answer and no pass.
 //!
-//! Stands on `sending`. The future keeps the pass when it has answered, so that a poll shows in it. Only how
+//! Stands on `sending`. The future keeps the pass when it has answered, so that each poll shows in it. Only how
 //! one is made knows that a pass has no content.
 ghost use Rattle.std.specs.Prelude.{◌≡◌, ⊤, true, false, IfSome, Some, Err, Result, codes};
 ghost use Rattle.std.specs.Option.{is_none};
@@ -32,7 +32,6 @@ use std::fmt;
 #[derive(Drop)]
 pub struct SendFuture<'a, T, H: History<T> = NoHistory> {
     sending: Sending<'a, T, H>,
-    left: Option<H::Pass>,
 }
 
 /// A future that sends the message. It does nothing before its first poll, and waits for nobody.
@@ -49,7 +48,6 @@ pub fn send_future<T: Drop, H: History<T, Pass = ()>>(
 {
     SendFuture {
         sending: send_in_task(shared, (), message),
-        left: None,
     }
 }
 
@@ -57,12 +55,14 @@ impl<'a, T: Drop, H: History<T>> SendFuture<'a, T, H> {
     /// Keeps the pass of an answer.
     #[inline]
     fn keep(&mut self, sent: Sent<T, H>) -> Result<(), SendError>
+        requires over { send_is_over self.old ≡ true }
         ensures sent { Sends H.words sent.0 sent.2 sent.1 result }
         ensures left { send_left self.new ≡ Some sent.2 }
-        ensures same { self.new.sending ≡ self.old.sending }
+        ensures ends { send_is_over self.new ≡ true }
+        ensures source { send_future_source self.new ≡ send_future_source self.old }
     {
         let (pass, answer) = sent.into_parts();
-        self.left = Some(pass);
+        self.sending.keep(pass);
         answer
     }
 
@@ -80,7 +80,7 @@ impl<'a, T: Drop, H: History<T>> SendFuture<'a, T, H> {
             ≡ begun_with rest.entry self.old.sending.state) }
         ensures over { is_none (begun_with rest.entry self.old.sending.state) ≡ true
             → (result ≡ Poll.Ready (Err SendError.Finished))
-            × (send_is_over self.new ≡ true) }
+            × (send_is_over self.new ≡ true) × (send_left self.new ≡ send_left self.old) }
         ensures ends { IfReady result (λ _. send_is_over self.new ≡ true) }
         ensures goes_on { OnPending result (send_is_over self.new ≡ false) }
         ensures registered { OnPending result (Covers cx.new (λ s. s ≡ send_future_source self.new)) }
@@ -120,9 +120,9 @@ impl<T: Drop, H: History<T>> Future for SendFuture<'_, T, H> {
         ensures kept { Keeps cx.old cx.new }
         ensures sent { IfReady result (λ r. IfSome (send_call self.old) (λ call.
             HasAnswered (send_left self.new) (λ new. Sends H.words call.0 new call.1 r))) }
-        ensures stays { OnPending result (message_in self.new ≡ message_in self.old) }
+        ensures stays { OnPending result (send_call self.new ≡ send_call self.old) }
         ensures over { send_is_over self.old ≡ true → (result ≡ Poll.Ready (Err SendError.Finished))
-            × (send_is_over self.new ≡ true) }
+            × (send_is_over self.new ≡ true) × (send_left self.new ≡ send_left self.old) }
         ensures ends { IfReady result (λ _. send_is_over self.new ≡ true) }
         ensures goes_on { OnPending result (send_is_over self.new ≡ false) }
     {

@@ -10,7 +10,7 @@ ghost use Rattle.kanal_core.specs.declared.error.SendError.{SendError};
 ghost use Rattle.kanal_history.specs.Handles.{Sends};
 ghost use Rattle.kanal_channel.specs.Locks.{IsQuiet};
 ghost use Rattle.kanal_futures.specs.Tasks.{Fits, begun_with, is_fresh};
-ghost use Rattle.kanal_futures.specs.Futures.{send_begun, send_source};
+ghost use Rattle.kanal_futures.specs.Futures.{send_begun, send_kept, send_source};
 
 use crate::asks::{OfSend, Opening};
 use crate::progress::{Progress, Rest};
@@ -22,8 +22,8 @@ use kanal_channel::{Locked, Shared, sent_after, sent_by};
 use kanal_core::error::SendError;
 use kanal_history::History;
 use kanal_waits::Pauses;
+use std::fmt;
 use std::marker::Model;
-use std::{fmt, mem};
 
 /// What a send in a task came to: the answer, and the pass. Contracts see what the pass was at first, the
 /// message, the pass, and the answer.
@@ -139,6 +139,17 @@ pub fn send_in_task<T: Drop, H: History<T>>(
 }
 
 impl<'a, T: Drop, H: History<T>> Sending<'a, T, H> {
+    /// Keeps the pass of its answer.
+    #[inline]
+    pub(crate) fn keep(&mut self, pass: H::Pass)
+        requires over { send_begun self.old ≡ None }
+        ensures kept { send_kept self.new ≡ Some pass }
+        ensures over { send_begun self.new ≡ None }
+        ensures source { send_source self.new ≡ send_source self.old }
+    {
+        self.state.keep(pass);
+    }
+
     /// Offers the message, where no call was made yet, the lock is free, and there is no notice.
     #[inline]
     pub(crate) fn at_once(&mut self) -> Result<Sent<T, H>, Rest<'a, T, H, T>>
@@ -147,6 +158,7 @@ impl<'a, T: Drop, H: History<T>> Sending<'a, T, H> {
         ensures rest { IfErr result (λ rest. begun_with rest self.new.state
             ≡ send_begun self.old) }
         ensures fits { IfErr result (λ rest. Fits rest self.new.state) }
+        ensures idle { IfErr result (λ _. send_begun self.old ≡ None → self.new.state ≡ self.old.state) }
         ensures source { send_source self.new ≡ send_source self.old }
     {
         let Some((pass, message)) = self.state.take() else {
@@ -298,7 +310,8 @@ impl<'a, T: Drop, H: History<T>> Sending<'a, T, H> {
         ensures ends { IfReady result (λ _. send_begun self.new ≡ None) }
         ensures goes_on { OnPending result (send_begun self.new
             ≡ begun_with rest.entry self.old.state) }
-        ensures over { is_none (begun_with rest.entry self.old.state) ≡ true → result ≡ Poll.Ready None }
+        ensures over { is_none (begun_with rest.entry self.old.state) ≡ true → (result ≡ Poll.Ready None)
+            × (self.new.state ≡ self.old.state) }
         ensures registered { OnPending result (Covers cx.new (λ s. s ≡ send_source self.new)) }
         ensures kept { Keeps cx.old cx.new }
         ensures source { send_source self.new ≡ send_source self.old }
@@ -321,13 +334,13 @@ impl<'a, T: Drop, H: History<T>> Sending<'a, T, H> {
         ensures answered { IfReady result (λ r. IfNone r (send_begun self.old ≡ None)) }
         ensures ends { IfReady result (λ _. send_begun self.new ≡ None) }
         ensures goes_on { OnPending result (send_begun self.new ≡ send_begun self.old) }
-        ensures over { is_none (send_begun self.old) ≡ true → result ≡ Poll.Ready None }
+        ensures over { is_none (send_begun self.old) ≡ true → (result ≡ Poll.Ready None)
+            × (self.new.state ≡ self.old.state) }
         ensures registered { OnPending result (Covers cx.new (λ s. s ≡ send_source self.new)) }
         ensures kept { Keeps cx.old cx.new }
         ensures source { send_source self.new ≡ send_source self.old }
     {
-        let made = mem::replace(&mut self.state, Progress::Done);
-        let Some(started) = made.into_wait() else {
+        let Some(started) = self.state.take_wait() else {
             return Poll::Ready(None);
         };
         match self.wait(started, cx) {

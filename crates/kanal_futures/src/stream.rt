@@ -1,14 +1,17 @@
 //! The messages of a channel in a task, one after the other.
 //!
 //! Stands on `receiving`: each item is a receive of its own, by the pass that the stream carries.
-ghost use Rattle.std.specs.Prelude.{◌≡◌, ◌↔◌, ⊤, true, false, Some, None, Ok, IfSome, IfNone, IsSome, OnSome, codes};
+ghost use Rattle.std.specs.Prelude.{◌≡◌, ⊤, true, false, Some, None, Ok, Err, IfSome, IfNone, IsSome, OnSome, codes};
+ghost use Rattle.std.specs.Option.{option_copied};
 ghost use Rattle.futures.specs.Task.{Covers, Keeps};
 ghost use Rattle.futures.specs.Poll.{IfReady, OnPending};
 ghost use Rattle.futures.specs.Runs.{After, Within};
-ghost use Rattle.kanal_history.specs.Handles.{Receives};
+ghost use Rattle.kanal_history.specs.Handles.{AsksForTheEnd, Receives};
 ghost use Rattle.kanal_futures.specs.Futures.{receive_begun};
-ghost use Rattle.kanal_futures.specs.Streams.{HasReceived, stream_is_over, stream_pass, stream_source, stream_waits};
+ghost use Rattle.kanal_futures.specs.Plain.{HasAnswered};
+ghost use Rattle.kanal_futures.specs.Streams.{HasEnded, HasReceived, stream_fault, stream_is_over, stream_pass, stream_source, stream_waits};
 
+use crate::caller::Caller;
 use crate::receiving::{Received, Receiving, recv_in_task};
 use futures::task::{Context, Poll};
 use futures::{Future, Stream};
@@ -16,7 +19,6 @@ use kanal_channel::Shared;
 use kanal_core::error::ReceiveError;
 use kanal_history::{History, NoHistory};
 use std::fmt;
-use std::sync::Wait;
 
 /// The messages of a receiver, as `AsyncReceiver::stream` answers them.
 ///
@@ -73,7 +75,7 @@ impl<T: Drop, H: History<T>> ReceiveStream<'_, T, H> {
     /// stream.fault()   answers  Some(&ReceiveError::SendClosed)   once the last sender's drop ended it
     /// ```
     pub fn fault(&self) -> Option<&ReceiveError>
-        ensures ended { IsSome result ↔ (stream_is_over self.now ≡ true) }
+        ensures fault { option_copied result ≡ stream_fault self.now }
     {
         self.fault.as_ref()
     }
@@ -82,6 +84,8 @@ impl<T: Drop, H: History<T>> ReceiveStream<'_, T, H> {
     fn take(&mut self, received: Received<T, H>) -> Option<T>
         requires over { receive_begun self.old.receiving ≡ None }
         ensures received { IfSome result (λ m. Receives H.words received.0 received.1 (Ok m)) }
+        ensures refused { IfNone result (HasAnswered (stream_fault self.new) (λ error.
+            Receives H.words received.0 received.1 (Err error))) }
         ensures pass { stream_pass self.new ≡ Some received.1 }
         ensures ends { IfNone result (stream_is_over self.new ≡ true) }
         ensures source { stream_source self.new ≡ stream_source self.old }
@@ -96,9 +100,7 @@ impl<T: Drop, H: History<T>> ReceiveStream<'_, T, H> {
             },
         }
     }
-}
 
-impl<T: Drop, H: History<T, Pass = ()>> ReceiveStream<'_, T, H> {
     /// Whether the stream has ended, or will answer no message any more: true after `None`, false while
     /// a wait of its own was not polled to its end, and otherwise what the receiver answers. It may wait
     /// for the lock.
@@ -107,18 +109,23 @@ impl<T: Drop, H: History<T, Pass = ()>> ReceiveStream<'_, T, H> {
     /// ```text
     /// stream.is_terminated(&rt)   answers  true   after `None`
     /// ```
-    pub fn is_terminated<R: Wait>(&self, rt: &R) -> bool
-        ensures ended { stream_is_over self.now ≡ true → result ≡ true }
+    pub fn is_terminated<R: Caller<H::Pass>>(&self, rt: R) -> bool
+        ensures ended { stream_is_over self.now ≡ true → (result ≡ true) × (R.after rt ≡ R.before rt) }
         ensures waiting { stream_is_over self.now ≡ false → stream_waits self.now ≡ true
-            → result ≡ false }
+            → (result ≡ false) × (R.after rt ≡ R.before rt) }
+        ensures asked { stream_is_over self.now ≡ false → stream_waits self.now ≡ false
+            → AsksForTheEnd H.words (R.before rt) (R.after rt) result }
     {
-        if self.fault.is_some() {
-            return true;
-        }
-        if self.receiving.is_waiting() {
-            return false;
-        }
-        self.receiving.shared().is_terminated(rt, &mut ())
+        let (rt, mut pass, end) = rt.begin();
+        let answer = if self.fault.is_some() {
+            true
+        } else if self.receiving.is_waiting() {
+            false
+        } else {
+            self.receiving.shared().is_terminated(&rt, &mut pass)
+        };
+        R::end(end, pass);
+        answer
     }
 }
 
@@ -144,9 +151,12 @@ impl<T: Drop, H: History<T>> Stream for ReceiveStream<'_, T, H> {
         ensures registered { OnPending result (Covers cx.new (λ s. s ≡ stream_source self.new)) }
         ensures kept { Keeps cx.old cx.new }
         ensures received { IfReady result (λ o. IfSome o (λ m.
-            HasReceived H.words (stream_pass self.old) (stream_pass self.new) m)) }
+            HasReceived H.words (stream_pass self.old) (stream_pass self.new) (Ok m))) }
+        ensures refused { IfReady result (λ o. IfNone o (IsSome (stream_pass self.old)
+            → stream_is_over self.old ≡ false
+            → HasEnded H.words (stream_pass self.old) (stream_pass self.new) (stream_fault self.new))) }
         ensures over { stream_is_over self.old ≡ true → (result ≡ Poll.Ready None)
-            × (stream_is_over self.new ≡ true) }
+            × (stream_is_over self.new ≡ true) × (stream_pass self.new ≡ stream_pass self.old) }
         ensures ends { IfReady result (λ o. IfNone o (stream_is_over self.new ≡ true)) }
         ensures goes_on { OnPending result (stream_is_over self.new ≡ false) }
         ensures stays { OnPending result (stream_pass self.new ≡ stream_pass self.old) }

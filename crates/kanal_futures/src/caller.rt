@@ -1,4 +1,4 @@
-//! Who makes a call of a handle.
+//! Who makes a call of a handle, or of a stream.
 //!
 //! Stands on nothing of this crate. It alone makes the pass of no content. A handle's call is generic in its
 //! caller: it gets one pass, knows nothing of it, and gives it back at the end. So each call that it makes on

@@ -1,4 +1,8 @@
--- The handle for tasks that a handle for threads is, and the one that a view is over.
+-- The handle for tasks that a handle for threads is, the one that a view is over, and what a clone does.
+use Rattle.std.specs.Prelude.{◌≡◌, ◌⊎◌, Result, Ok, Err, MatchResult}
+use Rattle.kanal_core.specs.declared.error.TooMany.{TooMany as NoMore}
+use Rattle.kanal_history.specs.Handles.{CountsReceiver, CountsSender}
+use Rattle.kanal_history.specs.Words.{Words}
 use Rattle.kanal.specs.declared.async_receiver.AsyncReceiver.{AsyncReceiver}
 use Rattle.kanal.specs.declared.async_sender.AsyncSender.{AsyncSender}
 use Rattle.kanal.specs.declared.messages.Messages.{Messages}
@@ -27,3 +31,14 @@ module _ {T H P B S C : Type 0} where
   -- the pass by which a receiver's messages come
   abbrev pub pass_of : {R : Type 0} → Messages T R H P B S C → P
   pass_of m = m.pass
+
+module _ {T P A : Type 0} (w : Words T P) (old new : P) where
+  -- one more sender is counted; where the answer is an error, none is: no call was made, or it was refused
+  abbrev pub ClonesSender : Result A NoMore → Type 0
+  ClonesSender answer =
+      MatchResult answer (λ _. CountsSender w old new (Ok tt)) (λ error. (new ≡ old) ⊎ CountsSender w old new (Err error))
+
+  -- the same of a receiver
+  abbrev pub ClonesReceiver : Result A NoMore → Type 0
+  ClonesReceiver answer =
+      MatchResult answer (λ _. CountsReceiver w old new (Ok tt)) (λ error. (new ≡ old) ⊎ CountsReceiver w old new (Err error))

@@ -4,14 +4,14 @@
 //! receiver's drop; the receiver for threads and the view are made over it. A call is the channel's call by
 //! its caller's pass, of which the body knows nothing; a call that takes no caller is made by the pass of no
 //! content.
-ghost use Rattle.std.specs.Prelude.{◌≡◌, Some, IfErr, IsErrOf, OnErr, OnOk, Ok, false, codes};
+ghost use Rattle.std.specs.Prelude.{◌≡◌, Some, IfErr, IsErrOf, OnErr, Ok, false, codes};
 ghost use Rattle.std.specs.Vec.{vec_capacity, vec_len};
-ghost use Rattle.kanal.specs.Handles.{receiver_for_tasks, viewed_receiver};
+ghost use Rattle.kanal.specs.Handles.{ClonesReceiver, receiver_for_tasks, viewed_receiver};
 ghost use Rattle.kanal_events.specs.declared.event.Ask.{Ask};
 ghost use Rattle.kanal_events.specs.declared.event.Side.{Side};
 ghost use Rattle.kanal_futures.specs.Plain.{receive_is_over};
-ghost use Rattle.kanal_futures.specs.Streams.{stream_is_over};
-ghost use Rattle.kanal_history.specs.Handles.{Asks, AsksForTheEnd, Closes, CountsReceiver, Drains, Seals, TriesToReceive, TriesToReceiveNow};
+ghost use Rattle.kanal_futures.specs.Streams.{stream_is_over, stream_pass};
+ghost use Rattle.kanal_history.specs.Handles.{Asks, AsksForTheEnd, Closes, Drains, Seals, TriesToReceive, TriesToReceiveNow};
 ghost use Rattle.kanal_history.specs.Makes.{HasTooLittleRoom};
 ghost use Rattle.kanal_history.specs.Results.{count_by, flag_by, number_by};
 
@@ -63,14 +63,15 @@ impl<T: Drop, H: History<T>> AsyncReceiver<T, H> {
     /// the answer is still a receiver. It waits for the lock.
     ///
     /// # Errors
-    /// `TooMany` where there are `u32::MAX` receivers, or as many handles as may be; no call is made then.
+    /// `TooMany` where there are `u32::MAX` receivers, which the pass is told, or as many handles as may be, where no
+    /// call is made. Nothing is counted then.
     ///
     /// # Examples
     /// ```text
     /// let other = receiver.clone_by(&rt, &mut pass)?;
     /// ```
     pub fn clone_by<R: Wait>(&self, rt: &R, pass: &mut H::Pass) -> Result<Self, TooMany>
-        ensures counted { OnOk result (CountsReceiver H.words pass.old pass.new (Ok tt)) }
+        ensures counted { ClonesReceiver H.words pass.old pass.new result }
     {
         let Ok(shared) = Arc::try_clone(&self.shared) else {
             return Err(TooMany);
@@ -163,7 +164,7 @@ impl<T: Drop, H: History<T>> AsyncReceiver<T, H> {
     /// receiver.receiver_count(&rt)   answers  2   where it answered 1 before
     /// ```
     pub fn clone<R: Caller<H::Pass>>(&self, rt: R) -> Result<Self, TooMany>
-        ensures counted { OnOk result (CountsReceiver H.words (R.before rt) (R.after rt) (Ok tt)) }
+        ensures counted { ClonesReceiver H.words (R.before rt) (R.after rt) result }
     {
         let (rt, mut pass, end) = rt.begin();
         let answer = self.clone_by(&rt, &mut pass);
@@ -182,7 +183,7 @@ impl<T: Drop, H: History<T>> AsyncReceiver<T, H> {
     /// other.receiver_count(&rt)   answers  2   where it answered 1 before
     /// ```
     pub fn clone_sync<R: Caller<H::Pass>>(&self, rt: R) -> Result<Receiver<T, H>, TooMany>
-        ensures counted { OnOk result (CountsReceiver H.words (R.before rt) (R.after rt) (Ok tt)) }
+        ensures counted { ClonesReceiver H.words (R.before rt) (R.after rt) result }
     {
         let inner = self.clone(rt)?;
         Ok(inner.to_sync())
@@ -388,6 +389,7 @@ impl<T: Drop, H: History<T, Pass = ()>> AsyncReceiver<T, H> {
     /// ```
     pub fn stream(&self) -> ReceiveStream<'_, T, H>
         ensures fresh { stream_is_over result ≡ false }
+        ensures pass { stream_pass result ≡ Some tt }
     {
         receive_stream(&self.shared, ())
     }

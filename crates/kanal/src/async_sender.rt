@@ -4,12 +4,12 @@
 //! sender's drop; the sender for threads and the view are made over it. A call is the channel's call by its
 //! caller's pass, of which the body knows nothing; a call that takes no caller is made by the pass of no
 //! content.
-ghost use Rattle.std.specs.Prelude.{◌≡◌, ◌≢◌, IfSome, IsSome, None, OnErr, OnOk, Ok, Some, true, false, codes};
-ghost use Rattle.kanal.specs.Handles.{sender_for_tasks, viewed_sender};
+ghost use Rattle.std.specs.Prelude.{◌≡◌, ◌≢◌, IfSome, IsSome, None, Ok, Some, true, codes};
+ghost use Rattle.kanal.specs.Handles.{ClonesSender, sender_for_tasks, viewed_sender};
 ghost use Rattle.kanal_events.specs.declared.event.Ask.{Ask};
 ghost use Rattle.kanal_events.specs.declared.event.Side.{Side};
-ghost use Rattle.kanal_futures.specs.Plain.{send_is_over};
-ghost use Rattle.kanal_history.specs.Handles.{Asks, Closes, CountsSender, Seals, TriesToSend, TriesToSendNow};
+ghost use Rattle.kanal_futures.specs.Plain.{message_in};
+ghost use Rattle.kanal_history.specs.Handles.{Asks, Closes, Seals, TriesToSend, TriesToSendNow};
 ghost use Rattle.kanal_history.specs.Results.{count_by, flag_by, number_by};
 
 use crate::questions::{ask_count, ask_flag, ask_number};
@@ -60,14 +60,15 @@ impl<T: Drop, H: History<T>> AsyncSender<T, H> {
     /// answer is still a sender. It waits for the lock.
     ///
     /// # Errors
-    /// `TooMany` where there are `u32::MAX` senders, or as many handles as may be; no call is made then.
+    /// `TooMany` where there are `u32::MAX` senders, which the pass is told, or as many handles as may be, where no
+    /// call is made. Nothing is counted then.
     ///
     /// # Examples
     /// ```text
     /// let other = sender.clone_by(&rt, &mut pass)?;
     /// ```
     pub fn clone_by<R: Wait>(&self, rt: &R, pass: &mut H::Pass) -> Result<Self, TooMany>
-        ensures counted { OnOk result (CountsSender H.words pass.old pass.new (Ok tt)) }
+        ensures counted { ClonesSender H.words pass.old pass.new result }
     {
         let Ok(shared) = Arc::try_clone(&self.shared) else {
             return Err(TooMany);
@@ -163,7 +164,7 @@ impl<T: Drop, H: History<T>> AsyncSender<T, H> {
     /// sender.sender_count(&rt)   answers  2   where it answered 1 before
     /// ```
     pub fn clone<R: Caller<H::Pass>>(&self, rt: R) -> Result<Self, TooMany>
-        ensures counted { OnOk result (CountsSender H.words (R.before rt) (R.after rt) (Ok tt)) }
+        ensures counted { ClonesSender H.words (R.before rt) (R.after rt) result }
     {
         let (rt, mut pass, end) = rt.begin();
         let answer = self.clone_by(&rt, &mut pass);
@@ -182,7 +183,7 @@ impl<T: Drop, H: History<T>> AsyncSender<T, H> {
     /// other.sender_count(&rt)   answers  2   where it answered 1 before
     /// ```
     pub fn clone_sync<R: Caller<H::Pass>>(&self, rt: R) -> Result<Sender<T, H>, TooMany>
-        ensures counted { OnOk result (CountsSender H.words (R.before rt) (R.after rt) (Ok tt)) }
+        ensures counted { ClonesSender H.words (R.before rt) (R.after rt) result }
     {
         let inner = self.clone(rt)?;
         Ok(inner.to_sync())
@@ -360,7 +361,7 @@ impl<T: Drop, H: History<T, Pass = ()>> AsyncSender<T, H> {
     /// block_on(&rt, sender.send(7))   gives  Err(SendError::Closed)   after a close
     /// ```
     pub fn send(&self, message: T) -> SendFuture<'_, T, H>
-        ensures fresh { send_is_over result ≡ false }
+        ensures message { message_in result ≡ Some message }
     {
         send_future(&self.shared, message)
     }

@@ -1,14 +1,14 @@
 //! The receiver of a channel for threads.
 //!
 //! Stands on the receiver for tasks and its channel; nothing is done here but handing on.
-ghost use Rattle.std.specs.Prelude.{◌≡◌, IfErr, IsErrOf, OnErr, OnOk, Ok, Some, codes};
+ghost use Rattle.std.specs.Prelude.{◌≡◌, IfErr, IsErrOf, OnErr, Some, codes};
 ghost use Rattle.std.specs.Duration.{as_nanos};
 ghost use Rattle.std.specs.Vec.{vec_capacity, vec_len};
-ghost use Rattle.kanal.specs.Handles.{receiver_for_tasks};
+ghost use Rattle.kanal.specs.Handles.{ClonesReceiver, receiver_for_tasks};
 ghost use Rattle.kanal.specs.Messages.{ReceivesAll};
 ghost use Rattle.kanal_events.specs.declared.event.Ask.{Ask};
 ghost use Rattle.kanal_events.specs.declared.event.Side.{Side};
-ghost use Rattle.kanal_history.specs.Handles.{Asks, AsksForTheEnd, Closes, CountsReceiver, Drains, Receives, ReceivesInTime, Seals, TriesToReceive, TriesToReceiveNow};
+ghost use Rattle.kanal_history.specs.Handles.{Asks, AsksForTheEnd, Closes, Drains, Receives, ReceivesInTime, Seals, TriesToReceive, TriesToReceiveNow};
 ghost use Rattle.kanal_history.specs.Makes.{HasTooLittleRoom};
 ghost use Rattle.kanal_history.specs.Results.{count_by, flag_by, number_by};
 
@@ -192,7 +192,7 @@ impl<T: Drop, H: History<T>> Receiver<T, H> {
     /// receiver.receiver_count(&rt)   answers  2   where it answered 1 before
     /// ```
     pub fn clone<R: Caller<H::Pass>>(&self, rt: R) -> Result<Self, TooMany>
-        ensures counted { OnOk result (CountsReceiver H.words (R.before rt) (R.after rt) (Ok tt)) }
+        ensures counted { ClonesReceiver H.words (R.before rt) (R.after rt) result }
     {
         self.inner.clone_sync(rt)
     }
@@ -208,7 +208,7 @@ impl<T: Drop, H: History<T>> Receiver<T, H> {
     /// other.receiver_count(&rt)   answers  2   where it answered 1 before
     /// ```
     pub fn clone_async<R: Caller<H::Pass>>(&self, rt: R) -> Result<AsyncReceiver<T, H>, TooMany>
-        ensures counted { OnOk result (CountsReceiver H.words (R.before rt) (R.after rt) (Ok tt)) }
+        ensures counted { ClonesReceiver H.words (R.before rt) (R.after rt) result }
     {
         self.inner.clone(rt)
     }

@@ -2,12 +2,12 @@
 //!
 //! Stands on the sender for tasks and its channel; nothing is done here but handing on. Where a call is
 //! refused its message is dropped, but for the calls that are lent an option.
-ghost use Rattle.std.specs.Prelude.{◌≡◌, ◌≢◌, IfErr, IfSome, IsSome, None, OnOk, Ok, Some, true, codes};
+ghost use Rattle.std.specs.Prelude.{◌≡◌, ◌≢◌, IfErr, IfSome, IsSome, None, Ok, Some, true, codes};
 ghost use Rattle.std.specs.Duration.{as_nanos};
-ghost use Rattle.kanal.specs.Handles.{sender_for_tasks};
+ghost use Rattle.kanal.specs.Handles.{ClonesSender, sender_for_tasks};
 ghost use Rattle.kanal_events.specs.declared.event.Ask.{Ask};
 ghost use Rattle.kanal_events.specs.declared.event.Side.{Side};
-ghost use Rattle.kanal_history.specs.Handles.{Asks, Closes, CountsSender, Seals, Sends, SendsInTime, TriesToSend, TriesToSendNow};
+ghost use Rattle.kanal_history.specs.Handles.{Asks, Closes, Seals, Sends, SendsInTime, TriesToSend, TriesToSendNow};
 ghost use Rattle.kanal_history.specs.Refusals.{StartedNoWait};
 ghost use Rattle.kanal_history.specs.Results.{count_by, flag_by, number_by};
 
@@ -203,7 +203,7 @@ impl<T: Drop, H: History<T>> Sender<T, H> {
     /// sender.sender_count(&rt)   answers  2   where it answered 1 before
     /// ```
     pub fn clone<R: Caller<H::Pass>>(&self, rt: R) -> Result<Self, TooMany>
-        ensures counted { OnOk result (CountsSender H.words (R.before rt) (R.after rt) (Ok tt)) }
+        ensures counted { ClonesSender H.words (R.before rt) (R.after rt) result }
     {
         self.inner.clone_sync(rt)
     }
@@ -219,7 +219,7 @@ impl<T: Drop, H: History<T>> Sender<T, H> {
     /// other.sender_count(&rt)   answers  2   where it answered 1 before
     /// ```
     pub fn clone_async<R: Caller<H::Pass>>(&self, rt: R) -> Result<AsyncSender<T, H>, TooMany>
-        ensures counted { OnOk result (CountsSender H.words (R.before rt) (R.after rt) (Ok tt)) }
+        ensures counted { ClonesSender H.words (R.before rt) (R.after rt) result }
     {
         self.inner.clone(rt)
     }

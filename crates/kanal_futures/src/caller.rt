@@ -1,6 +1,6 @@
 //! Who makes a call of a handle, or of a stream.
 //!
-//! Stands on nothing of this crate. It alone makes the pass of no content. A handle's call is generic in its
+//! Stands on nothing of this crate. It makes the pass of no content for each such call. A handle's call is generic in its
 //! caller: it gets one pass, knows nothing of it, and gives it back at the end. So each call that it makes on
 //! the channel shows in that pass, and the prover refuses one more than its clause names.
 ghost use Rattle.std.specs.Prelude.{◌≡◌};

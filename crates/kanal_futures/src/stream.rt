@@ -88,6 +88,7 @@ impl<T: Drop, H: History<T>> ReceiveStream<'_, T, H> {
             Receives H.words received.0 received.1 (Err error))) }
         ensures pass { stream_pass self.new ≡ Some received.1 }
         ensures ends { IfNone result (stream_is_over self.new ≡ true) }
+        ensures goes_on { IfSome result (λ _. stream_fault self.new ≡ stream_fault self.old) }
         ensures source { stream_source self.new ≡ stream_source self.old }
     {
         let (pass, answer) = received.into_parts();
@@ -156,9 +157,10 @@ impl<T: Drop, H: History<T>> Stream for ReceiveStream<'_, T, H> {
             → stream_is_over self.old ≡ false
             → HasEnded H.words (stream_pass self.old) (stream_pass self.new) (stream_fault self.new))) }
         ensures over { stream_is_over self.old ≡ true → (result ≡ Poll.Ready None)
-            × (stream_is_over self.new ≡ true) × (stream_pass self.new ≡ stream_pass self.old) }
+            × (stream_fault self.new ≡ stream_fault self.old) × (stream_pass self.new ≡ stream_pass self.old) }
         ensures ends { IfReady result (λ o. IfNone o (stream_is_over self.new ≡ true)) }
         ensures goes_on { OnPending result (stream_is_over self.new ≡ false) }
+        ensures further { IfReady result (λ o. IfSome o (λ _. stream_is_over self.new ≡ false)) }
         ensures stays { OnPending result (stream_pass self.new ≡ stream_pass self.old) }
     {
         if self.fault.is_some() {

@@ -1,8 +1,5 @@
-//! Reads a history: the capacity, and the calls of all parties in their order.
-//!
-//! It cuts the party's number off each line and hands on the rest to `kanal_script`, which alone
-//! knows how an event is written. No other module cuts input.
-use crate::fault::{Fault, Trouble};
+//! Cuts the party's number off each line of a history, and hands on the rest to `kanal_script`; no other module cuts input.
+use crate::fault::Fault;
 use kanal_journal::journal::Event;
 use kanal_script::parser::{number, parse};
 use std::alloc::Global;
@@ -10,6 +7,8 @@ use std::str;
 
 /// The numbers of parties are below this one.
 const PARTIES: u64 = 32;
+
+const NO_PARTY: &str = "no party below 32 with a space behind it";
 
 /// A call as it was written: who made it, and the words of its event.
 #[derive(Clone, Copy, Drop)]
@@ -26,85 +25,36 @@ pub struct Reading<'a> {
     pub events: Vec<Event<u64>>,
 }
 
-/// The lines with the parties cut off, up to the first from which none can be cut.
-#[derive(Drop)]
-struct Cut<'a> {
-    calls: Vec<Call<'a>>,
-    script: String,
-    /// The line without a party.
-    stopped: Option<usize>,
+/// The call that the line writes, if it begins with a party.
+fn call_of(line: &str) -> Option<Call<'_>> {
+    let (word, words) = line.split_once(' ')?;
+    let party = number(word).filter(|party| *party < PARTIES)?;
+    let party = u32::try_from(party).ok()?;
+    Some(Call { party, words })
 }
 
-impl<'a> Call<'a> {
-    /// The call that the line writes, if it begins with a party.
-    fn of(line: &'a str) -> Option<Call<'a>> {
-        let (word, words) = line.split_once(' ')?;
-        let party = number(word)?;
-        if party >= PARTIES {
-            return None;
-        }
-        Some(Call {
-            party: u32::try_from(party).ok()?,
-            words,
-        })
-    }
-}
-
-impl<'a> Cut<'a> {
-    /// Cuts the parties off the lines behind the first.
-    fn of(alloc: Global, text: &'a str) -> Result<Cut<'a>, Fault> {
-        let mut cut = Cut {
-            calls: Vec::new(alloc),
-            script: String::new(alloc),
-            stopped: None,
+/// Puts each line's words at the script's end, and each call at the list's; answers why it stopped, if it did.
+fn cut<'a>(
+    bytes: &'a [u8],
+    script: &mut String,
+    calls: &mut Vec<Call<'a>>,
+) -> Result<Option<Fault>, Fault> {
+    for (place, line) in bytes.split(|byte| *byte == b'\n').enumerate() {
+        let number = place.saturating_add(1);
+        let Ok(mut words) = str::from_utf8(line) else {
+            return Ok(Some(Fault::Unreadable(number, "not UTF-8")));
         };
-        for (place, line) in text.split('\n').enumerate() {
-            if place == 0 {
-                cut.add(line)?;
-                continue;
-            }
-            let Some(call) = Call::of(line) else {
-                cut.stopped = Some(place.saturating_add(1));
-                break;
+        if place > 0 {
+            let Some(call) = call_of(words) else {
+                return Ok(Some(Fault::Unreadable(number, NO_PARTY)));
             };
-            cut.add(call.words)?;
-            cut.calls.push(call)?;
+            words = call.words;
+            calls.push(call)?;
         }
-        Ok(cut)
+        script.push_str(words)?;
+        script.push('\n')?;
     }
-
-    /// Adds a line to the script.
-    fn add(&mut self, line: &str) -> Result<(), Fault> {
-        self.script.push_str(line)?;
-        self.script.push('\n')?;
-        Ok(())
-    }
-}
-
-/// Reads a text.
-fn read_text<'a>(alloc: Global, text: &'a str) -> Result<Reading<'a>, Fault> {
-    let lines = text.strip_suffix('\n').unwrap_or(text);
-    let cut = Cut::of(alloc, lines)?;
-    let script = parse(alloc, cut.script.as_bytes())?;
-    if let Some(line) = cut.stopped {
-        return Err(Fault::Unreadable(line, Trouble::NoParty));
-    }
-    Ok(Reading {
-        capacity: script.capacity,
-        calls: cut.calls,
-        events: script.events,
-    })
-}
-
-/// The number of the line in which the bytes end.
-fn line_of(bytes: &[u8]) -> usize {
-    let mut line: usize = 1;
-    for byte in bytes {
-        if *byte == b'\n' {
-            line = line.saturating_add(1);
-        }
-    }
-    line
+    Ok(None)
 }
 
 /// Reads a history from bytes.
@@ -113,11 +63,16 @@ fn line_of(bytes: &[u8]) -> usize {
 /// line feed may be left out. The error tells which line can't be read and why, or that memory was
 /// refused.
 pub fn read<'a>(alloc: Global, bytes: &'a [u8]) -> Result<Reading<'a>, Fault> {
-    match str::from_utf8(bytes) {
-        Ok(text) => read_text(alloc, text),
-        Err(error) => {
-            let (before, _rest) = bytes.split_at(error.valid_up_to().min(bytes.len()));
-            Err(Fault::Unreadable(line_of(before), Trouble::NoText))
-        },
+    let (mut script, mut calls) = (String::new(alloc), Vec::new(alloc));
+    let lines = bytes.strip_suffix(b"\n").unwrap_or(bytes);
+    let stopped = cut(lines, &mut script, &mut calls)?;
+    let script = parse(alloc, script.as_bytes())?;
+    match stopped {
+        Some(fault) => Err(fault),
+        None => Ok(Reading {
+            capacity: script.capacity,
+            calls,
+            events: script.events,
+        }),
     }
 }

@@ -1,5 +1,5 @@
 //! Histories of which nothing is drawn, each with what is told of it.
-use kanal_drawing::{Fault, Form, draw};
+use kanal_drawing::{Fault, draw};
 use std::alloc::Global;
 use std::test::Fail;
 
@@ -42,7 +42,7 @@ const INPUTS: &[(&[u8], &str)] = &[
 
 /// Why nothing is drawn of these bytes, if nothing is.
 fn fault_of(alloc: Global, bytes: &[u8]) -> Option<Fault> {
-    draw(alloc, Form::Text, bytes).err()
+    draw(alloc, bytes).err()
 }
 
 #[test]

@@ -6,6 +6,7 @@ mod given;
 mod lock;
 mod mismatches;
 mod parties;
+mod rows;
 mod states;
 mod threads;
 mod turns;

@@ -1,16 +1,10 @@
-//! Each call of a pass once, with ample memory.
+//! Each call of a pass with ample memory, what a pass keeps of its calls, and how passes are numbered.
 use crate::tests::given::{equal, holds};
-use crate::tests::parties::{channel, end, pass, pass_on, recorded};
+use crate::tests::parties::{channel, pass};
+use crate::tests::rows::{Row, ends_with, played};
+use kanal_journal::journal::Event::*;
 use kanal_journal::journal::{Ask, Refusal, Reply, Side};
 use kanal_recorded::Note;
-
-#[test]
-fn parties_are_numbered_from_0(rt: HostRuntime) {
-    let parties = recorded(&rt, Some(1));
-    equal(&rt, parties.a.party(), 0);
-    equal(&rt, parties.b.party(), 1);
-    drop(parties);
-}
 
 #[test]
 fn nine_parties(rt: HostRuntime) {
@@ -19,11 +13,6 @@ fn nine_parties(rt: HostRuntime) {
         equal(&rt, pass(&rt, &channel).party(), number);
     }
     drop(channel);
-}
-
-#[test]
-fn a_message_of_another_party(rt: HostRuntime) {
-    drop(pass_on(&rt));
 }
 
 /// Whether the call stands at this place, and its pass had seen so much.
@@ -39,78 +28,116 @@ fn are_first_and_third(notes: &[Note<u64>]) -> bool {
     }
 }
 
+/// A message that the second party finds at its second try.
+const FOUND: &[Row] = &[
+    (1, TryRecv, Reply::Nothing),
+    (0, TrySend(7), Reply::Yes),
+    (1, TryRecv, Reply::Got(7)),
+];
+
 #[test]
 fn what_a_pass_keeps(rt: HostRuntime) {
-    let mut parties = recorded(&rt, Some(1));
-    let channel = &parties.channel;
-    equal(&rt, parties.b.try_recv(&rt, channel), Reply::Nothing);
-    equal(&rt, parties.a.try_send(&rt, channel, 7), Reply::Yes);
-    equal(&rt, parties.b.try_recv(&rt, channel), Reply::Got(7));
+    let parties = played(&rt, Some(1), FOUND);
     holds(&rt, are_first_and_third(parties.b.notes()));
     drop(parties);
 }
 
-/// A send that waits can be taken back, and a drain takes the other's message.
-#[test]
-fn sends_that_wait(rt: HostRuntime) {
-    let mut parties = recorded(&rt, Some(1));
-    let (a, channel) = (&mut parties.a, &parties.channel);
-    equal(&rt, a.send(&rt, channel, 1), Reply::Sent);
-    equal(&rt, a.send(&rt, channel, 2), Reply::Waits(0));
-    equal(&rt, a.withdraw(&rt, channel, 0), Reply::Withdrawn(Some(2)));
-    equal(&rt, a.drain(&rt, channel), Reply::Drained(1));
-    drop(parties);
-}
+/// Lists of calls, each with the capacity of its channel.
+const LISTS: &[(Option<usize>, &[Row])] = &[
+    (Some(1), FOUND),
+    // A message of another party.
+    (
+        Some(1),
+        &[
+            (0, TrySend(7), Reply::Yes),
+            (0, Ask(Side::Tx, Ask::Len), Reply::Number(1)),
+            (1, TryRecv, Reply::Got(7)),
+        ],
+    ),
+    // A send that waits can be taken back, and a drain takes the other's message.
+    (
+        Some(1),
+        &[
+            (0, Send(1), Reply::Sent),
+            (0, Send(2), Reply::Waits(0)),
+            (0, Withdraw(0), Reply::Withdrawn(Some(2))),
+            (0, Drain, Reply::Drained(1)),
+        ],
+    ),
+    // One of two messages finds the receive that waits.
+    (
+        Some(0),
+        &[
+            (0, RecvLate, Reply::Refused(Refusal::Timeout, None)),
+            (0, Recv, Reply::Waits(0)),
+            (0, TrySend(7), Reply::Yes),
+            (0, TrySend(8), Reply::No(8)),
+        ],
+    ),
+    // Handles are added and dropped.
+    (
+        None,
+        &[
+            (0, CloneTx, Reply::Done),
+            (0, CloneRx, Reply::Done),
+            (0, Ask(Side::Rx, Ask::SenderCount), Reply::Number(2)),
+            (0, DropTx, Reply::Done),
+            (0, DropRx, Reply::Done),
+            (0, Terminated, Reply::Flag(false)),
+        ],
+    ),
+    // What is there is received after a seal.
+    (
+        Some(1),
+        &[
+            (0, TrySend(1), Reply::Yes),
+            (0, Seal, Reply::Done),
+            (0, TrySend(2), Reply::Refused(Refusal::Sealed, Some(2))),
+            (1, Recv, Reply::Got(1)),
+        ],
+    ),
+    // A close clears the message, and a second one is refused.
+    (
+        Some(2),
+        &[
+            (0, TrySend(1), Reply::Yes),
+            (0, Close, Reply::Cleared(1)),
+            (0, Close, Reply::Refused(Refusal::CloseError, None)),
+        ],
+    ),
+    // Two of three messages enter, for the capacity is two.
+    (
+        Some(2),
+        &[
+            (0, TrySend(1), Reply::Yes),
+            (0, TrySend(2), Reply::Yes),
+            (0, TrySend(3), Reply::No(3)),
+        ],
+    ),
+    // Thirteen calls of one pass.
+    (
+        Some(1),
+        &[
+            (0, Send(1), Reply::Sent),
+            (0, Send(2), Reply::Waits(0)),
+            (0, Withdraw(0), Reply::Withdrawn(Some(2))),
+            (0, CloneTx, Reply::Done),
+            (0, CloneRx, Reply::Done),
+            (0, DropTx, Reply::Done),
+            (0, DropRx, Reply::Done),
+            (0, RecvLate, Reply::Got(1)),
+            (0, Recv, Reply::Waits(1)),
+            (0, Withdraw(1), Reply::Withdrawn(None)),
+            (0, Drain, Reply::Drained(0)),
+            (0, Terminated, Reply::Flag(false)),
+            (0, Close, Reply::Cleared(0)),
+        ],
+    ),
+];
 
-/// One of two messages finds the receive that waits.
 #[test]
-fn receives_that_wait(rt: HostRuntime) {
-    let mut parties = recorded(&rt, Some(0));
-    let (a, channel) = (&mut parties.a, &parties.channel);
-    let late = Reply::Refused(Refusal::Timeout, None);
-    equal(&rt, a.recv_late(&rt, channel), late);
-    equal(&rt, a.recv(&rt, channel), Reply::Waits(0));
-    equal(&rt, a.try_send(&rt, channel, 7), Reply::Yes);
-    equal(&rt, a.try_send(&rt, channel, 8), Reply::No(8));
-    drop(parties);
-}
-
-/// Handles are added and dropped.
-#[test]
-fn handles(rt: HostRuntime) {
-    let mut parties = recorded(&rt, None);
-    let (a, channel) = (&mut parties.a, &parties.channel);
-    equal(&rt, a.clone_tx(&rt, channel), Reply::Done);
-    equal(&rt, a.clone_rx(&rt, channel), Reply::Done);
-    let senders = a.ask(&rt, channel, Side::Rx, Ask::SenderCount);
-    equal(&rt, senders, Reply::Number(2));
-    equal(&rt, a.drop_tx(&rt, channel), Reply::Done);
-    equal(&rt, a.drop_rx(&rt, channel), Reply::Done);
-    equal(&rt, a.terminated(&rt, channel), Reply::Flag(false));
-    drop(parties);
-}
-
-/// A seal is made on an open channel, and what is there is still received.
-#[test]
-fn a_seal(rt: HostRuntime) {
-    let mut parties = recorded(&rt, Some(1));
-    let (a, channel) = (&mut parties.a, &parties.channel);
-    equal(&rt, a.try_send(&rt, channel, 1), Reply::Yes);
-    equal(&rt, a.seal(&rt, channel), Reply::Done);
-    let refused = Reply::Refused(Refusal::Sealed, Some(2));
-    equal(&rt, a.try_send(&rt, channel, 2), refused);
-    equal(&rt, parties.b.recv(&rt, channel), Reply::Got(1));
-    drop(end(&rt, parties));
-}
-
-/// A close clears the message, and a second one is refused.
-#[test]
-fn a_close(rt: HostRuntime) {
-    let mut parties = recorded(&rt, Some(2));
-    let (a, channel) = (&mut parties.a, &parties.channel);
-    equal(&rt, a.try_send(&rt, channel, 1), Reply::Yes);
-    equal(&rt, a.close(&rt, channel), Reply::Cleared(1));
-    let refused = Reply::Refused(Refusal::CloseError, None);
-    equal(&rt, a.close(&rt, channel), refused);
-    drop(parties);
+fn each_call_is_answered_and_kept(rt: HostRuntime) {
+    for (capacity, rows) in LISTS {
+        ends_with(&rt, *capacity, rows);
+    }
 }

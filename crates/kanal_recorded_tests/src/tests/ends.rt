@@ -1,6 +1,6 @@
-//! Histories that agree.
+//! Histories that agree: what is heard, the outcomes of waits, and more passes or entries than two passes make in a row.
 use crate::tests::given::{equal, holds};
-use crate::tests::parties::{Parties, add, channel, end, finish_with, pass, pass_on, recorded};
+use crate::tests::parties::{Parties, add, channel, end, finish_with, pass, recorded};
 use kanal_core::internal::{Outcome, Reason};
 use kanal_journal::journal::{Ask, Journal, Reply, Side};
 use kanal_recorded::{Pass, Recorded};
@@ -16,13 +16,6 @@ fn have_parties(journal: &Journal<u64>, parties: (u32, u32, u32)) -> bool {
         },
         _ => false,
     }
-}
-
-#[test]
-fn three_calls(rt: HostRuntime) {
-    let journal = end(&rt, pass_on(&rt));
-    holds(&rt, have_parties(&journal, (0, 0, 1)));
-    drop(journal);
 }
 
 /// Finds nothing as b, hears what a sent, and receives it.
@@ -43,19 +36,6 @@ fn told_calls_come_later(rt: HostRuntime) {
     drop(journal);
 }
 
-/// The wait of b is given what a sends.
-#[test]
-fn the_outcome_of_a_wait(rt: HostRuntime) {
-    let mut parties = recorded(&rt, Some(1));
-    let (b, channel) = (&mut parties.b, &parties.channel);
-    equal(&rt, b.recv(&rt, channel), Reply::Waits(0));
-    equal(&rt, b.outcome(&rt, channel, 0), None);
-    equal(&rt, parties.a.try_send(&rt, channel, 7), Reply::Yes);
-    equal(&rt, b.outcome(&rt, channel, 0), Some(Outcome::Given(7)));
-    equal(&rt, b.notes().len(), 1);
-    drop(parties);
-}
-
 /// Of the two waits of b the first is given what a sends, and the other ends with the channel.
 #[test]
 fn the_outcomes_of_two_waits(rt: HostRuntime) {
@@ -63,6 +43,7 @@ fn the_outcomes_of_two_waits(rt: HostRuntime) {
     let (a, b, channel) = (&mut parties.a, &mut parties.b, &parties.channel);
     equal(&rt, b.recv(&rt, channel), Reply::Waits(0));
     equal(&rt, b.recv(&rt, channel), Reply::Waits(1));
+    equal(&rt, b.outcome(&rt, channel, 0), None);
     equal(&rt, a.try_send(&rt, channel, 7), Reply::Yes);
     equal(&rt, b.outcome(&rt, channel, 0), Some(Outcome::Given(7)));
     equal(&rt, b.outcome(&rt, channel, 1), None);
@@ -70,29 +51,13 @@ fn the_outcomes_of_two_waits(rt: HostRuntime) {
     let ended = Outcome::Ended(Reason::Closed, None);
     equal(&rt, b.outcome(&rt, channel, 1), Some(ended));
     equal(&rt, b.outcome(&rt, channel, 0), Some(Outcome::Given(7)));
+    equal(&rt, b.notes().len(), 2);
     drop(parties);
 }
 
 #[test]
 fn no_calls(rt: HostRuntime) {
     finish_with(&rt, channel(&rt, Some(1)), Vec::new(rt.alloc()), 0);
-}
-
-/// Sends three messages, of which two enter.
-fn fill<R: Abort + Wait + AllocGlobal>(rt: &R) -> Parties {
-    let mut parties = recorded(rt, Some(2));
-    let (a, channel) = (&mut parties.a, &parties.channel);
-    equal(rt, a.try_send(rt, channel, 1), Reply::Yes);
-    equal(rt, a.try_send(rt, channel, 2), Reply::Yes);
-    equal(rt, a.try_send(rt, channel, 3), Reply::No(3));
-    parties
-}
-
-#[test]
-fn the_capacity_is_kept(rt: HostRuntime) {
-    let journal = end(&rt, fill(&rt));
-    equal(&rt, journal.capacity, Some(2));
-    drop(journal);
 }
 
 /// A channel without limit, into which a sent a hundred messages.
@@ -131,37 +96,4 @@ fn six_passes(rt: HostRuntime) {
     let channel = channel(&rt, Some(6));
     let passes = six(&rt, &channel);
     finish_with(&rt, channel, passes, 6);
-}
-
-/// The first six of thirteen calls of one pass.
-fn send_and_count<R: Abort + Wait>(rt: &R, parties: &mut Parties) {
-    let (a, channel) = (&mut parties.a, &parties.channel);
-    equal(rt, a.send(rt, channel, 1), Reply::Sent);
-    equal(rt, a.send(rt, channel, 2), Reply::Waits(0));
-    equal(rt, a.withdraw(rt, channel, 0), Reply::Withdrawn(Some(2)));
-    equal(rt, a.clone_tx(rt, channel), Reply::Done);
-    equal(rt, a.clone_rx(rt, channel), Reply::Done);
-    equal(rt, a.drop_tx(rt, channel), Reply::Done);
-}
-
-/// The others.
-fn receive_and_close<R: Abort + Wait>(rt: &R, parties: &mut Parties) {
-    let (a, channel) = (&mut parties.a, &parties.channel);
-    equal(rt, a.drop_rx(rt, channel), Reply::Done);
-    equal(rt, a.recv_late(rt, channel), Reply::Got(1));
-    equal(rt, a.recv(rt, channel), Reply::Waits(1));
-    equal(rt, a.withdraw(rt, channel, 1), Reply::Withdrawn(None));
-    equal(rt, a.drain(rt, channel), Reply::Drained(0));
-    equal(rt, a.terminated(rt, channel), Reply::Flag(false));
-    equal(rt, a.close(rt, channel), Reply::Cleared(0));
-}
-
-#[test]
-fn each_call_of_a_pass(rt: HostRuntime) {
-    let mut parties = recorded(&rt, Some(1));
-    send_and_count(&rt, &mut parties);
-    receive_and_close(&rt, &mut parties);
-    let journal = end(&rt, parties);
-    equal(&rt, journal.entries.len(), 13);
-    drop(journal);
 }

@@ -1,7 +1,8 @@
 //! Lists that don't agree with the journal.
 use crate::tests::given::{equal, holds};
-use crate::tests::parties::{Parties, add, both, channel, finish, pass, recorded};
-use kanal_journal::journal::{Ask, Journal, Reply, Side};
+use crate::tests::parties::{Parties, add, both, channel, finish, pass};
+use crate::tests::rows::{Row, played};
+use kanal_journal::journal::{Ask, Event, Journal, Reply, Side};
 use kanal_recorded::{Mismatch, Pass, Recorded};
 use std::alloc::AllocGlobal;
 use std::process::Abort;
@@ -29,13 +30,15 @@ fn told_of(rt: &impl Abort, channel: Recorded<u64>, passes: Vec<Pass<u64>>) -> M
     told
 }
 
-/// Sends as a, and receives as b.
+/// The first party sends, and the second receives.
+const HAND_OVER: &[Row] = &[
+    (0, Event::TrySend(7), Reply::Yes),
+    (1, Event::TryRecv, Reply::Got(7)),
+];
+
+/// A channel and its passes after that.
 fn hand_over<R: Abort + Wait + AllocGlobal>(rt: &R) -> Parties {
-    let mut parties = recorded(rt, Some(1));
-    let channel = &parties.channel;
-    equal(rt, parties.a.try_send(rt, channel, 7), Reply::Yes);
-    equal(rt, parties.b.try_recv(rt, channel), Reply::Got(7));
-    parties
+    played(rt, Some(1), HAND_OVER)
 }
 
 /// Whether the two entries have these parties, in order.

@@ -1,6 +1,6 @@
 //! Recorded channels with their passes. Each call ends the test by itself where something is missing.
 use crate::tests::given::equal;
-use kanal_journal::journal::{Ask, Journal, Reply, Side};
+use kanal_journal::journal::Journal;
 use kanal_recorded::{Pass, Recorded};
 use std::alloc::AllocGlobal;
 use std::process::Abort;
@@ -64,18 +64,4 @@ pub fn finish_with(
 pub fn end(rt: &(impl Abort + AllocGlobal), parties: Parties) -> Journal<u64> {
     let Parties { channel, a, b } = parties;
     finish(rt, channel, both(rt, a, b))
-}
-
-/// Sends and asks as a, and receives as b.
-pub fn pass_on<R: Abort + Wait + AllocGlobal>(rt: &R) -> Parties {
-    let mut parties = recorded(rt, Some(1));
-    let channel = &parties.channel;
-    equal(rt, parties.a.try_send(rt, channel, 7), Reply::Yes);
-    equal(
-        rt,
-        parties.a.ask(rt, channel, Side::Tx, Ask::Len),
-        Reply::Number(1),
-    );
-    equal(rt, parties.b.try_recv(rt, channel), Reply::Got(7));
-    parties
 }

@@ -21,17 +21,12 @@ fn are_of_both(entries: &[Entry<u64>]) -> bool {
     }
 }
 
-/// Asks the state all that it tells after a send and a receive.
-fn ask(rt: &impl Abort, state: &RecordedState<u64>) {
-    equal(rt, state.len(), 2);
-    equal(rt, state.capacity(), Some(1));
-    holds(rt, are_of_both(state.entries()));
-}
-
 #[test]
 fn an_entry_for_each_step(rt: HostRuntime) {
     let state = passed_on(&rt);
-    ask(&rt, &state);
+    equal(&rt, state.len(), 2);
+    equal(&rt, state.capacity(), Some(1));
+    holds(&rt, are_of_both(state.entries()));
     drop(state);
 }
 

@@ -54,22 +54,10 @@ fn number_comes<R: Threads + Wait + Abort + AllocGlobal + Sync>(rt: &R, form: Se
 }
 
 #[test]
-fn try_send(rt: HostRuntime) {
+fn sends_that_do_not_wait(rt: HostRuntime) {
     number_comes(&rt, Sending::Try);
-}
-
-#[test]
-fn try_send_realtime(rt: HostRuntime) {
     number_comes(&rt, Sending::TryRealtime);
-}
-
-#[test]
-fn try_send_option(rt: HostRuntime) {
     number_comes(&rt, Sending::TryOption);
-}
-
-#[test]
-fn try_send_option_realtime(rt: HostRuntime) {
     number_comes(&rt, Sending::TryOptionRealtime);
 }
 
@@ -121,11 +109,7 @@ fn word_comes<R: Threads + Wait + Abort + AllocGlobal + Sync>(rt: &R, form: Rece
 }
 
 #[test]
-fn try_recv(rt: HostRuntime) {
+fn receives_that_do_not_wait(rt: HostRuntime) {
     word_comes(&rt, Receiving::Try);
-}
-
-#[test]
-fn try_recv_realtime(rt: HostRuntime) {
     word_comes(&rt, Receiving::TryRealtime);
 }

@@ -11,17 +11,11 @@ use std::thread;
 use std::thread::Threads;
 
 #[test]
-fn sender_clone_async(rt: HostRuntime) {
+fn clones_for_tasks(rt: HostRuntime) {
     let (s, r) = new::<u64>(&rt, Some(0));
     let _async_sender = s.clone_async(&rt).expect(&rt, "a clone");
-    equal(&rt, r.sender_count(&rt), 2);
-}
-
-#[test]
-fn receiver_clone_async(rt: HostRuntime) {
-    let (s, r) = new::<u64>(&rt, Some(0));
     let _async_receiver = r.clone_async(&rt).expect(&rt, "a clone");
-    equal(&rt, s.receiver_count(&rt), 2);
+    equal(&rt, (r.sender_count(&rt), s.receiver_count(&rt)), (2, 2));
 }
 
 /// How a handle for threads serves a task.
@@ -58,16 +52,6 @@ where
     );
 }
 
-#[test]
-fn sender_to_async(rt: HostRuntime) {
-    word_is_sent(&rt, Served::Converted);
-}
-
-#[test]
-fn sender_as_async(rt: HostRuntime) {
-    word_is_sent(&rt, Served::Lent);
-}
-
 /// Receives the word in a task.
 fn receive_word<R: Wait + Abort + RandomSource + AllocGlobal>(
     rt: &R,
@@ -94,11 +78,9 @@ where
 }
 
 #[test]
-fn receiver_to_async(rt: HostRuntime) {
+fn handles_that_serve_a_task(rt: HostRuntime) {
+    word_is_sent(&rt, Served::Converted);
+    word_is_sent(&rt, Served::Lent);
     word_is_received(&rt, Served::Converted);
-}
-
-#[test]
-fn receiver_as_async(rt: HostRuntime) {
     word_is_received(&rt, Served::Lent);
 }

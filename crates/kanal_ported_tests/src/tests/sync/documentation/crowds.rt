@@ -38,13 +38,9 @@ fn add_up<R: Threads + Wait + Abort + Sync>(rt: &R, s: Sender<u32>, r: Receiver<
 }
 
 #[test]
-fn bounded(rt: HostRuntime) {
+fn bounded_and_unbounded(rt: HostRuntime) {
     let (s, r) = new::<u32>(&rt, Some(0));
     add_up(&rt, s, r);
-}
-
-#[test]
-fn unbounded(rt: HostRuntime) {
     let (s, r) = new::<u32>(&rt, None);
     add_up(&rt, s, r);
 }

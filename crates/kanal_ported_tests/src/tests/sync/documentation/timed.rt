@@ -30,18 +30,13 @@ fn send_option_timed<T: Drop, R: Wait + time::Clock + Abort>(rt: &R, s: &Sender<
 }
 
 #[test]
-fn send_timeout(rt: HostRuntime) {
+fn sends_until_a_deadline(rt: HostRuntime) {
     let (s, r) = new::<&'static str>(&rt, Some(0));
     thread::join(
         &rt,
-        move || send_timed(&rt, &s, "Hello"),
+        || send_timed(&rt, &s, "Hello"),
         || receive_one(&rt, &r, "Hello"),
     );
-}
-
-#[test]
-fn send_option_timeout(rt: HostRuntime) {
-    let (s, r) = new::<&'static str>(&rt, Some(0));
     thread::join(
         &rt,
         move || send_option_timed(&rt, &s, "Hello"),

@@ -28,17 +28,9 @@ where
 }
 
 #[test]
-fn recv(rt: HostRuntime) {
+fn words(rt: HostRuntime) {
     word_comes(&rt, Some(0), "Buddy");
-}
-
-#[test]
-fn bounded_async(rt: HostRuntime) {
     word_comes(&rt, Some(0), "hello!");
-}
-
-#[test]
-fn unbounded_async(rt: HostRuntime) {
     word_comes(&rt, None, "hello!");
 }
 

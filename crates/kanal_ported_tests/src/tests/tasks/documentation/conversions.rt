@@ -11,29 +11,16 @@ use std::thread;
 use std::thread::Threads;
 
 #[test]
-fn sender_clone_sync(rt: HostRuntime) {
+fn clones_for_threads(rt: HostRuntime) {
     let (s, r) = new::<u64>(&rt, None);
     let sync_sender = s.clone_sync(&rt).expect(&rt, "a clone");
+    equal(&rt, r.sender_count(&rt), 2);
+    let sync_receiver = r.clone_sync(&rt).expect(&rt, "a clone");
+    equal(&rt, s.receiver_count(&rt), 2);
     send_blocking(&rt, &sync_sender, 1);
     receive_one(&rt, &r, 1);
-}
-
-#[test]
-fn receiver_clone_sync(rt: HostRuntime) {
-    let (s, r) = new::<u64>(&rt, None);
     send_one(&rt, &s, 1);
-    let sync_receiver = r.clone_sync(&rt).expect(&rt, "a clone");
     receive_blocking(&rt, &sync_receiver, 1);
-}
-
-/// The examples of the types themselves.
-#[test]
-fn clones_without_a_buffer(rt: HostRuntime) {
-    let (s, r) = new::<u64>(&rt, Some(0));
-    let _sync_sender = s.clone_sync(&rt).expect(&rt, "a clone");
-    equal(&rt, r.sender_count(&rt), 2);
-    let _sync_receiver = r.clone_sync(&rt).expect(&rt, "a clone");
-    equal(&rt, s.receiver_count(&rt), 2);
 }
 
 /// How a handle for tasks serves a thread.
@@ -66,16 +53,6 @@ where
     );
 }
 
-#[test]
-fn sender_to_sync(rt: HostRuntime) {
-    word_is_sent(&rt, Served::Converted);
-}
-
-#[test]
-fn sender_as_sync(rt: HostRuntime) {
-    word_is_sent(&rt, Served::Lent);
-}
-
 /// Receives the word in a thread.
 fn receive_word<R: Wait + Abort>(rt: &R, r: AsyncReceiver<&'static str>, how: Served) {
     match how {
@@ -98,11 +75,9 @@ where
 }
 
 #[test]
-fn receiver_to_sync(rt: HostRuntime) {
+fn handles_that_serve_a_thread(rt: HostRuntime) {
+    word_is_sent(&rt, Served::Converted);
+    word_is_sent(&rt, Served::Lent);
     word_is_received(&rt, Served::Converted);
-}
-
-#[test]
-fn receiver_as_sync(rt: HostRuntime) {
     word_is_received(&rt, Served::Lent);
 }

@@ -10,7 +10,6 @@ use crossbeam_utils::sync::{Parker, Unparker};
 use kanal_cell::signal;
 use kanal_cell::signal::{SettleEnd, WaitEnd};
 use kanal_core::internal::ChannelInternal;
-use kanal_given::Drops;
 use std::alloc::{AllocGlobal, Global};
 use std::fmt::Debug;
 use std::process::Abort;
@@ -35,19 +34,6 @@ pub fn core_of<T: Drop, W: Drop>(
     capacity: usize,
 ) -> ChannelInternal<T, W> {
     ChannelInternal::new(rt.alloc(), capacity).expect(rt, "a core")
-}
-
-/// A core with so many places, this first ticket, and so many senders and receivers.
-pub fn core_from<T: Drop, W: Drop>(
-    rt: &(impl Abort + AllocGlobal),
-    capacity: usize,
-    first: u64,
-    senders: u32,
-    receivers: u32,
-) -> ChannelInternal<T, W> {
-    ChannelInternal::starting_at(rt.alloc(), Some(capacity), first, senders, receivers).expect(
-        rt, "a core",
-    )
 }
 
 /// A box round the number.
@@ -110,9 +96,4 @@ pub fn counter(rt: &(impl Abort + AllocGlobal)) -> Arc<AtomicU64, Global> {
 /// The same counter once more.
 pub fn shared(rt: &impl Abort, counter: &Arc<AtomicU64, Global>) -> Arc<AtomicU64, Global> {
     Arc::try_clone(counter).expect(rt, "a count of the counter")
-}
-
-/// A counter of dropped messages, at 0.
-pub fn no_drops(rt: &(impl Abort + AllocGlobal)) -> Drops {
-    Drops::new(rt.alloc()).expect(rt, "memory for a counter")
 }

@@ -1,9 +1,5 @@
-//! Tests of the core: that calls succeed with ample memory, and the texts of its errors.
-mod alone;
+//! The core: each public call once, and what no clause shows.
 mod buffer;
 mod calls;
-mod drains;
 mod drops;
-mod handles;
-mod seals;
 mod waits;

@@ -3,7 +3,7 @@ ghost use Rattle.std.specs.Prelude.{◌≡◌};
 ghost use Rattle.kanal_cell.specs.CellRule.{HasNotLeft, HasNotSettled, MaySleep};
 ghost use Rattle.kanal_cell.specs.CellEnds.{wait_view, settle_view};
 
-use crate::tests::given::{cell, equal, holds, new_parker, no_drops, unparker_of};
+use crate::tests::given::{cell, equal, holds, new_parker, unparker_of};
 use crossbeam_utils::sync::{Parker, Unparker};
 use kanal_cell::signal::{SettleEnd, WaitEnd};
 use kanal_given::{Counted, Drops};
@@ -128,20 +128,7 @@ fn settle_all(ends: Vec<Settling>) -> u64 {
     back
 }
 
-/// How many outcomes came back, and how many waiters got theirs.
-fn race<R: Threads + Wait + Abort + Sync>(
-    rt: &R,
-    parker: Parker,
-    waits: Vec<Fresh>,
-    settles: Vec<Settling>,
-) -> (u64, u64) {
-    thread::join(
-        rt,
-        move || settle_all(settles),
-        move || wait_all(rt, parker, waits),
-    )
-}
-
+/// The ways, in turn.
 fn way_of(number: u64) -> Way {
     match number % 5 {
         0 => Way::Polls,
@@ -152,31 +139,20 @@ fn way_of(number: u64) -> Way {
     }
 }
 
-/// An item that counts its drop.
-fn item(rt: &impl Abort, drops: &Drops) -> Counted {
-    drops.message().expect(rt, "a message")
-}
-
-/// A fresh cell, with an item that counts its drop.
-fn ends_of(rt: &(impl Abort + AllocGlobal), drops: &Drops, way: Way) -> (Fresh, Settling) {
-    let (wait, settle) = cell(rt);
-    let item = item(rt, drops);
-    (Fresh { end: wait, way }, Settling { end: settle, item })
-}
-
-/// Puts one more in the vector.
-fn push<T: Drop>(rt: &impl Abort, items: &mut Vec<T>, item: T) {
-    items.push(item).expect(rt, "memory for one more");
-}
-
 /// Fresh cells, each with an item that counts its drop.
 fn cells(rt: &(impl Abort + AllocGlobal), drops: &Drops) -> (Vec<Fresh>, Vec<Settling>) {
     let mut waits = Vec::new(rt.alloc());
     let mut settles = Vec::new(rt.alloc());
     for number in 0..MESSAGES {
-        let (wait, settle) = ends_of(rt, drops, way_of(number));
-        push(rt, &mut waits, wait);
-        push(rt, &mut settles, settle);
+        let (wait, settle) = cell(rt);
+        let way = way_of(number);
+        let item = drops.message().expect(rt, "a message");
+        waits
+            .push(Fresh { end: wait, way })
+            .expect(rt, "memory for one more");
+        settles
+            .push(Settling { end: settle, item })
+            .expect(rt, "memory for one more");
     }
     (waits, settles)
 }
@@ -184,14 +160,19 @@ fn cells(rt: &(impl Abort + AllocGlobal), drops: &Drops) -> (Vec<Fresh>, Vec<Set
 /// How many outcomes went to one of the sides.
 fn round<R: Threads + Wait + Abort + AllocGlobal + Sync>(rt: &R, drops: &Drops) -> u64 {
     let (waits, settles) = cells(rt, drops);
-    let (back, got) = race(rt, new_parker(rt), waits, settles);
+    let parker = new_parker(rt);
+    let (back, got) = thread::join(
+        rt,
+        move || settle_all(settles),
+        move || wait_all(rt, parker, waits),
+    );
     back.wrapping_add(got)
 }
 
 #[test]
 fn each_outcome_is_dropped_once(rt: HostRuntime) {
     for _ in 0..4u32 {
-        let drops = no_drops(&rt);
+        let drops = Drops::new(rt.alloc()).expect(&rt, "memory for a counter");
         // One of five is never looked for. Of the others each went to one side.
         equal(&rt, round(&rt, &drops), MESSAGES / 5 * 4);
         equal(&rt, drops.count(), MESSAGES);
@@ -200,9 +181,10 @@ fn each_outcome_is_dropped_once(rt: HostRuntime) {
 
 #[test]
 fn an_outcome_that_nobody_reads_is_dropped_once(rt: HostRuntime) {
-    let drops = no_drops(&rt);
+    let drops = Drops::new(rt.alloc()).expect(&rt, "memory for a counter");
     let (wait, mut settle) = cell(&rt);
-    holds(&rt, settle.settle(item(&rt, &drops)).is_none());
+    let item = drops.message().expect(&rt, "a message");
+    holds(&rt, settle.settle(item).is_none());
     drop(settle);
     equal(&rt, drops.count(), 0);
     drop(wait);

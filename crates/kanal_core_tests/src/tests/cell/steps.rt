@@ -3,8 +3,6 @@ use crate::tests::given::{cell, equal, holds, new_parker, park_woken, unparker_o
 use kanal_cell::signal::CellReply::{Flag, Left, Outcome, Pending, Settled, Slept, Spent};
 use kanal_cell::signal::CellStep::{IsLeft, Leave, Poll, Settle, Sleep};
 use kanal_cell::signal::{CellReply, CellStep, Owner, cell_run};
-use std::alloc::AllocGlobal;
-use std::process::Abort;
 use std::time::Duration;
 
 const QUIET: CellReply = Settled {
@@ -70,23 +68,12 @@ const ROWS: &[(&[CellStep], &[CellReply], u8, Owner)] = &[
     ),
 ];
 
-/// The plain cell answers the steps so, and ends in this word with this owner.
-fn expect_row(
-    rt: &(impl Abort + AllocGlobal),
-    steps: &[CellStep],
-    replies: &[CellReply],
-    word: u8,
-    owner: Owner,
-) {
-    let report = cell_run(rt.alloc(), steps).expect(rt, "a report");
-    let answer = (steps, report.replies.as_slice(), report.word, report.owner);
-    equal(rt, answer, (steps, replies, word, owner));
-}
-
 #[test]
 fn the_table_of_steps(rt: HostRuntime) {
     for (steps, replies, word, owner) in ROWS {
-        expect_row(&rt, steps, replies, *word, *owner);
+        let report = cell_run(rt.alloc(), steps).expect(&rt, "a report");
+        let answer = (report.replies.as_slice(), report.word, report.owner);
+        equal(&rt, answer, (*replies, *word, *owner));
     }
 }
 
@@ -96,58 +83,38 @@ fn a_sleep_then_a_settle(rt: HostRuntime) {
     let (mut wait, mut settle) = cell::<u64>(&rt);
     equal(&rt, wait.sleep(unparker_of(&rt, &parker)), None);
     equal(&rt, settle.settle(5), None);
-    equal(&rt, wait.poll(), Some(5));
-    equal(&rt, wait.poll(), None);
+    equal(&rt, [wait.poll(), wait.poll()], [Some(5), None]);
     park_woken(&rt, &parker);
 }
 
 #[test]
-fn a_settle_then_a_sleep(rt: HostRuntime) {
-    let parker = new_parker(&rt);
-    let (mut wait, mut settle) = cell::<u64>(&rt);
-    equal(&rt, settle.settle(5), None);
-    equal(&rt, wait.sleep(unparker_of(&rt, &parker)), Some(5));
-    equal(&rt, wait.leave(), None);
-}
-
-#[test]
-fn a_sleep_on_the_word_then_a_settle(rt: HostRuntime) {
+fn sleeps_on_the_word(rt: HostRuntime) {
     let (mut wait, mut settle) = cell::<u64>(&rt);
     equal(&rt, wait.sleep_here(), None);
     wait.park_timeout(&rt, Duration::from_millis(1));
-    equal(&rt, wait.poll(), None);
+    equal(&rt, (wait.poll(), wait.is_settled()), (None, false));
     equal(&rt, settle.settle(5), None);
     wait.park(&rt);
-    equal(&rt, wait.poll(), Some(5));
-    equal(&rt, wait.poll(), None);
-}
-
-#[test]
-fn a_settle_then_a_sleep_on_the_word(rt: HostRuntime) {
+    equal(&rt, [wait.poll(), wait.poll()], [Some(5), None]);
     let (mut wait, mut settle) = cell::<u64>(&rt);
-    holds(&rt, !wait.is_settled());
-    equal(&rt, settle.settle(5), None);
+    equal(&rt, settle.settle(6), None);
     holds(&rt, wait.is_settled());
-    equal(&rt, wait.sleep_here(), Some(5));
+    equal(&rt, wait.sleep_here(), Some(6));
     wait.park(&rt);
     equal(&rt, wait.leave(), None);
 }
 
 #[test]
-fn a_leave_then_a_settle(rt: HostRuntime) {
+fn leaves(rt: HostRuntime) {
     let (mut wait, mut settle) = cell::<u64>(&rt);
     holds(&rt, !settle.is_left());
     equal(&rt, wait.leave(), None);
     holds(&rt, settle.is_left());
     equal(&rt, settle.settle(5), Some(5));
-}
-
-#[test]
-fn a_settle_then_a_leave(rt: HostRuntime) {
     let (mut wait, mut settle) = cell::<u64>(&rt);
     equal(&rt, wait.poll(), None);
-    equal(&rt, settle.settle(5), None);
-    equal(&rt, wait.leave(), Some(5));
+    equal(&rt, settle.settle(6), None);
+    equal(&rt, wait.leave(), Some(6));
 }
 
 #[test]

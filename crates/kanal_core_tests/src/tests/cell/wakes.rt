@@ -13,13 +13,13 @@ use futures::spin::lock;
 use futures::task::{Context, Poll, Source, Waker};
 use futures::test::MockTask;
 use kanal_cell::signal::{SettleEnd, WaitEnd};
-use std::alloc::{AllocGlobal, Global};
+use std::alloc::AllocGlobal;
 use std::process::Abort;
 use std::random::RandomSource;
 use std::sync::atomic::{AtomicU64, Ordering};
 use std::sync::{Arc, Mutex, Wait};
 use std::thread;
-use std::thread::{JoinHandle, Threads};
+use std::thread::Threads;
 use std::time::Duration;
 
 /// Settles, and sees the thread that waits go on.
@@ -81,13 +81,6 @@ const LIMIT: u64 = 600;
 /// at once.
 const PARKS_IN_A_ROW: u32 = 100;
 
-/// Parks on the word until the cell is settled.
-fn park_on_the_word<R: Wait>(rt: &R, wait: &WaitEnd<u64>) {
-    for _ in 0..PARKS_IN_A_ROW {
-        wait.park_timeout(rt, Duration::from_secs(LIMIT));
-    }
-}
-
 /// A settle in another thread wakes this one, should it sleep on the word before.
 fn wake_from_the_word<R: Threads + Wait + Abort + AllocGlobal>(rt: &R) {
     let (mut wait, settle) = cell::<u64>(rt);
@@ -98,7 +91,9 @@ fn wake_from_the_word<R: Threads + Wait + Abort + AllocGlobal>(rt: &R) {
     let other = other.expect(rt, "a thread");
     let mut got = wait.sleep_here();
     if got.is_none() {
-        park_on_the_word(rt, &wait);
+        for _ in 0..PARKS_IN_A_ROW {
+            wait.park_timeout(rt, Duration::from_secs(LIMIT));
+        }
         got = wait.poll();
     }
     stage.store(PASSED, Ordering::SeqCst);
@@ -133,83 +128,47 @@ fn stays_parked(stage: &AtomicU64, waking: &Unparker) -> bool {
     stayed
 }
 
-/// The ends of a cell in which a sleep came after the settle, and had the outcome at once.
-fn sleep_late<R: Abort + AllocGlobal>(rt: &R, sleeper: Unparker) -> (WaitEnd<u64>, SettleEnd<u64>) {
-    let (mut wait, mut settle) = cell(rt);
-    equal(rt, settle.settle(5), None);
-    equal(rt, wait.sleep(sleeper), Some(5));
-    (wait, settle)
-}
-
-/// Starts the thread that sees this one stay parked.
-fn start_watch<R: Threads + Abort>(
-    rt: &R,
-    stage: Arc<AtomicU64, Global>,
-    waking: Unparker,
-) -> JoinHandle<bool> {
-    thread::spawn(rt, move || stays_parked(&stage, &waking)).expect(rt, "a thread")
-}
-
 /// A sleep that comes after the settle has the outcome at once, and its sleeper is not woken: a park
 /// after it lasts until somebody else ends it.
 #[test]
 fn a_sleep_after_the_settle_is_not_woken(rt: HostRuntime) {
     let parker = new_parker(&rt);
-    let _ends = sleep_late(&rt, unparker_of(&rt, &parker));
+    let (mut wait, mut settle) = cell::<u64>(&rt);
+    equal(&rt, settle.settle(5), None);
+    equal(&rt, wait.sleep(unparker_of(&rt, &parker)), Some(5));
     let stage = counter(&rt);
-    let other = start_watch(&rt, shared(&rt, &stage), unparker_of(&rt, &parker));
+    let (theirs, waking) = (shared(&rt, &stage), unparker_of(&rt, &parker));
+    let other = thread::spawn(&rt, move || stays_parked(&theirs, &waking));
+    let other = other.expect(&rt, "a thread");
     stage.store(PARKS, Ordering::SeqCst);
     parker.park(&rt);
     stage.store(PASSED, Ordering::SeqCst);
     holds(&rt, other.join(&rt));
 }
 
-/// A task that is polled by hand.
-fn new_task(rt: &(impl Abort + RandomSource + AllocGlobal)) -> MockTask {
-    MockTask::new(rt).expect(rt, "a task")
-}
-
-/// What the task registers, if it registers.
-fn registered(task: &MockTask) -> Option<Waker> {
+/// What wakes the task.
+fn waker_of(rt: &impl Abort, task: &MockTask) -> Waker {
     let source = Source::new();
     let mut slot = None;
     task.enter(|cx| {
         let _: Poll<()> = cx.register(&source, &mut slot);
     });
-    slot
+    slot.expect(rt, "a waker")
 }
 
-/// What wakes the task.
-fn waker_of(rt: &impl Abort, task: &MockTask) -> Waker {
-    registered(task).expect(rt, "waker")
-}
-
-/// Which of the two tasks are woken.
-fn are_woken(first: &MockTask, second: &MockTask) -> (bool, bool) {
-    (first.is_woken(), second.is_woken())
-}
-
-/// The ends of a cell that kept the waker of the first task and then that of the second: its settle
-/// woke the second alone.
-fn settle_for_the_second(
-    rt: &(impl Abort + AllocGlobal),
-    first: &MockTask,
-    second: &MockTask,
-) -> (WaitEnd<u64>, SettleEnd<u64>) {
-    let (wait, mut settle) = cell(rt);
-    holds(rt, settle.set_waker(waker_of(rt, first)).is_none());
-    let displaced = settle.set_waker(waker_of(rt, second));
-    holds(rt, displaced.is_some());
-    equal(rt, are_woken(first, second), (false, false));
-    equal(rt, settle.settle(7), None);
-    equal(rt, are_woken(first, second), (false, true));
-    (wait, settle)
-}
-
+/// A cell that kept the waker of the first task and then that of the second: its settle wakes the second
+/// alone.
 #[test]
 fn a_settle_wakes_the_kept_waker_once(rt: HostRuntime) {
-    let (first, second) = (new_task(&rt), new_task(&rt));
-    let (wait, settle) = settle_for_the_second(&rt, &first, &second);
+    let first = MockTask::new(&rt).expect(&rt, "a task");
+    let second = MockTask::new(&rt).expect(&rt, "a task");
+    let (wait, mut settle) = cell::<u64>(&rt);
+    holds(&rt, settle.set_waker(waker_of(&rt, &first)).is_none());
+    let displaced = settle.set_waker(waker_of(&rt, &second));
+    holds(&rt, displaced.is_some());
+    equal(&rt, (first.is_woken(), second.is_woken()), (false, false));
+    equal(&rt, settle.settle(7), None);
+    equal(&rt, (first.is_woken(), second.is_woken()), (false, true));
     // Another poll begins, and nothing wakes it: the settle kept no waker.
     second.enter(|_| ());
     drop(settle);
@@ -217,24 +176,16 @@ fn a_settle_wakes_the_kept_waker_once(rt: HostRuntime) {
     holds(&rt, !second.is_woken());
 }
 
-/// The ends of a cell whose waiter left before the settle, which woke the task all the same.
-fn settle_for_one_that_left(
-    rt: &(impl Abort + AllocGlobal),
-    task: &MockTask,
-) -> (WaitEnd<u64>, SettleEnd<u64>) {
-    let (mut wait, mut settle) = cell(rt);
-    holds(rt, settle.set_waker(waker_of(rt, task)).is_none());
-    equal(rt, wait.leave(), None);
-    holds(rt, !task.is_woken());
-    equal(rt, settle.settle(7), Some(7));
-    holds(rt, task.is_woken());
-    (wait, settle)
-}
-
+/// A waiter left before the settle, which wakes the task all the same.
 #[test]
 fn a_settle_wakes_the_task_of_a_waiter_that_left(rt: HostRuntime) {
-    let task = new_task(&rt);
-    let _ends = settle_for_one_that_left(&rt, &task);
+    let task = MockTask::new(&rt).expect(&rt, "a task");
+    let (mut wait, mut settle) = cell::<u64>(&rt);
+    holds(&rt, settle.set_waker(waker_of(&rt, &task)).is_none());
+    equal(&rt, wait.leave(), None);
+    holds(&rt, !task.is_woken());
+    equal(&rt, settle.settle(7), Some(7));
+    holds(&rt, task.is_woken());
 }
 
 #[derive(Drop)]
@@ -303,23 +254,15 @@ fn settle_later(line: &Line, x: u64) -> bool {
     }
 }
 
-/// A line with this entry.
-fn line_with(rt: &(impl Abort + AllocGlobal), entry: Entry) -> Arc<Line> {
-    let source = Source::new();
-    let entry = Mutex::new(Some(entry));
-    Arc::new(rt.alloc(), Line { source, entry }).expect(rt, "memory for a line")
-}
-
-/// The same line once more.
-fn same_line(rt: &impl Abort, line: &Arc<Line>) -> Arc<Line> {
-    Arc::try_clone(line).expect(rt, "a count of the line")
-}
-
 /// A settle in another thread wakes the task that waits for this outcome.
 fn wake_the_task<R: Threads + Wait + Abort + RandomSource + AllocGlobal>(rt: &R, outcome: u64) {
     let (wait, settle) = cell(rt);
-    let line = line_with(rt, Entry { end: settle });
-    let theirs = same_line(rt, &line);
+    let line = Line {
+        source: Source::new(),
+        entry: Mutex::new(Some(Entry { end: settle })),
+    };
+    let line = Arc::new(rt.alloc(), line).expect(rt, "memory for a line");
+    let theirs = Arc::try_clone(&line).expect(rt, "a count of the line");
     let other = thread::spawn(rt, move || settle_later(&theirs, outcome)).expect(rt, "a thread");
     let receive = Receive {
         line,

@@ -32,33 +32,3 @@ macro_rules! answers {
 }
 
 pub(crate) use answers;
-
-/// No message, in a channel without limit.
-pub const NONE_WITHOUT_LIMIT: Answers = Answers {
-    len: 0,
-    is_empty: true,
-    is_full: false,
-    is_bounded: false,
-    capacity: usize::MAX,
-    receiver_count: 1,
-    sender_count: 1,
-    is_closed: false,
-    is_disconnected: false,
-};
-
-/// No message and no place.
-pub const NONE_WITHOUT_PLACES: Answers = Answers {
-    is_full: true,
-    is_bounded: true,
-    capacity: 0,
-    ..NONE_WITHOUT_LIMIT
-};
-
-/// One message in two places.
-pub const ONE_IN_TWO_PLACES: Answers = Answers {
-    len: 1,
-    is_empty: false,
-    is_bounded: true,
-    capacity: 2,
-    ..NONE_WITHOUT_LIMIT
-};

@@ -1,8 +1,8 @@
 //! Channels in states at which every two questions of one type differ in at least one, and each answers
 //! both ways, asked through all handles and views.
-use crate::tests::asked::{Answers, NONE_WITHOUT_PLACES, answers};
-use crate::tests::given::{endless, ends, equal};
-use kanal::{Receiver, Sender};
+use crate::tests::asked::{Answers, answers};
+use crate::tests::given::{ends, equal};
+use kanal::{Receiver, Sender, unbounded};
 use std::process::Abort;
 use std::sync::Wait;
 
@@ -61,6 +61,19 @@ fn a_channel_with_two_senders(rt: HostRuntime) {
     receivers_answer(&rt, &receiver, TWO_SENDERS, false);
 }
 
+/// No message and no place, and one handle of each side.
+const NONE_WITHOUT_PLACES: Answers = Answers {
+    len: 0,
+    is_empty: true,
+    is_full: true,
+    is_bounded: true,
+    capacity: 0,
+    receiver_count: 1,
+    sender_count: 1,
+    is_closed: false,
+    is_disconnected: false,
+};
+
 #[test]
 fn a_channel_without_places(rt: HostRuntime) {
     let (sender, receiver) = ends::<u64>(&rt, 0);
@@ -86,7 +99,7 @@ const NO_SENDER_NO_MESSAGE: Answers = Answers {
 
 #[test]
 fn a_channel_whose_senders_are_gone(rt: HostRuntime) {
-    let (sender, receiver) = endless::<u64>(&rt);
+    let (sender, receiver) = unbounded::<u64>(rt.alloc()).expect(&rt, "a channel");
     equal(&rt, sender.send(&rt, 7), Ok(()));
     drop(sender);
     receivers_answer(&rt, &receiver, NO_SENDER, false);
@@ -103,7 +116,7 @@ const NO_RECEIVER: Answers = Answers {
 
 #[test]
 fn a_channel_whose_receivers_are_gone(rt: HostRuntime) {
-    let (sender, receiver) = endless::<u64>(&rt);
+    let (sender, receiver) = unbounded::<u64>(rt.alloc()).expect(&rt, "a channel");
     equal(&rt, sender.send(&rt, 7), Ok(()));
     drop(receiver);
     senders_answer(&rt, &sender, NO_RECEIVER);

@@ -1,12 +1,7 @@
-//! Futures, the stream, the handles for tasks, their views and conversions.
-mod calls;
-mod conversions;
-mod drops;
-mod given;
-mod polls;
+//! Futures and the stream, of the handles for tasks.
+mod forgotten;
+pub mod given;
 mod streams;
-mod texts;
 mod threads;
-mod views;
 mod waits;
 mod wakes;

@@ -1,8 +1,6 @@
-//! The handles in several threads: who waits, who ends it, and what arrives.
+//! The handles in several threads: who waits, what ends the wait, and what arrives.
 mod counted;
 mod crowds;
-mod order;
-mod seals;
 mod shared;
 mod sleeps;
 pub mod starts;

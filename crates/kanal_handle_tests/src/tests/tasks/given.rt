@@ -7,10 +7,7 @@ use futures::executor::block_on;
 use futures::task::Poll;
 use futures::test::MockTask;
 use kanal::error::{ReceiveError, SendError};
-use kanal::{
-    AsyncReceiver, AsyncSender, ReceiveFuture, ReceiveStream, SendFuture, bounded_async,
-    unbounded_async,
-};
+use kanal::{AsyncReceiver, AsyncSender, ReceiveFuture, ReceiveStream, SendFuture, bounded_async};
 use std::alloc::AllocGlobal;
 use std::process::Abort;
 use std::random::RandomSource;
@@ -22,11 +19,6 @@ pub fn ends<T: Drop>(
     capacity: usize,
 ) -> (AsyncSender<T>, AsyncReceiver<T>) {
     bounded_async(rt.alloc(), capacity).expect(rt, "a channel")
-}
-
-/// The ends, for tasks, of a channel without limit.
-pub fn endless<T: Drop>(rt: &(impl Abort + AllocGlobal)) -> (AsyncSender<T>, AsyncReceiver<T>) {
-    unbounded_async(rt.alloc()).expect(rt, "a channel")
 }
 
 /// A task that is polled by hand.

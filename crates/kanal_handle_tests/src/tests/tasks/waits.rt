@@ -3,18 +3,12 @@ use super::given::{end_send, ends_and_task, waiting_receive, waiting_send};
 use crate::tests::given::{equal, holds};
 
 #[test]
-fn full_at_capacity_0_while_a_receive_waits(rt: HostRuntime) {
+fn full_and_empty_at_capacity_0_while_a_future_waits(rt: HostRuntime) {
     let (sender, receiver, task) = ends_and_task::<u64>(&rt, 0);
     let receiving = waiting_receive(&rt, &task, &receiver);
     holds(&rt, sender.is_full(&rt) && receiver.is_full(&rt));
     holds(&rt, sender.is_empty(&rt));
     drop(receiving);
-    holds(&rt, sender.is_full(&rt));
-}
-
-#[test]
-fn full_at_capacity_0_while_a_send_waits(rt: HostRuntime) {
-    let (sender, receiver, task) = ends_and_task::<u64>(&rt, 0);
     let _sending = waiting_send(&rt, &task, &sender, 7);
     holds(&rt, sender.is_full(&rt) && receiver.is_full(&rt));
     equal(&rt, (sender.len(&rt), receiver.is_empty(&rt)), (0, true));

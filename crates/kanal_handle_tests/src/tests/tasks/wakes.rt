@@ -3,7 +3,7 @@
 //! The test task tells whether it was woken since its last poll began, not how often; a poll that
 //! looks at nothing forgets the wake, and then there is none left.
 use super::given::{
-    end_receive, end_send, ends_and_task, new_task, poll_next, waiting_receive, waiting_send,
+    end_receive, end_send, ends, ends_and_task, new_task, poll_next, waiting_receive, waiting_send,
 };
 use crate::tests::given::{equal, holds};
 use futures::task::Poll;
@@ -57,20 +57,13 @@ fn a_send_wakes_by_its_last_waker(rt: HostRuntime) {
 }
 
 #[test]
-fn a_pending_receive_does_not_wake_its_task(rt: HostRuntime) {
+fn a_pending_future_does_not_wake_its_task(rt: HostRuntime) {
     let (_sender, receiver, task) = ends_and_task::<u64>(&rt, 0);
-    let mut receiving = receiver.recv();
+    let (sender, _receiver) = ends::<u64>(&rt, 0);
+    let (mut receiving, mut sending) = (receiver.recv(), sender.send(7));
     for _ in 0..3 {
         equal(&rt, task.poll(&mut receiving), Poll::Pending);
         holds(&rt, !task.is_woken());
-    }
-}
-
-#[test]
-fn a_pending_send_does_not_wake_its_task(rt: HostRuntime) {
-    let (sender, _receiver, task) = ends_and_task::<u64>(&rt, 0);
-    let mut sending = sender.send(7);
-    for _ in 0..3 {
         equal(&rt, task.poll(&mut sending), Poll::Pending);
         holds(&rt, !task.is_woken());
     }

@@ -1,12 +1,44 @@
-//! Several threads on each side, of which those that receive give up again and again: all that was sent
-//! arrives, once.
-use super::starts::{Sent, Tally, start_numbers, start_receive_in_turns};
-use crate::tests::given::{ends, equal, holds};
-use kanal::{Receiver, Sender};
-use std::alloc::AllocGlobal;
+//! Four threads that send, and two that receive by short waits again and again, so that messages and
+//! deadlines meet: all that was sent arrives, once.
+use super::starts::{Sent, start_numbers};
+use crate::tests::given::{ends, equal};
+use kanal::error::ReceiveErrorTimeout;
+use kanal::{Receiver, SystemClock};
 use std::process::Abort;
 use std::sync::Wait;
 use std::thread::{JoinHandle, Threads};
+use std::time::Duration;
+use std::{thread, time};
+
+/// How many messages came, and their sum.
+#[derive(Drop)]
+struct Tally {
+    count: u64,
+    sum: u64,
+}
+
+/// How often a receiver waits for its turn before it gives up.
+const LOOKS: u32 = 1_000_000;
+
+/// For how many microseconds it waits in a turn.
+const TURN: u64 = 50;
+
+/// Receives by calls that wait for so short a time each, until the channel ends.
+fn receive_in_turns<R: Wait + time::Clock>(rt: &R, receiver: &Receiver<u64>) -> Tally {
+    let clock = SystemClock::new(rt);
+    let mut tally = Tally { count: 0, sum: 0 };
+    for _ in 0..LOOKS {
+        match receiver.recv_timeout(rt, Duration::from_micros(TURN), &clock) {
+            Ok(number) => {
+                tally.count = tally.count.wrapping_add(1);
+                tally.sum = tally.sum.wrapping_add(number);
+            },
+            Err(ReceiveErrorTimeout::Timeout) => {},
+            Err(_) => break,
+        }
+    }
+    tally
+}
 
 /// How many numbers each sender sends: 0, 1, and so on.
 const EACH: u64 = 100;
@@ -14,68 +46,29 @@ const EACH: u64 = 100;
 /// The sum of the numbers of one sender.
 const SUM: u64 = 4950;
 
-/// A clone of the sender.
-fn one_more_sender<R: Wait + Abort>(rt: &R, sender: &Sender<u64>) -> Sender<u64> {
-    sender.clone(rt).expect(rt, "a clone")
-}
-
-/// A clone of the receiver.
-fn one_more_receiver<R: Wait + Abort>(rt: &R, receiver: &Receiver<u64>) -> Receiver<u64> {
-    receiver.clone(rt).expect(rt, "a clone")
-}
-
-/// Starts threads that send numbers, each through a clone.
-fn start_senders<R: Threads + Wait + Abort + AllocGlobal + Copy + Send + 'static>(
-    rt: R,
-    sender: &Sender<u64>,
-    threads: u64,
-) -> Vec<JoinHandle<Sent>> {
-    let mut started = Vec::new(rt.alloc());
-    for _ in 0..threads {
-        let thread = start_numbers(rt, one_more_sender(&rt, sender), 0, EACH);
-        started.push(thread).expect(&rt, "memory for a thread");
+/// Ends the test unless all their sends went through.
+fn join_senders<R: Threads + Abort>(rt: &R, sending: Vec<JoinHandle<Sent>>) {
+    for thread in sending {
+        equal(rt, thread.join(rt), Ok(()));
     }
-    started
 }
 
-/// Joins the threads that send, and tells whether all their sends went through.
-fn join_senders<R: Threads>(rt: &R, started: Vec<JoinHandle<Sent>>) -> bool {
-    let mut all = true;
-    for thread in started {
-        all = thread.join(rt).is_ok() && all;
-    }
-    all
-}
-
-/// Joins the threads that receive, and adds up what they got.
-fn join_receivers<R: Threads>(rt: &R, started: Vec<JoinHandle<Tally>>) -> Tally {
-    let mut tally = Tally { count: 0, sum: 0 };
-    for thread in started {
-        let theirs = thread.join(rt);
-        tally.count = tally.count.wrapping_add(theirs.count);
-        tally.sum = tally.sum.wrapping_add(theirs.sum);
-    }
-    tally
-}
-
-/// What arrives where four threads send.
-const FROM_FOUR: Option<Tally> = Some(Tally {
-    count: 4 * EACH,
-    sum: 4 * SUM,
-});
-
-/// Each receiver waits for a short time again and again, so that messages and deadlines meet.
 #[test]
 fn crowds_that_receive_until_deadlines(rt: HostRuntime) {
     let (sender, receiver) = ends::<u64>(&rt, 0);
-    let other = one_more_receiver(&rt, &receiver);
-    let sending = start_senders(rt, &sender, 4);
-    drop(sender);
-    let mut receiving = Vec::new(rt.alloc());
-    for receiver in [receiver, other] {
-        let thread = start_receive_in_turns(rt, receiver);
-        receiving.push(thread).expect(&rt, "memory for a thread");
+    let mut sending = Vec::new(rt.alloc());
+    for _ in 0..4 {
+        let theirs = sender.clone(&rt).expect(&rt, "a clone");
+        let thread = start_numbers(rt, theirs, 0, EACH);
+        sending.push(thread).expect(&rt, "memory for a thread");
     }
-    holds(&rt, join_senders(&rt, sending));
-    equal(&rt, Some(join_receivers(&rt, receiving)), FROM_FOUR);
+    drop(sender);
+    let other = receiver.clone(&rt).expect(&rt, "a clone");
+    let receiving = thread::spawn(&rt, move || receive_in_turns(&rt, &other));
+    let receiving = receiving.expect(&rt, "a thread");
+    let own = receive_in_turns(&rt, &receiver);
+    let theirs = receiving.join(&rt);
+    equal(&rt, own.count.wrapping_add(theirs.count), 4 * EACH);
+    equal(&rt, own.sum.wrapping_add(theirs.sum), 4 * SUM);
+    join_senders(&rt, sending);
 }

@@ -1,10 +1,9 @@
 //! One handle that several threads use at once, through a reference.
-use crate::tests::given::{ends, equal, holds};
-use kanal::error::SendError;
+use super::starts::{Sent, start_numbers};
+use crate::tests::given::{ends, equal};
 use kanal::{Receiver, Sender};
 use std::sync::Wait;
 use std::thread;
-use std::thread::Threads;
 
 /// Who sent a message.
 #[derive(Drop, Clone, Copy)]
@@ -24,7 +23,7 @@ struct Note {
 const NOTES: u64 = 200;
 
 /// Sends the notes of one party.
-fn send_notes<R: Wait>(rt: &R, sender: &Sender<Note>, from: Party) -> Result<(), SendError> {
+fn send_notes<R: Wait>(rt: &R, sender: &Sender<Note>, from: Party) -> Sent {
     for number in 0..NOTES {
         sender.send(rt, Note { from, number })?;
     }
@@ -32,17 +31,11 @@ fn send_notes<R: Wait>(rt: &R, sender: &Sender<Note>, from: Party) -> Result<(),
 }
 
 /// How many notes came from each party, where each party's came in its own order.
-#[derive(Drop, Clone, Copy, Debug, PartialEq, Eq)]
+#[derive(Drop)]
 struct Counts {
     left: u64,
     right: u64,
 }
-
-/// Where all notes came.
-const ALL: Counts = Counts {
-    left: NOTES,
-    right: NOTES,
-};
 
 impl Counts {
     /// Counts one note, if it is the next of its party.
@@ -59,8 +52,8 @@ impl Counts {
     }
 }
 
-/// Receives all notes; `None` where one is missing or comes too early.
-fn receive_notes<R: Wait>(rt: &R, receiver: &Receiver<Note>) -> Option<Counts> {
+/// Receives all notes; how many came from each party, and `None` where one is missing or comes too early.
+fn receive_notes<R: Wait>(rt: &R, receiver: &Receiver<Note>) -> Option<(u64, u64)> {
     let mut counts = Counts { left: 0, right: 0 };
     for _ in 0..2 * NOTES {
         let note = receiver.recv(rt).ok()?;
@@ -68,35 +61,27 @@ fn receive_notes<R: Wait>(rt: &R, receiver: &Receiver<Note>) -> Option<Counts> {
             return None;
         }
     }
-    Some(counts)
-}
-
-/// Two threads send through the one sender.
-fn send_both<R: Threads + Wait + Sync>(rt: &R, sender: &Sender<Note>) -> bool {
-    let (left, right) = thread::join(
-        rt,
-        || send_notes(rt, sender, Party::Left),
-        || send_notes(rt, sender, Party::Right),
-    );
-    left.is_ok() && right.is_ok()
+    Some((counts.left, counts.right))
 }
 
 /// Two threads send through the one sender, and this one receives.
-fn two_senders<R: Threads + Wait + Sync>(
-    rt: &R,
-    sender: &Sender<Note>,
-    receiver: &Receiver<Note>,
-) -> (bool, Option<Counts>) {
-    thread::join(rt, || send_both(rt, sender), || receive_notes(rt, receiver))
-}
-
 #[test]
 fn two_threads_share_a_sender(rt: HostRuntime) {
     for capacity in [0, 2] {
         let (sender, receiver) = ends::<Note>(&rt, capacity);
-        let (sent, counts) = two_senders(&rt, &sender, &receiver);
-        holds(&rt, sent);
-        equal(&rt, counts, Some(ALL));
+        let (sent, counts) = thread::join(
+            &rt,
+            || {
+                thread::join(
+                    &rt,
+                    || send_notes(&rt, &sender, Party::Left),
+                    || send_notes(&rt, &sender, Party::Right),
+                )
+            },
+            || receive_notes(&rt, &receiver),
+        );
+        equal(&rt, sent, (Ok(()), Ok(())));
+        equal(&rt, counts, Some((NOTES, NOTES)));
     }
 }
 
@@ -115,46 +100,20 @@ fn receive_half<R: Wait>(rt: &R, receiver: &Receiver<u64>) -> Option<u64> {
     Some(sum)
 }
 
-/// Sends the numbers that two receivers want.
-fn send_to_both<R: Wait>(rt: &R, sender: &Sender<u64>) -> Result<(), SendError> {
-    for number in 0..2 * NOTES {
-        sender.send(rt, number)?;
-    }
-    Ok(())
-}
-
-/// Two threads receive through the one receiver.
-fn receive_both<R: Threads + Wait + Sync>(
-    rt: &R,
-    receiver: &Receiver<u64>,
-) -> (Option<u64>, Option<u64>) {
-    thread::join(
-        rt,
-        || receive_half(rt, receiver),
-        || receive_half(rt, receiver),
-    )
-}
-
-/// One thread sends, and two receive through the one receiver. The sum of what they got.
-fn two_receivers<R: Threads + Wait + Sync>(
-    rt: &R,
-    sender: &Sender<u64>,
-    receiver: &Receiver<u64>,
-) -> Option<u64> {
-    let (sent, (left, right)) = thread::join(
-        rt,
-        || send_to_both(rt, sender),
-        || receive_both(rt, receiver),
-    );
-    sent.ok()?;
-    Some(left?.wrapping_add(right?))
-}
-
+/// One thread sends, and two receive through the one receiver.
 #[test]
 fn two_threads_share_a_receiver(rt: HostRuntime) {
     for capacity in [0, 2] {
         let (sender, receiver) = ends::<u64>(&rt, capacity);
+        let sending = start_numbers(rt, sender, 0, 2 * NOTES);
+        let (left, right) = thread::join(
+            &rt,
+            || receive_half(&rt, &receiver),
+            || receive_half(&rt, &receiver),
+        );
+        equal(&rt, sending.join(&rt), Ok(()));
+        let (left, right) = (left.expect(&rt, "in order"), right.expect(&rt, "in order"));
         // The numbers below 400.
-        equal(&rt, two_receivers(&rt, &sender, &receiver), Some(79800));
+        equal(&rt, left.wrapping_add(right), 79800);
     }
 }

@@ -18,17 +18,12 @@ fn own_file<R: Files + AllocGlobal + Abort>(rt: &R) -> String {
     format!(in rt.alloc(); "/proc/{name}/stat").expect(rt, "memory for a name")
 }
 
-/// Whether the system says that the thread of this file sleeps.
-fn is_asleep<R: Files + AllocGlobal + Abort>(rt: &R, file: &str) -> bool {
-    let told = fs::read_to_string(rt, file).expect(rt, "a state of the thread");
-    told.contains(") S ")
-}
-
 /// Whether the thread of this file falls asleep and stays so.
 fn falls_asleep<R: Files + AllocGlobal + Abort>(rt: &R, file: &str) -> bool {
     let mut row = 0u32;
     for _ in 0..LOOKS {
-        row = if is_asleep(rt, file) {
+        let told = fs::read_to_string(rt, file).expect(rt, "a state of the thread");
+        row = if told.contains(") S ") {
             row.wrapping_add(1)
         } else {
             0

@@ -4,26 +4,34 @@ use kanal::{Clock, ReceiveError, Receiver, SystemClock};
 use std::cell::{Cell, RefCell};
 use std::time::Instant;
 
-/// A clock that tells the last moment but one, and then the last moment for good.
+/// A clock that stands at one moment for so many reads, and at another from then on. It counts its reads.
 #[derive(Drop)]
-pub(crate) struct Last {
-    is_read: Cell<bool>,
+pub(crate) struct Turning {
+    first: u64,
+    still: u64,
+    then: u64,
+    pub reads: Cell<u64>,
 }
 
-impl Last {
-    pub(crate) fn new() -> Self {
-        Last {
-            is_read: Cell::new(false),
+impl Turning {
+    pub(crate) fn new(first: u64, still: u64, then: u64) -> Self {
+        Turning {
+            first,
+            still,
+            then,
+            reads: Cell::new(0),
         }
     }
 }
 
-impl Clock for Last {
+impl Clock for Turning {
     fn now(&self) -> u64 {
-        if self.is_read.replace(true) {
-            u64::MAX
+        let reads = self.reads.get();
+        self.reads.set(reads.saturating_add(1));
+        if reads < self.still {
+            self.first
         } else {
-            u64::MAX - 1
+            self.then
         }
     }
 }
@@ -31,17 +39,8 @@ impl Clock for Last {
 /// A clock that stands at 0 and drops the last receiver at its second read.
 #[derive(Drop)]
 pub(crate) struct Dropping {
-    reads: Cell<u64>,
-    receiver: RefCell<Option<Receiver<u64>>>,
-}
-
-impl Dropping {
-    pub(crate) fn new(receiver: Receiver<u64>) -> Self {
-        Dropping {
-            reads: Cell::new(0),
-            receiver: RefCell::new(Some(receiver)),
-        }
-    }
+    pub reads: Cell<u64>,
+    pub receiver: RefCell<Option<Receiver<u64>>>,
 }
 
 impl Clock for Dropping {
@@ -57,48 +56,12 @@ impl Clock for Dropping {
     }
 }
 
-/// A clock that stands at 0 for a hundred reads, and is an hour later then.
-#[derive(Drop)]
-pub(crate) struct Hour {
-    reads: Cell<u64>,
-}
-
-impl Hour {
-    pub(crate) fn new() -> Self {
-        Hour {
-            reads: Cell::new(0),
-        }
-    }
-}
-
-impl Clock for Hour {
-    fn now(&self) -> u64 {
-        let reads = self.reads.get();
-        self.reads.set(reads.wrapping_add(1));
-        if reads < 100 { 0 } else { 3_600_000_000_000 }
-    }
-}
-
 /// A clock that stands at 0, and tells whether the lock was held at a read: a channel with no sender and
 /// no message answers so only where it is free.
 #[derive(Drop)]
 pub(crate) struct Looking {
-    receiver: Receiver<u64>,
-    was_held: Cell<bool>,
-}
-
-impl Looking {
-    pub(crate) fn new(receiver: Receiver<u64>) -> Self {
-        Looking {
-            receiver,
-            was_held: Cell::new(false),
-        }
-    }
-
-    /// Whether the lock was held when it was read.
-    pub(crate) fn was_held(&self) -> bool {
-        self.was_held.get()
-    }
+    pub receiver: Receiver<u64>,
+    pub was_held: Cell<bool>,
 }
 
 impl Clock for Looking {

@@ -1,4 +1,5 @@
 //! How often a timed wait reads its clock, and for how long it sleeps.
+use super::clocks::Turning;
 use crate::tests::given::{ends, equal, holds};
 use kanal::Clock;
 use kanal::error::ReceiveErrorTimeout;
@@ -6,26 +7,11 @@ use std::cell::Cell;
 use std::time;
 use std::time::{Duration, Instant};
 
-/// A clock that stands at 0, and counts how often it is read.
-#[derive(Drop)]
-struct Counting {
-    reads: Cell<u64>,
-}
-
-impl Clock for Counting {
-    fn now(&self) -> u64 {
-        self.reads.set(self.reads.get().wrapping_add(1));
-        0
-    }
-}
-
 /// One read sets the deadline, one comes before the lock, and one finds that the deadline has come.
 #[test]
 fn a_wait_at_its_deadline_reads_no_clock_again(rt: HostRuntime) {
     let (_sender, receiver) = ends::<u64>(&rt, 0);
-    let clock = Counting {
-        reads: Cell::new(0),
-    };
+    let clock = Turning::new(0, 0, 0);
     let got = receiver.recv_timeout(&rt, Duration::from_nanos(0), &clock);
     equal(&rt, got, Err(ReceiveErrorTimeout::Timeout));
     equal(&rt, clock.reads.get(), 3);

@@ -2,15 +2,13 @@
 //!
 //! A run in which the sends and the receives didn't meet fails the test: then all but one were given up, or all
 //! but one were received.
-use crate::tests::counted::{counter, shared};
-use crate::tests::given::{ends, equal, holds};
+use super::clocks::Turning;
+use crate::tests::counted::{counted_ends, shared};
+use crate::tests::given::{equal, holds};
 use kanal::error::SendErrorTimeout;
-use kanal::{Clock, Receiver, Sender};
+use kanal::{Receiver, Sender};
 use kanal_given::{Counted, Drops};
-use std::cell::Cell;
-use std::process::Abort;
 use std::sync::Wait;
-use std::thread::{JoinHandle, Threads};
 use std::time::Duration;
 use std::{thread, time};
 
@@ -19,20 +17,6 @@ const ROUNDS: u64 = 10_000;
 
 /// How often the receiver looks for a message at most.
 const TURNS: u64 = 1_000_000_000;
-
-/// A clock that stands at 0 for so many reads, and then at 1.
-#[derive(Drop)]
-struct Crossing {
-    reads: Cell<u64>,
-}
-
-impl Clock for Crossing {
-    fn now(&self) -> u64 {
-        let left = self.reads.get();
-        self.reads.set(left.saturating_sub(1));
-        if left == 0 { 1 } else { 0 }
-    }
-}
 
 /// How often the clock of a round is read before it crosses the deadline. In the first round nobody
 /// receives yet, so it times out; the clock of the second never crosses, so it is received.
@@ -51,23 +35,13 @@ fn send_all<R: Wait + time::Clock>(rt: &R, sender: &Sender<Counted>, drops: &Dro
         let Ok(message) = drops.message() else {
             return given_up;
         };
-        let clock = Crossing {
-            reads: Cell::new(reads_of(round)),
-        };
+        let clock = Turning::new(0, reads_of(round), 1);
         let sent = sender.send_timeout(rt, message, Duration::from_nanos(1), &clock);
         if sent == Err(SendErrorTimeout::Timeout) {
             given_up = given_up.wrapping_add(1);
         }
     }
     given_up
-}
-
-fn start<R: Threads + Wait + Abort + time::Clock + Copy + Send + 'static>(
-    rt: R,
-    sender: Sender<Counted>,
-    drops: Drops,
-) -> JoinHandle<u64> {
-    thread::spawn(&rt, move || send_all(&rt, &sender, &drops)).expect(&rt, "a thread")
 }
 
 /// Looks until the first message is given up.
@@ -94,9 +68,10 @@ fn receive_all<R: Wait>(rt: &R, receiver: &Receiver<Counted>) -> u64 {
 
 #[test]
 fn a_deadline_meets_a_receiver(rt: HostRuntime) {
-    let drops = counter(&rt);
-    let (sender, receiver) = ends::<Counted>(&rt, 0);
-    let thread = start(rt, sender, shared(&rt, &drops));
+    let (sender, receiver, drops) = counted_ends(&rt, 0);
+    let theirs = shared(&rt, &drops);
+    let thread = thread::spawn(&rt, move || send_all(&rt, &sender, &theirs));
+    let thread = thread.expect(&rt, "a thread");
     await_one_drop(&drops);
     let received = receive_all(&rt, &receiver);
     // Where the receiver gave up, a send that waits still is refused now, and the counts differ.

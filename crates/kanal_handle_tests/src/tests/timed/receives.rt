@@ -1,105 +1,106 @@
-//! Timed receives.
-use super::clocks::{Hour, Last, Looking};
+//! Timed receives: which moments end them, and that no clock is read under the lock.
+use super::clocks::{Looking, Turning};
 use crate::tests::given::{ends, equal, holds};
+use kanal::Sender;
 use kanal::error::ReceiveErrorTimeout;
 use kanal::error::ReceiveErrorTimeout::{Closed, DeadlineOutOfRange, SendClosed, Timeout};
-use kanal::{Clock, Receiver, TestClock};
 use std::alloc::AllocGlobal;
+use std::cell::Cell;
 use std::process::Abort;
 use std::sync::Wait;
 use std::time;
 use std::time::Duration;
 
-/// The receiver of a channel whose last sender has sent this, and is gone.
-fn alone<R: Abort + Wait + AllocGlobal>(rt: &R, sent: Option<u64>) -> Receiver<u64> {
-    let (sender, receiver) = ends(rt, 1);
-    if let Some(message) = sent {
-        equal(rt, sender.send(rt, message), Ok(()));
-    }
+/// What became of a channel with one place before the receive.
+#[derive(Drop, Clone, Copy)]
+enum Channel {
+    /// It is empty, and has a sender.
+    Empty,
+    /// It holds the message 4, and its sender is gone.
+    Last,
+    /// It is empty, and its sender is gone.
+    Alone,
+    /// It was closed.
+    Shut,
+}
+
+/// For how many nanoseconds a receive waits, by a clock that stands at a moment for so many reads and at
+/// another then, and its answer.
+type Row = (
+    Channel,
+    u64,
+    (u64, u64, u64),
+    Result<u64, ReceiveErrorTimeout>,
+);
+
+const LAST: u64 = u64::MAX;
+
+const HOUR: u64 = 3_600_000_000_000;
+
+const ROWS: &[Row] = &[
+    // The last moment is a deadline.
+    (Channel::Empty, 1, (LAST - 1, 1, LAST), Err(Timeout)),
+    // A missing sender is told at the deadline.
+    (Channel::Alone, 1, (LAST - 1, 1, LAST), Err(SendClosed)),
+    // A late receive takes what is there, and doesn't look at the senders.
+    (Channel::Last, 0, (0, 1, 1), Ok(4)),
+    (Channel::Alone, 0, (0, 1, 1), Err(Timeout)),
+    (Channel::Shut, 0, (0, 1, 1), Err(Closed)),
+    // A clock that stands at the deadline is not late.
+    (Channel::Alone, 0, (0, 1, 0), Err(SendClosed)),
+    (Channel::Empty, 0, (0, 1, 0), Err(Timeout)),
+    // A deadline out of range comes before the channel.
+    (Channel::Shut, 1, (LAST, 1, LAST), Err(DeadlineOutOfRange)),
+    // A wait looks at its clock again.
+    (Channel::Empty, HOUR, (0, 100, HOUR), Err(Timeout)),
+];
+
+/// Drops the sender.
+fn gone(sender: Sender<u64>) -> Option<Sender<u64>> {
     drop(sender);
-    receiver
+    None
 }
 
-/// Ends the test unless a receive for so many nanoseconds by this clock is refused so.
-fn refuses<R: Abort + Wait + time::Clock>(
+/// What a receive answers on such a channel for so many nanoseconds by this clock.
+fn answer<R: Abort + Wait + time::Clock + AllocGlobal>(
     rt: &R,
-    receiver: &Receiver<u64>,
+    channel: Channel,
     nanoseconds: u64,
-    clock: &impl Clock,
-    error: ReceiveErrorTimeout,
-) {
-    let got = receiver.recv_timeout(rt, Duration::from_nanos(nanoseconds), clock);
-    equal(rt, got, Err(error));
+    clock: &Turning,
+) -> Result<u64, ReceiveErrorTimeout> {
+    let (sender, receiver) = ends(rt, 1);
+    let _kept = match channel {
+        Channel::Empty => Some(sender),
+        Channel::Alone => gone(sender),
+        Channel::Last => {
+            equal(rt, sender.send(rt, 4), Ok(()));
+            gone(sender)
+        }
+        Channel::Shut => {
+            equal(rt, sender.close(rt), Ok(()));
+            gone(sender)
+        }
+    };
+    receiver.recv_timeout(rt, Duration::from_nanos(nanoseconds), clock)
 }
 
 #[test]
-fn the_last_moment_is_a_deadline(rt: HostRuntime) {
-    let (_sender, receiver) = ends::<u64>(&rt, 1);
-    refuses(&rt, &receiver, 1, &Last::new(), Timeout);
-}
-
-#[test]
-fn a_missing_sender_is_told_at_the_deadline(rt: HostRuntime) {
-    refuses(&rt, &alone(&rt, None), 1, &Last::new(), SendClosed);
-}
-
-#[test]
-fn a_late_receive_takes_what_is_there(rt: HostRuntime) {
-    let receiver = alone(&rt, Some(4));
-    let got = receiver.recv_timeout(&rt, Duration::from_nanos(0), &TestClock::rising());
-    equal(&rt, got, Ok(4));
-}
-
-#[test]
-fn a_still_clock_is_not_late(rt: HostRuntime) {
-    refuses(&rt, &alone(&rt, None), 0, &TestClock::still(0), SendClosed);
-}
-
-#[test]
-fn a_late_receive_does_not_look_at_the_senders(rt: HostRuntime) {
-    refuses(&rt, &alone(&rt, None), 0, &TestClock::rising(), Timeout);
-}
-
-#[test]
-fn a_receive_with_a_sender_times_out(rt: HostRuntime) {
-    let (_sender, receiver) = ends::<u64>(&rt, 1);
-    refuses(&rt, &receiver, 0, &TestClock::still(0), Timeout);
-}
-
-#[test]
-fn a_deadline_out_of_range_comes_before_the_channel(rt: HostRuntime) {
-    let (_sender, receiver) = ends::<u64>(&rt, 1);
-    equal(&rt, receiver.close(&rt), Ok(()));
-    refuses(
-        &rt,
-        &receiver,
-        1,
-        &TestClock::still(u64::MAX),
-        DeadlineOutOfRange,
-    );
-}
-
-#[test]
-fn a_late_receive_on_a_closed_channel(rt: HostRuntime) {
-    let (_sender, receiver) = ends::<u64>(&rt, 1);
-    equal(&rt, receiver.close(&rt), Ok(()));
-    refuses(&rt, &receiver, 0, &TestClock::rising(), Closed);
-}
-
-#[test]
-fn a_wait_looks_at_its_clock_again(rt: HostRuntime) {
-    let (_sender, receiver) = ends::<u64>(&rt, 1);
-    let got = receiver.recv_timeout(&rt, Duration::from_secs(3600), &Hour::new());
-    equal(&rt, got, Err(ReceiveErrorTimeout::Timeout));
+fn the_moments_that_end_a_receive(rt: HostRuntime) {
+    for (channel, nanoseconds, (first, still, then), expected) in ROWS {
+        let clock = Turning::new(*first, *still, *then);
+        equal(&rt, answer(&rt, *channel, *nanoseconds, &clock), *expected);
+    }
 }
 
 #[test]
 fn no_clock_is_read_under_the_lock(rt: HostRuntime) {
     let (sender, receiver) = ends::<u64>(&rt, 1);
     drop(sender);
-    let other = receiver.clone(&rt).expect(&rt, "a clone");
-    let clock = Looking::new(other);
+    let clock = Looking {
+        receiver: receiver.clone(&rt).expect(&rt, "a clone"),
+        was_held: Cell::new(false),
+    };
     let got = receiver.recv_timeout(&rt, Duration::from_nanos(1), &clock);
     equal(&rt, got, Err(ReceiveErrorTimeout::SendClosed));
-    holds(&rt, !clock.was_held());
+    holds(&rt, !clock.was_held.get());
 }

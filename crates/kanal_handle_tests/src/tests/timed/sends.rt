@@ -1,9 +1,11 @@
-//! Timed sends.
+//! Timed sends: which moments end them, what the option keeps, and that a message is dropped once.
 use super::clocks::Dropping;
-use crate::tests::counted::{counted_ends, counter, message};
+use crate::tests::counted::{counted_ends, message};
 use crate::tests::given::{ends, equal};
-use kanal::error::{ReceiveErrorTimeout, SendErrorTimeout};
-use kanal::{Clock, Sender, TestClock};
+use kanal::error::SendErrorTimeout;
+use kanal::error::SendErrorTimeout::{Closed, DeadlineOutOfRange, ReceiveClosed, Timeout};
+use kanal::{Clock, ReceiveErrorTimeout, Sender, TestClock};
+use std::cell::{Cell, RefCell};
 use std::process::Abort;
 use std::sync::Wait;
 use std::time;
@@ -24,119 +26,52 @@ fn refused<R: Abort + Wait + time::Clock>(
 
 #[test]
 fn a_deadline_out_of_range_keeps_the_message(rt: HostRuntime) {
-    let (sender, _receiver) = ends::<u64>(&rt, 1);
-    let sent = refused(
-        &rt,
-        &sender,
-        Duration::from_nanos(1),
-        &TestClock::still(u64::MAX),
-    );
-    equal(&rt, sent, SendErrorTimeout::DeadlineOutOfRange);
+    let (sender, receiver) = ends::<u64>(&rt, 1);
+    let (start, last) = (TestClock::still(0), TestClock::still(u64::MAX));
+    let soon = Duration::from_nanos(1);
+    equal(&rt, refused(&rt, &sender, soon, &last), DeadlineOutOfRange);
+    // More nanoseconds than a word counts.
+    let long = Duration::from_secs(18_446_744_074);
+    equal(&rt, refused(&rt, &sender, long, &start), DeadlineOutOfRange);
+    let got = receiver.recv_timeout(&rt, long, &start);
+    equal(&rt, got, Err(ReceiveErrorTimeout::DeadlineOutOfRange));
     equal(&rt, sender.len(&rt), 0);
-}
-
-#[test]
-fn timed_sends_with_room(rt: HostRuntime) {
-    let (sender, receiver) = ends::<u64>(&rt, 2);
-    let mut option = Some(8);
-    equal(
-        &rt,
-        sender.send_timeout(&rt, 7, Duration::from_nanos(1), &TestClock::still(0)),
-        Ok(()),
-    );
-    equal(
-        &rt,
-        sender.send_option_timeout(
-            &rt,
-            &mut option,
-            Duration::from_nanos(1),
-            &TestClock::still(0),
-        ),
-        Ok(()),
-    );
-    equal(&rt, option, None);
-    equal(&rt, receiver.try_recv(&rt), Ok(Some(7)));
-    equal(&rt, receiver.try_recv(&rt), Ok(Some(8)));
-}
-
-#[test]
-fn a_closed_channel_keeps_the_message(rt: HostRuntime) {
-    let (sender, _receiver) = ends::<u64>(&rt, 1);
     equal(&rt, sender.close(&rt), Ok(()));
-    let sent = refused(&rt, &sender, Duration::from_nanos(1), &TestClock::still(0));
-    equal(&rt, sent, SendErrorTimeout::Closed);
+    equal(&rt, refused(&rt, &sender, soon, &start), Closed);
 }
 
 #[test]
-fn the_last_receiver_goes_during_the_wait(rt: HostRuntime) {
+fn a_send_to_a_full_channel_keeps_the_message(rt: HostRuntime) {
     let (sender, receiver) = ends::<u64>(&rt, 1);
     equal(&rt, sender.send(&rt, 1), Ok(()));
-    let clock = Dropping::new(receiver);
-    let sent = refused(&rt, &sender, Duration::from_nanos(1), &clock);
-    equal(&rt, sent, SendErrorTimeout::ReceiveClosed);
-}
-
-#[test]
-fn a_send_to_a_full_channel_times_out(rt: HostRuntime) {
-    let (sender, _receiver) = ends::<u64>(&rt, 1);
-    equal(&rt, sender.send(&rt, 1), Ok(()));
-    let sent = refused(&rt, &sender, Duration::from_nanos(0), &TestClock::still(0));
-    equal(&rt, sent, SendErrorTimeout::Timeout);
+    let (now, soon) = (Duration::from_nanos(0), Duration::from_nanos(1));
     equal(
         &rt,
-        sender.send_timeout(&rt, 8, Duration::from_nanos(0), &TestClock::still(0)),
-        Err(SendErrorTimeout::Timeout),
+        refused(&rt, &sender, now, &TestClock::still(0)),
+        Timeout,
+    );
+    equal(
+        &rt,
+        refused(&rt, &sender, now, &TestClock::rising()),
+        Timeout,
     );
     equal(&rt, sender.len(&rt), 1);
+    // The last receiver goes during the wait.
+    let clock = Dropping {
+        reads: Cell::new(0),
+        receiver: RefCell::new(Some(receiver)),
+    };
+    equal(&rt, refused(&rt, &sender, soon, &clock), ReceiveClosed);
 }
 
 #[test]
-fn a_message_is_dropped_once_at_its_deadline(rt: HostRuntime) {
-    let (sender, _receiver, drops) = counted_ends(&rt, 1);
-    let kept = message(&rt, &counter(&rt));
-    equal(&rt, sender.send(&rt, kept), Ok(()));
-    let late = message(&rt, &drops);
-    equal(
-        &rt,
-        sender.send_timeout(&rt, late, Duration::from_nanos(0), &TestClock::still(0)),
-        Err(SendErrorTimeout::Timeout),
-    );
-    equal(&rt, drops.count(), 1);
-    equal(&rt, sender.len(&rt), 1);
-}
-
-/// More nanoseconds than a word counts.
-fn longer_than_a_word() -> Duration {
-    Duration::from_secs(18_446_744_074)
-}
-
-#[test]
-fn a_duration_above_a_word_of_nanoseconds_is_out_of_range(rt: HostRuntime) {
-    let (sender, receiver) = ends::<u64>(&rt, 1);
-    let sent = refused(&rt, &sender, longer_than_a_word(), &TestClock::still(0));
-    equal(&rt, sent, SendErrorTimeout::DeadlineOutOfRange);
-    equal(
-        &rt,
-        receiver.recv_timeout(&rt, longer_than_a_word(), &TestClock::still(0)),
-        Err(ReceiveErrorTimeout::DeadlineOutOfRange),
-    );
-    equal(&rt, sender.len(&rt), 0);
-}
-
-#[test]
-fn a_message_is_dropped_once_where_its_deadline_is_out_of_range(rt: HostRuntime) {
-    let (sender, _receiver, drops) = counted_ends(&rt, 1);
-    let message = message(&rt, &drops);
-    equal(
-        &rt,
-        sender.send_timeout(
-            &rt,
-            message,
-            Duration::from_nanos(1),
-            &TestClock::still(u64::MAX),
-        ),
-        Err(SendErrorTimeout::DeadlineOutOfRange),
-    );
-    equal(&rt, drops.count(), 1);
-    equal(&rt, sender.len(&rt), 0);
+fn a_refused_message_is_dropped_once(rt: HostRuntime) {
+    let (sender, receiver, drops) = counted_ends(&rt, 0);
+    let (now, soon) = (Duration::from_nanos(0), Duration::from_nanos(1));
+    let sent = sender.send_timeout(&rt, message(&rt, &drops), now, &TestClock::still(0));
+    equal(&rt, (sent, drops.count()), (Err(Timeout), 1));
+    let late = TestClock::still(u64::MAX);
+    let sent = sender.send_timeout(&rt, message(&rt, &drops), soon, &late);
+    equal(&rt, (sent, drops.count()), (Err(DeadlineOutOfRange), 2));
+    equal(&rt, receiver.len(&rt), 0);
 }

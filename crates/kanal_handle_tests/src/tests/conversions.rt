@@ -1,6 +1,7 @@
-//! Handles of one kind made of the other: conversions keep the counts, clones raise them.
-use super::given::{endless, ends, receive_in_task, send_in_task};
-use crate::tests::given::{ends as sync_ends, equal, holds};
+//! Handles of one kind made of the other: conversions keep the counts, clones raise them, their drops lower
+//! them.
+use crate::tests::given::{ends as sync_ends, equal};
+use crate::tests::tasks::given::{ends, receive_in_task, send_in_task};
 
 /// Clones a handle for threads as one for tasks, converts it, and drops the clone; what is counted
 /// after each step, and last by the view of what the handle has become.
@@ -28,45 +29,24 @@ macro_rules! counts_to_sync {
         let kept = converted.$count($rt);
         drop(other);
         drop(another);
-        (cloned, cloned_again, kept, converted.as_async().$count($rt))
+        [cloned, cloned_again, kept, converted.as_async().$count($rt)]
     }};
 }
 
 #[test]
-fn a_sender_is_converted_and_cloned(rt: HostRuntime) {
-    let (sender, _receiver) = sync_ends::<u64>(&rt, 1);
-    let counts = counts_to_async!(&rt, sender, sender_count);
-    equal(&rt, counts, [2, 2, 1, 1]);
+fn handles_for_threads_are_converted_and_cloned(rt: HostRuntime) {
+    let (sender, receiver) = sync_ends::<u64>(&rt, 1);
+    let senders = counts_to_async!(&rt, sender, sender_count);
+    let receivers = counts_to_async!(&rt, receiver, receiver_count);
+    equal(&rt, [senders, receivers], [[2, 2, 1, 1], [2, 2, 1, 1]]);
 }
 
 #[test]
-fn a_receiver_is_converted_and_cloned(rt: HostRuntime) {
-    let (_sender, receiver) = sync_ends::<u64>(&rt, 1);
-    let counts = counts_to_async!(&rt, receiver, receiver_count);
-    equal(&rt, counts, [2, 2, 1, 1]);
-}
-
-#[test]
-fn a_sender_for_tasks_is_converted_and_cloned(rt: HostRuntime) {
-    let (sender, _receiver) = ends::<u64>(&rt, 1);
-    let counts = counts_to_sync!(&rt, sender, sender_count);
-    equal(&rt, counts, (2, 3, 3, 1));
-}
-
-#[test]
-fn a_receiver_for_tasks_is_converted_and_cloned(rt: HostRuntime) {
-    let (_sender, receiver) = endless::<u64>(&rt);
-    let counts = counts_to_sync!(&rt, receiver, receiver_count);
-    equal(&rt, counts, (2, 3, 3, 1));
-}
-
-#[test]
-fn clones_of_a_closed_channel_are_not_counted(rt: HostRuntime) {
-    let (sender, receiver) = ends::<u64>(&rt, 0);
-    equal(&rt, sender.close(&rt), Ok(()));
-    let other = receiver.clone(&rt);
-    holds(&rt, other.is_ok());
-    equal(&rt, receiver.receiver_count(&rt), 0);
+fn handles_for_tasks_are_converted_and_cloned(rt: HostRuntime) {
+    let (sender, receiver) = ends::<u64>(&rt, 1);
+    let senders = counts_to_sync!(&rt, sender, sender_count);
+    let receivers = counts_to_sync!(&rt, receiver, receiver_count);
+    equal(&rt, [senders, receivers], [[2, 3, 3, 1], [2, 3, 3, 1]]);
 }
 
 #[test]

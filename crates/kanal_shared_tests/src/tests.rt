@@ -1,5 +1,4 @@
 //! The tests, and what they share.
-mod counted;
 mod dropped;
 mod ended;
 mod given;

@@ -65,38 +65,35 @@ impl Drop for Message {
     }
 }
 
-/// A look that nobody has asked for.
-fn new_look(rt: &(impl Abort + AllocGlobal)) -> Arc<Look, Global> {
+/// A channel with one place, a look that nobody has asked for, a message that asks for it, and the thread that
+/// takes it.
+type Started = (
+    Arc<Shared<Message, NoHistory>>,
+    Arc<Look, Global>,
+    Message,
+    JoinHandle<()>,
+);
+
+fn start_look<R: Threads + Abort + AllocGlobal>(rt: &R) -> Started {
+    let (shared, other) = common(rt, 1);
     let look = Look {
         is_asked_for: AtomicBool::new(false),
         is_taken: AtomicBool::new(false),
         found_free: AtomicBool::new(false),
     };
-    Arc::new(rt.alloc(), look).expect(rt, "a look")
-}
-
-/// A message that asks for this look.
-fn asks_for(rt: &impl Abort, look: &Arc<Look, Global>) -> Message {
-    Message {
-        look: Some(Arc::try_clone(look).expect(rt, "one more")),
-    }
-}
-
-fn start_look<R: Threads + Abort + Copy + Send + 'static>(
-    rt: R,
-    shared: Arc<Shared<Message, NoHistory>>,
-    look: &Arc<Look, Global>,
-) -> JoinHandle<()> {
-    let look = Arc::try_clone(look).expect(&rt, "one more");
-    thread::spawn(&rt, move || look.take(&shared)).expect(&rt, "a thread")
+    let look = Arc::new(rt.alloc(), look).expect(rt, "a look");
+    let theirs = Arc::try_clone(&look).expect(rt, "one more");
+    let message = Message {
+        look: Some(Arc::try_clone(&look).expect(rt, "one more")),
+    };
+    let thread = thread::spawn(rt, move || theirs.take(&other)).expect(rt, "a thread");
+    (shared, look, message, thread)
 }
 
 #[test]
 fn a_close_drops_its_messages_after_the_release(rt: HostRuntime) {
-    let (shared, other) = common(&rt, 1);
-    let look = new_look(&rt);
-    let thread = start_look(rt, other, &look);
-    equal(&rt, shared.send(&rt, &mut (), asks_for(&rt, &look)), Ok(()));
+    let (shared, look, message, thread) = start_look(&rt);
+    equal(&rt, shared.send(&rt, &mut (), message), Ok(()));
     equal(&rt, shared.close(&rt, &mut ()), Ok(()));
     thread.join(&rt);
     holds(&rt, look.found_free.load(SeqCst));
@@ -105,16 +102,11 @@ fn a_close_drops_its_messages_after_the_release(rt: HostRuntime) {
 /// The second message waits behind the first; the look takes the first.
 #[test]
 fn a_future_that_leaves_drops_its_message_after_the_release(rt: HostRuntime) {
-    let (shared, other) = common(&rt, 1);
-    let look = new_look(&rt);
-    let thread = start_look(rt, other, &look);
+    let (shared, look, message, thread) = start_look(&rt);
     let task = new_task(&rt);
-    equal(
-        &rt,
-        shared.send(&rt, &mut (), Message { look: None }),
-        Ok(()),
-    );
-    let mut sending = send_future(&shared, asks_for(&rt, &look));
+    let first = Message { look: None };
+    equal(&rt, shared.send(&rt, &mut (), first), Ok(()));
+    let mut sending = send_future(&shared, message);
     equal(&rt, task.poll(&mut sending), Poll::Pending);
     drop(sending);
     thread.join(&rt);

@@ -57,14 +57,13 @@ pub fn halves<T: Drop>(rt: &(impl Abort + AllocGlobal), capacity: usize) -> Halv
     Shared::halves(core, NoHistory, (), (), rt.alloc()).expect(rt, "a channel")
 }
 
-/// How many senders there are.
-pub fn senders<T: Drop, R: Wait>(rt: &R, shared: &Shared<T, NoHistory>) -> u32 {
-    shared.ask_count(rt, &mut (), Side::Tx, Ask::SenderCount)
-}
-
-/// How many receivers there are.
-pub fn receivers<T: Drop, R: Wait>(rt: &R, shared: &Shared<T, NoHistory>) -> u32 {
-    shared.ask_count(rt, &mut (), Side::Rx, Ask::ReceiverCount)
+/// How many senders and how many receivers there are.
+pub fn counts<T: Drop, R: Wait>(rt: &R, shared: &Shared<T, NoHistory>) -> (u32, u32) {
+    let senders = shared.ask_count(rt, &mut (), Side::Tx, Ask::SenderCount);
+    (
+        senders,
+        shared.ask_count(rt, &mut (), Side::Rx, Ask::ReceiverCount),
+    )
 }
 
 /// Makes a call that need not wait under the lock, calls `held` before the lock is given back and `between`

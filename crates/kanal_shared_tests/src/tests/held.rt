@@ -1,12 +1,11 @@
 //! Calls and drops while the lock is held by the test.
-use crate::tests::counted::{counter, counts_in};
-use crate::tests::given::{channel, equal, halves, handles, holds, new_task, receivers, senders};
+use crate::tests::given::{channel, counts, equal, halves, handles, holds, new_task};
 use futures::task::Poll;
 use futures::test::MockTask;
-use kanal_channel::{CountedReceiver, CountedSender, Shared};
+use kanal_channel::Shared;
 use kanal_core::error::{ReceiveError, SendError};
-use kanal_futures::{ReceiveFuture, receive_future, send_future};
-use kanal_given::Counted;
+use kanal_futures::{ReceiveFuture, receive_future};
+use kanal_given::{Counted, Drops};
 use kanal_history::NoHistory;
 use std::alloc::AllocGlobal;
 use std::process::Abort;
@@ -29,24 +28,6 @@ fn drop_held<R: Wait, T: Drop, D: Drop, F: Drop>(
     held
 }
 
-/// The same of the channel's receiver and its sender, which are counted, and of a future.
-fn drop_both_held<R: Wait, T: Drop, F: Drop>(
-    rt: &R,
-    shared: &Shared<T, NoHistory>,
-    receiver: CountedReceiver,
-    sender: CountedSender,
-    future: F,
-) -> (u32, u32, u64) {
-    let locked = shared.hold(rt);
-    shared.drop_receiver(receiver);
-    shared.drop_sender(sender);
-    drop(future);
-    let (senders, receivers) = locked.state.counts();
-    let held = (senders, receivers, shared.left_waits());
-    locked.give_back_quiet();
-    held
-}
-
 #[test]
 fn handles_are_dropped_while_the_lock_is_held(rt: HostRuntime) {
     let (sender, receiver) = handles::<u64>(&rt, 1);
@@ -56,52 +37,41 @@ fn handles_are_dropped_while_the_lock_is_held(rt: HostRuntime) {
     let all = ((sender, second), (third, fourth));
     let shared = receiver.channel();
     equal(&rt, drop_held(&rt, shared, all, ()), (4, 1, 0));
-    equal(&rt, senders(&rt, shared), 0);
+    equal(&rt, counts(&rt, shared), (0, 1));
     holds(&rt, receiver.is_terminated(&rt));
 }
 
 #[test]
-fn a_receiver_is_dropped_while_the_lock_is_held(rt: HostRuntime) {
+fn receivers_are_dropped_while_the_lock_is_held(rt: HostRuntime) {
     let (sender, receiver) = handles::<u64>(&rt, 1);
+    let second = receiver.clone(&rt).expect(&rt, "one more");
     let shared = sender.channel();
-    equal(&rt, drop_held(&rt, shared, receiver, ()), (1, 1, 0));
-    equal(&rt, receivers(&rt, shared), 0);
-    equal(&rt, senders(&rt, shared), 1);
     equal(
         &rt,
-        shared.send(&rt, &mut (), 7),
-        Err(SendError::ReceiveClosed),
+        drop_held(&rt, shared, (receiver, second), ()),
+        (1, 2, 0),
     );
-}
-
-#[test]
-fn a_send_that_waits_is_dropped_while_the_lock_is_held(rt: HostRuntime) {
-    let drops = counter(&rt);
-    let shared = channel::<Counted>(&rt, 0);
-    let task = new_task(&rt);
-    let mut sending = send_future(&shared, counts_in(&rt, &drops));
-    equal(&rt, task.poll(&mut sending), Poll::Pending);
-    equal(&rt, drop_held(&rt, &shared, (), sending), (1, 1, 1));
-    equal(&rt, shared.left_waits(), 0);
-    equal(&rt, drops.count(), 1);
-    holds(&rt, matches!(shared.try_recv(&rt, &mut ()), Ok(None)));
+    equal(&rt, counts(&rt, shared), (1, 0));
+    let sent = shared.send(&rt, &mut (), 7);
+    equal(&rt, sent, Err(SendError::ReceiveClosed));
 }
 
 /// Three of four senders and a send that waits: the one that is left has nobody before it.
 #[test]
 fn senders_and_a_send_that_waits_are_dropped_while_the_lock_is_held(rt: HostRuntime) {
-    let drops = counter(&rt);
+    let drops = Drops::new(rt.alloc()).expect(&rt, "a counter");
     let (sender, receiver) = handles::<Counted>(&rt, 0);
     let task = new_task(&rt);
     let second = sender.clone(&rt).expect(&rt, "one more");
     let third = sender.clone(&rt).expect(&rt, "one more");
     let fourth = sender.clone(&rt).expect(&rt, "one more");
-    let mut sending = sender.send(counts_in(&rt, &drops));
+    let mut sending = sender.send(drops.message().expect(&rt, "one more"));
     equal(&rt, task.poll(&mut sending), Poll::Pending);
     let three = (second, (third, fourth));
     let shared = receiver.channel();
     equal(&rt, drop_held(&rt, shared, three, sending), (4, 1, 1));
-    equal(&rt, senders(&rt, shared), 1);
+    equal(&rt, counts(&rt, shared), (1, 1));
+    equal(&rt, shared.left_waits(), 0);
     holds(&rt, matches!(receiver.try_recv(&rt), Ok(None)));
     equal(&rt, drops.count(), 1);
 }
@@ -115,19 +85,17 @@ fn notices_of_all_kinds_are_applied_in_their_order(rt: HostRuntime) {
     let (mut leaves, mut stays) = (receive_future(&shared), receive_future(&shared));
     equal(&rt, task.poll(&mut leaves), Poll::Pending);
     equal(&rt, task.poll(&mut stays), Poll::Pending);
-    let held = drop_both_held(&rt, &shared, receiver, sender, leaves);
-    equal(&rt, held, (1, 1, 1));
+    let locked = shared.hold(&rt);
+    shared.drop_receiver(receiver);
+    shared.drop_sender(sender);
+    drop(leaves);
+    let held = (locked.state.counts(), shared.left_waits());
+    locked.give_back_quiet();
+    equal(&rt, held, ((1, 1), 1));
     equal(&rt, shared.left_waits(), 0);
-    equal(
-        &rt,
-        (senders(&rt, &shared), receivers(&rt, &shared)),
-        (0, 0),
-    );
-    equal(
-        &rt,
-        task.poll(&mut stays),
-        Poll::Ready(Err(ReceiveError::SendClosed)),
-    );
+    equal(&rt, counts(&rt, &shared), (0, 0));
+    let ended = task.poll(&mut stays);
+    equal(&rt, ended, Poll::Ready(Err(ReceiveError::SendClosed)));
 }
 
 #[test]

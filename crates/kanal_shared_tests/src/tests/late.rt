@@ -2,15 +2,13 @@
 use crate::tests::ended::begins;
 use crate::tests::given::{channel, equal, holds, tell_late};
 use kanal_channel::{Clock, Shared};
-use kanal_core::error::ReceiveErrorTimeout;
 use kanal_events::event::{Event, Reply};
 use kanal_history::NoHistory;
 use std::sync::Wait;
 use std::sync::atomic::AtomicU64;
 use std::sync::atomic::Ordering::SeqCst;
-use std::thread::Threads;
+use std::thread;
 use std::time::Duration;
-use std::{thread, time};
 
 /// How often a test looks at the clock's reads before it gives up.
 const LOOKS: u32 = 10_000_000;
@@ -66,18 +64,6 @@ fn serve_late<R: Wait>(rt: &R, shared: &Shared<u64, NoHistory>, clock: &Crossed)
     matches!(reply, Some(Reply::Sent))
 }
 
-fn receive_late<R: Threads + Wait + time::Clock + Sync>(
-    rt: &R,
-    shared: &Shared<u64, NoHistory>,
-    clock: &Crossed,
-) -> (Result<u64, ReceiveErrorTimeout>, bool) {
-    thread::join(
-        rt,
-        || shared.recv_timeout(rt, &mut (), Duration::from_nanos(1), clock),
-        || serve_late(rt, shared, clock),
-    )
-}
-
 #[test]
 fn a_message_in_flight_at_the_deadline_is_received(rt: HostRuntime) {
     let shared = channel::<u64>(&rt, 0);
@@ -85,7 +71,11 @@ fn a_message_in_flight_at_the_deadline_is_received(rt: HostRuntime) {
         moment: AtomicU64::new(0),
         late: AtomicU64::new(0),
     };
-    let (got, served) = receive_late(&rt, &shared, &clock);
+    let (got, served) = thread::join(
+        &rt,
+        || shared.recv_timeout(&rt, &mut (), Duration::from_nanos(1), &clock),
+        || serve_late(&rt, &shared, &clock),
+    );
     holds(&rt, served);
     equal(&rt, got, Ok(7));
 }

@@ -12,7 +12,7 @@ use std::process::Abort;
 use std::sync::Wait;
 
 #[test]
-fn a_realtime_send_serves_a_receive(rt: HostRuntime) {
+fn realtime_forms_serve_who_waits(rt: HostRuntime) {
     let shared = channel::<u64>(&rt, 0);
     let task = new_task(&rt);
     let mut receiving = receive_future(&shared);
@@ -20,39 +20,11 @@ fn a_realtime_send_serves_a_receive(rt: HostRuntime) {
     holds(&rt, shared.try_send_realtime(&mut (), 7) == Ok(true));
     holds(&rt, task.is_woken());
     equal(&rt, task.poll(&mut receiving), Poll::Ready(Ok(7)));
-}
-
-#[test]
-fn a_realtime_receive_serves_a_send(rt: HostRuntime) {
-    let shared = channel::<u64>(&rt, 0);
-    let task = new_task(&rt);
-    let mut sending = send_future(&shared, 7);
+    let mut sending = send_future(&shared, 8);
     equal(&rt, task.poll(&mut sending), Poll::Pending);
-    equal(&rt, shared.try_recv_realtime(&mut ()), Ok(Some(7)));
+    equal(&rt, shared.try_recv_realtime(&mut ()), Ok(Some(8)));
     holds(&rt, task.is_woken());
     equal(&rt, task.poll(&mut sending), Poll::Ready(Ok(())));
-}
-
-/// Drops what it is handed while the lock is held.
-fn drop_held<R: Wait, D: Drop>(rt: &R, shared: &Shared<u64, NoHistory>, handles: D) {
-    let locked = shared.hold(rt);
-    drop(handles);
-    locked.give_back_quiet();
-}
-
-#[test]
-fn each_drop_under_the_lock_counts_once_on_its_side(rt: HostRuntime) {
-    let (sender, receiver) = handles::<u64>(&rt, 1);
-    let (first, second) = (sender.clone(&rt), sender.clone(&rt));
-    let third = sender.clone(&rt);
-    let three = (
-        (receiver.clone(&rt), receiver.clone(&rt)),
-        receiver.clone(&rt),
-    );
-    drop_held(&rt, sender.channel(), (three, (first, second)));
-    equal(&rt, sender.sender_count(&rt), 2);
-    equal(&rt, receiver.receiver_count(&rt), 1);
-    drop(third);
 }
 
 #[test]

@@ -3,14 +3,10 @@ use crate::tests::given::{channel, equal, handles, holds, new_task};
 use futures::task::Poll;
 use kanal::AsyncSender;
 use kanal_channel::{Clock, Shared, TestClock};
-use kanal_core::error::{ReceiveErrorTimeout, SendErrorTimeout};
+use kanal_core::error::SendErrorTimeout;
 use kanal_futures::send_future;
 use kanal_history::NoHistory;
-use std::alloc::AllocGlobal;
 use std::cell::Cell;
-use std::process::Abort;
-use std::sync::Wait;
-use std::time;
 use std::time::Duration;
 
 /// A clock that stands at 0, and sends 7 at the read with this number.
@@ -62,42 +58,22 @@ fn a_late_receive_serves_a_send(rt: HostRuntime) {
     equal(&rt, task.poll(&mut sending), Poll::Ready(Ok(())));
 }
 
-/// Receives within so many nanoseconds, by a clock that sends at the read with this number.
-fn given_at<R: Abort + Wait + time::Clock + AllocGlobal>(rt: &R, sends_at: u64, nanos: u64) {
-    let shared = channel::<u64>(rt, 0);
-    let clock = Sending {
-        reads: Cell::new(0),
-        sends_at,
-        shared: &shared,
-    };
-    let got = shared.recv_timeout(rt, &mut (), Duration::from_nanos(nanos), &clock);
-    equal(rt, got, Ok(7));
-}
+/// The read at which a clock that stands still sends a message, and for how many nanoseconds a receive waits.
+/// However often the clock is read, and however far the deadline is, the wait goes on until its outcome comes.
+const SENDS_AT: [(u64, u64); 4] = [(3, 1), (200, 1), (3, u64::MAX), (40, u64::MAX)];
 
 #[test]
 fn a_timed_receive_is_given_a_message_during_its_wait(rt: HostRuntime) {
-    given_at(&rt, 3, 1);
-}
-
-/// However often a clock that stands still is read, the wait goes on until its outcome comes.
-#[test]
-fn a_clock_that_stands_still_ends_no_wait(rt: HostRuntime) {
-    given_at(&rt, 200, 1);
-}
-
-/// The deadline is the largest moment, and the message comes long before.
-#[test]
-fn a_message_comes_before_a_far_deadline(rt: HostRuntime) {
-    given_at(&rt, 3, u64::MAX);
-    given_at(&rt, 40, u64::MAX);
-}
-
-#[test]
-fn a_timed_out_receive_waits_no_more(rt: HostRuntime) {
-    let shared = channel::<u64>(&rt, 0);
-    let got = shared.recv_timeout(&rt, &mut (), Duration::from_nanos(0), &TestClock::still(0));
-    equal(&rt, got, Err(ReceiveErrorTimeout::Timeout));
-    holds(&rt, shared.try_send(&rt, &mut (), 7) == Ok(false));
+    for (sends_at, nanos) in SENDS_AT {
+        let shared = channel::<u64>(&rt, 0);
+        let clock = Sending {
+            reads: Cell::new(0),
+            sends_at,
+            shared: &shared,
+        };
+        let got = shared.recv_timeout(&rt, &mut (), Duration::from_nanos(nanos), &clock);
+        equal(&rt, got, Ok(7));
+    }
 }
 
 /// The last sender's drop ends the send's wait too, and its message comes back.

@@ -31,32 +31,6 @@ fn in_place(numbers: &Vec<u64>) -> u64 {
     right
 }
 
-/// Fills the channel, and takes all at once.
-fn filled<J: Naming, R: Wait + Abort>(
-    rt: &R,
-    alloc: Global,
-    channel: &Channel<u64, J>,
-    pass: &mut Pass<u64, J>,
-) {
-    let mut numbers = Vec::new(alloc);
-    for number in 0..ROOM {
-        equal(rt, channel.send(rt, pass, number), Ok(()));
-    }
-    equal(rt, channel.drain_into(rt, pass, &mut numbers), Ok(1_000));
-    equal(rt, in_place(&numbers), ROOM);
-    equal(rt, channel.drain_into(rt, pass, &mut numbers), Ok(0));
-    equal(rt, channel.try_send(rt, pass, ROOM), Ok(true));
-    equal(rt, channel.drain_into(rt, pass, &mut numbers), Ok(1));
-    equal(rt, in_place(&numbers), ROOM.wrapping_add(1));
-    equal(rt, channel.close(rt, pass), Ok(()));
-    equal(
-        rt,
-        channel.drain_into(rt, pass, &mut numbers),
-        Err(ReceiveError::Closed),
-    );
-    equal(rt, in_place(&numbers), ROOM.wrapping_add(1));
-}
-
 /// Sends all numbers.
 fn send_all<J: Naming, R: Wait>(rt: &R, channel: &Channel<u64, J>, mut pass: Pass<u64, J>) -> u64 {
     let mut sent = 0u64;
@@ -103,8 +77,21 @@ fn one_thread<J: Naming, R: Wait + Abort>(
     requires name { table_of opened ≡ J.table }
     requires capacity { J.capacity ≡ Some capacity }
 {
-    let (channel, mut pass) = kanal_one_history::bounded::<u64, J>(alloc, capacity, opened)?;
-    filled(rt, alloc, &channel, &mut pass);
+    let (channel, mut one) = kanal_one_history::bounded::<u64, J>(alloc, capacity, opened)?;
+    let (pass, mut numbers) = (&mut one, Vec::new(alloc));
+    for number in 0..ROOM {
+        equal(rt, channel.send(rt, pass, number), Ok(()));
+    }
+    equal(rt, channel.drain_into(rt, pass, &mut numbers), Ok(1_000));
+    equal(rt, in_place(&numbers), ROOM);
+    equal(rt, channel.drain_into(rt, pass, &mut numbers), Ok(0));
+    equal(rt, channel.try_send(rt, pass, ROOM), Ok(true));
+    equal(rt, channel.drain_into(rt, pass, &mut numbers), Ok(1));
+    equal(rt, in_place(&numbers), ROOM.wrapping_add(1));
+    equal(rt, channel.close(rt, pass), Ok(()));
+    let refused = channel.drain_into(rt, pass, &mut numbers);
+    equal(rt, refused, Err(ReceiveError::Closed));
+    equal(rt, in_place(&numbers), ROOM.wrapping_add(1));
     Ok(())
 }
 
@@ -129,17 +116,10 @@ fn two_threads<J: Naming + Send + Sync, R: Threads + Wait + Sync>(
 }
 
 #[test]
-fn a_thousand_at_once(rt: HostRuntime) {
+fn a_thousand_at_once_and_those_of_waiting_senders(rt: HostRuntime) {
     let opened = board(&rt, rt.alloc());
-    equal(
-        &rt,
-        one_thread::<Brand, _>(&rt, rt.alloc(), 1_000, opened),
-        Ok(()),
-    );
-}
-
-#[test]
-fn those_of_waiting_senders_too(rt: HostRuntime) {
+    let made = one_thread::<Brand, _>(&rt, rt.alloc(), 1_000, opened);
+    equal(&rt, made, Ok(()));
     let opened = board(&rt, rt.alloc());
     let counts = two_threads::<Brand, _>(&rt, rt.alloc(), 1, opened);
     equal(&rt, counts, Ok((MESSAGES, MESSAGES)));

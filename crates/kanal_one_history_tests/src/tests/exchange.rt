@@ -23,34 +23,6 @@ pub(super) enum Calls {
 }
 
 impl Calls {
-    /// Sends a message, and says whether it entered.
-    fn send<J: Naming, R: Wait + time::Clock>(
-        self,
-        rt: &R,
-        channel: &Channel<u64, J>,
-        pass: &mut Pass<u64, J>,
-        number: u64,
-    ) -> bool {
-        match self {
-            Calls::Waiting => channel.send(rt, pass, number).is_ok(),
-            Calls::Timed => deadlines::send(rt, channel, pass, number),
-        }
-    }
-
-    /// Receives a message, and says whether it is this one.
-    fn recv<J: Naming, R: Wait + time::Clock>(
-        self,
-        rt: &R,
-        channel: &Channel<u64, J>,
-        pass: &mut Pass<u64, J>,
-        number: u64,
-    ) -> bool {
-        match self {
-            Calls::Waiting => channel.recv(rt, pass) == Ok(number),
-            Calls::Timed => deadlines::recv(rt, channel, pass, number),
-        }
-    }
-
     /// Sends all numbers, and counts those that entered.
     fn send_all<J: Naming, R: Wait + time::Clock>(
         self,
@@ -60,7 +32,11 @@ impl Calls {
     ) -> u64 {
         let mut sent = 0u64;
         for number in 0..MESSAGES {
-            if self.send(rt, channel, &mut pass, number) {
+            let entered = match self {
+                Calls::Waiting => channel.send(rt, &mut pass, number).is_ok(),
+                Calls::Timed => deadlines::send(rt, channel, &mut pass, number),
+            };
+            if entered {
                 sent = sent.wrapping_add(1);
             }
         }
@@ -76,7 +52,11 @@ impl Calls {
     ) -> u64 {
         let mut got = 0u64;
         for number in 0..MESSAGES {
-            if self.recv(rt, channel, &mut pass, number) {
+            let came = match self {
+                Calls::Waiting => channel.recv(rt, &mut pass) == Ok(number),
+                Calls::Timed => deadlines::recv(rt, channel, &mut pass, number),
+            };
+            if came {
                 got = got.wrapping_add(1);
             }
         }

@@ -12,10 +12,9 @@ use kanal_core::internal::ChannelInternal;
 use kanal_events::event::{Ask, Side};
 use kanal_futures::{receive_stream, recv_in_task, send_in_task};
 use kanal_one_history::{Call, Channel, GhostHistory, Naming, Opened, Pass};
-use std::alloc::{AllocGlobal, Global};
+use std::alloc::Global;
 use std::marker::Brand;
 use std::process::Abort;
-use std::random::RandomSource;
 use std::sync::Wait;
 
 /// The first handles of a channel under a name, and a pass.
@@ -39,31 +38,6 @@ fn handles<J: Naming>(
     let cleanup = history.cleanup(&board);
     let (sender, receiver) = kanal::over(alloc, core, history, cleanup, board)?;
     Ok((sender, receiver, pass))
-}
-
-/// How many senders there are, with a clone and after its drop.
-fn clones<J: Naming, R: Wait>(
-    rt: &R,
-    sender: &AsyncSender<u64, GhostHistory<u64, J>>,
-    pass: &mut Pass<u64, J>,
-) -> (u32, u32) {
-    let clone = sender.clone_by(rt, pass);
-    let both = sender
-        .channel()
-        .ask_count(rt, pass, Side::Tx, Ask::SenderCount);
-    drop(clone);
-    let one = sender
-        .channel()
-        .ask_count(rt, pass, Side::Tx, Ask::SenderCount);
-    (both, one)
-}
-
-/// An option's message goes through the channel by calls that wait for nobody.
-fn at_once<J: Naming, R: Wait + Abort>(rt: &R, channel: &Channel<u64, J>, pass: &mut Pass<u64, J>) {
-    let mut option = Some(7);
-    equal(rt, channel.try_send_option(rt, pass, &mut option), Ok(true));
-    equal(rt, option, None);
-    equal(rt, channel.try_recv_realtime(pass), Ok(Some(7)));
 }
 
 /// A receive in a task waits for a send by another pass, and its pass comes back with the message.
@@ -122,7 +96,8 @@ fn streamed<J: Naming, R: Abort>(
     equal(rt, stream.into_pass().is_some(), true);
 }
 
-/// All of these on one channel with one place.
+/// All of these on one channel with one place, after a clone, and an option's message that goes through it by
+/// calls that wait for nobody. How many senders there are, with the clone and after its drop.
 fn rows<J: Naming, R: Wait + Abort>(
     rt: &R,
     alloc: Global,
@@ -134,23 +109,25 @@ fn rows<J: Naming, R: Wait + Abort>(
     requires capacity { J.capacity ≡ Some capacity }
 {
     let (sender, receiver, mut pass) = handles::<J>(alloc, capacity, opened)?;
-    let counts = clones(rt, &sender, &mut pass);
-    at_once(rt, receiver.channel(), &mut pass);
-    receive_waits(rt, task, receiver.channel(), &mut pass);
-    send_waits(rt, task, receiver.channel(), &mut pass);
-    streamed(rt, task, sender, receiver.channel(), pass);
-    Ok(counts)
-}
-
-/// A task that is polled by hand.
-fn new_task(rt: &(impl Abort + RandomSource + AllocGlobal)) -> MockTask {
-    MockTask::new(rt).expect(rt, "a task")
+    let channel = receiver.channel();
+    let clone = sender.clone_by(rt, &mut pass);
+    let both = channel.ask_count(rt, &mut pass, Side::Tx, Ask::SenderCount);
+    drop(clone);
+    let one = channel.ask_count(rt, &mut pass, Side::Tx, Ask::SenderCount);
+    let mut option = Some(7);
+    let sent = channel.try_send_option(rt, &mut pass, &mut option);
+    equal(rt, (sent, option), (Ok(true), None));
+    equal(rt, channel.try_recv_realtime(&mut pass), Ok(Some(7)));
+    receive_waits(rt, task, channel, &mut pass);
+    send_waits(rt, task, channel, &mut pass);
+    streamed(rt, task, sender, channel, pass);
+    Ok((both, one))
 }
 
 #[test]
 fn handles_futures_and_a_stream_by_passes(rt: HostRuntime) {
     let opened = board(&rt, rt.alloc());
-    let task = new_task(&rt);
+    let task = MockTask::new(&rt).expect(&rt, "a task");
     let counts = rows::<Brand, _>(&rt, rt.alloc(), 1, opened, &task);
     equal(&rt, counts, Ok((2, 1)));
 }

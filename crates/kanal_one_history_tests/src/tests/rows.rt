@@ -171,11 +171,8 @@ fn rows_of_bounded_channels(rt: HostRuntime) {
     for row in 0..5u8 {
         let capacity = if row == 0 { 0usize } else { 1usize };
         let opened = board(&rt, rt.alloc());
-        equal(
-            &rt,
-            bounded::<Brand, _>(&rt, rt.alloc(), capacity, row, opened),
-            Ok(()),
-        );
+        let made = bounded::<Brand, _>(&rt, rt.alloc(), capacity, row, opened);
+        equal(&rt, made, Ok(()));
     }
 }
 

@@ -12,36 +12,16 @@ const CAPACITY: usize = 64;
 #[derive(Copy, Clone)]
 pub struct Rounds {
     /// How many calls a round makes.
-    count: usize,
+    pub count: usize,
     /// Through how many passes.
-    passes: usize,
+    pub passes: usize,
     /// How many rounds there are.
-    rounds: usize,
+    pub rounds: usize,
     /// Whether each round's history is checked.
-    is_checked: bool,
+    pub is_checked: bool,
 }
 
 impl Rounds {
-    /// The rounds that the words ask for.
-    pub fn of(words: &[String], is_checked: bool) -> Result<Self> {
-        let [count, passes, rounds, ..] = words else {
-            bail!("usage: kanal_bench finish|leave COUNT PASSES ROUNDS");
-        };
-        let (Ok(count), Ok(passes), Ok(rounds)) = (
-            count.parse::<usize>(),
-            passes.parse::<usize>(),
-            rounds.parse::<usize>(),
-        ) else {
-            bail!("COUNT, PASSES or ROUNDS is no number");
-        };
-        Ok(Rounds {
-            count,
-            passes,
-            rounds,
-            is_checked,
-        })
-    }
-
     /// Makes the rounds, and answers how many entries or calls the last one had.
     pub fn make<R: Wait>(self, rt: &R, alloc: Global) -> Result<usize> {
         let mut last = 0;
@@ -57,10 +37,13 @@ impl Rounds {
         let mut passes = Vec::new(alloc);
         draw(rt, &channel, &mut passes, self.passes)?;
         talk(rt, &channel, &mut passes, self.count);
-        if self.is_checked {
-            return entries(channel, passes);
+        if !self.is_checked {
+            return Ok(self.count);
         }
-        Ok(self.count)
+        match channel.finish(passes) {
+            Ok(journal) => Ok(journal.entries.len()),
+            Err(_) => bail!("the lists don't agree with the journal"),
+        }
     }
 }
 
@@ -77,15 +60,6 @@ fn draw<R: Wait>(
     Ok(())
 }
 
-/// Makes the call with this number: a send where it is even, else a receive.
-fn call<R: Wait>(rt: &R, channel: &Recorded<u64>, pass: &mut Pass<u64>, number: usize) {
-    if number % 2 == 0 {
-        pass.try_send(rt, channel, number as u64);
-    } else {
-        pass.try_recv(rt, channel);
-    }
-}
-
 /// Makes a send and a receive through each of the passes in turn, until there are so many calls.
 fn talk<R: Wait>(rt: &R, channel: &Recorded<u64>, passes: &mut [Pass<u64>], count: usize) {
     let parties = passes.len();
@@ -96,14 +70,10 @@ fn talk<R: Wait>(rt: &R, channel: &Recorded<u64>, passes: &mut [Pass<u64>], coun
         let Some(pass) = passes.get_mut(number / 2 % parties) else {
             return;
         };
-        call(rt, channel, pass, number);
-    }
-}
-
-/// Checks the history of the passes, and answers how many entries it has.
-fn entries(channel: Recorded<u64>, passes: Vec<Pass<u64>>) -> Result<usize> {
-    match channel.finish(passes) {
-        Ok(journal) => Ok(journal.entries.len()),
-        Err(_) => bail!("the lists don't agree with the journal"),
+        if number % 2 == 0 {
+            pass.try_send(rt, channel, number as u64);
+        } else {
+            pass.try_recv(rt, channel);
+        }
     }
 }

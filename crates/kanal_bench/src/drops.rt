@@ -11,7 +11,7 @@ use std::time::{Clock, Duration, Instant};
 
 /// The order in which the futures are dropped.
 #[derive(Copy, Clone)]
-enum Turn {
+pub enum Turn {
     /// Shuffled, in the same way in each run.
     Shuffled,
     /// The one that waits longest first.
@@ -21,13 +21,13 @@ enum Turn {
 }
 
 impl Turn {
-    /// The order that the word names.
-    fn named(word: &str) -> Option<Self> {
-        match word {
-            "shuffled" => Some(Turn::Shuffled),
-            "oldest-first" => Some(Turn::OldestFirst),
-            "youngest-first" => Some(Turn::YoungestFirst),
-            _ => None,
+    /// The order that the first of these words names.
+    pub fn named(words: &[String]) -> Result<Self> {
+        match words {
+            [word, ..] if word.as_str() == "shuffled" => Ok(Turn::Shuffled),
+            [word, ..] if word.as_str() == "oldest-first" => Ok(Turn::OldestFirst),
+            [word, ..] if word.as_str() == "youngest-first" => Ok(Turn::YoungestFirst),
+            _ => bail!("the order is shuffled, oldest-first or youngest-first"),
         }
     }
 
@@ -41,44 +41,13 @@ impl Turn {
     }
 }
 
-/// So many futures, which are dropped in this order.
-#[derive(Copy, Clone)]
-pub struct Futures {
-    turn: Turn,
-    pub count: u64,
-}
-
-impl Futures {
-    /// The futures that the words ask for.
-    pub fn of(words: &[String]) -> Result<Self> {
-        let [order, count, ..] = words else {
-            bail!("usage: kanal_bench drops ORDER COUNT");
-        };
-        let Some(turn) = Turn::named(order) else {
-            bail!("the order is shuffled, oldest-first or youngest-first");
-        };
-        let Ok(count) = count.parse::<u64>() else {
-            bail!("the count is no number");
-        };
-        Ok(Futures { turn, count })
-    }
-
-    /// Lets the futures wait and drops them. It answers how long that took, in nanoseconds a drop.
-    pub fn time<R: RandomSource + AllocGlobal + Clock>(self, rt: &R) -> Result<u64> {
-        let task = MockTask::new(rt)?;
-        let spent = time_on_a_channel(rt, &task, self)?;
-        Ok(u64::try_from(spent.as_nanos())? / self.count.max(1))
-    }
-}
-
-/// How long it takes to drop the futures on a channel without a buffer.
-fn time_on_a_channel<R: AllocGlobal + Clock>(
-    rt: &R,
-    task: &MockTask,
-    futures: Futures,
-) -> Result<Duration> {
+/// Lets so many futures wait on a channel without a buffer and drops them in this order. It answers how long that
+/// took, in nanoseconds a drop.
+pub fn time<R: RandomSource + AllocGlobal + Clock>(rt: &R, turn: Turn, count: u64) -> Result<u64> {
+    let task = MockTask::new(rt)?;
     let (_sender, receiver) = kanal::bounded_async::<u64>(rt.alloc(), 0)?;
-    time_on(rt, task, &receiver, futures)
+    let spent = time_on(rt, &task, &receiver, turn, count)?;
+    Ok(u64::try_from(spent.as_nanos())? / count.max(1))
 }
 
 /// How long it takes to drop the futures on this channel.
@@ -86,24 +55,13 @@ fn time_on<R: AllocGlobal + Clock>(
     rt: &R,
     task: &MockTask,
     receiver: &AsyncReceiver<u64>,
-    futures: Futures,
+    turn: Turn,
+    count: u64,
 ) -> Result<Duration> {
     let mut waits = Vec::new(rt.alloc());
-    wait(task, receiver, futures.count, &mut waits)?;
-    futures.turn.arrange(&mut waits);
+    wait(task, receiver, count, &mut waits)?;
+    turn.arrange(&mut waits);
     drop_all(rt, waits)
-}
-
-/// A receive that waits.
-fn waiting<'a>(
-    task: &MockTask,
-    receiver: &'a AsyncReceiver<u64>,
-) -> Result<ReceiveFuture<'a, u64>> {
-    let mut receiving = receiver.recv();
-    if task.poll(&mut receiving).is_ready() {
-        bail!("a receive from an empty channel has answered");
-    }
-    Ok(receiving)
 }
 
 /// Lets so many receives wait, the oldest first.
@@ -114,7 +72,11 @@ fn wait<'a>(
     waits: &mut Vec<ReceiveFuture<'a, u64>>,
 ) -> Result<()> {
     for _ in 0..count {
-        waits.push(waiting(task, receiver)?)?;
+        let mut receiving = receiver.recv();
+        if task.poll(&mut receiving).is_ready() {
+            bail!("a receive from an empty channel has answered");
+        }
+        waits.push(receiving)?;
     }
     Ok(())
 }

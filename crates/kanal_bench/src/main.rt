@@ -31,70 +31,154 @@ mod crowd;
 mod drops;
 mod many_tasks;
 mod one_history;
-mod order;
 mod pool;
 mod stall;
 mod tasks;
 mod threads;
 mod wait;
 
-use anyhow::Result;
+use anyhow::{Result, bail};
+use calls::Rounds;
 use capacity::Capacity;
-use order::{Order, Work};
-use std::alloc::{AllocGlobal, Global};
+use crowd::{Crowd, Worker};
+use drops::Turn;
+use std::alloc::AllocGlobal;
+use std::env;
 use std::random::RandomSource;
 use std::sync::Wait;
 use std::thread::Threads;
+use std::time::Clock;
 
-/// Sends and receives so many messages, and answers the sum of what was received.
-fn sum<R>(rt: R, alloc: Global, work: Work, capacity: Capacity, count: u64) -> Result<u64>
-where
-    R: Threads + Wait + RandomSource + AllocGlobal + Copy + Send + 'static,
-{
-    match work {
-        Work::InTurn => threads::in_turn(&rt, capacity.open(alloc)?, count),
-        Work::InThreads(crowd) => threads::in_threads(rt, capacity.open(alloc)?, crowd, count),
-        Work::TaskInTurn => tasks::in_turn(&rt, capacity.open_async(alloc)?, count),
-        Work::InTasks(crowd, load) => {
-            tasks::in_threads(rt, alloc, capacity.open_async(alloc)?, crowd, load, count)
-        },
-        Work::InOneHistory => one_history::in_turn(&rt, alloc, capacity, count),
+/// What is done with a channel of a given capacity.
+#[derive(Copy, Clone)]
+enum Scenario {
+    /// One thread sends and receives in turn.
+    InTurn,
+    /// One task does so.
+    TaskInTurn,
+    /// One thread does so on a channel with one history.
+    InOneHistory,
+    /// Threads send, and others receive.
+    Crowd(Crowd),
+    /// A wait for nothing.
+    Wait,
+    /// Sends that are timed one by one.
+    Stall,
+}
+
+impl Scenario {
+    /// The least capacity at which it can end: in turn a place for a message, else none; and where sends are timed
+    /// a place for each thread, so that no send waits for one.
+    fn least_capacity(self) -> usize {
+        match self {
+            Scenario::InTurn | Scenario::TaskInTurn | Scenario::InOneHistory => 1,
+            Scenario::Crowd(_) | Scenario::Wait => 0,
+            Scenario::Stall => 4,
+        }
     }
 }
 
-fn main(rt: HostRuntime) -> Result<()> {
-    let alloc = rt.alloc();
-    match Order::read(&rt)? {
-        Order::Messages {
-            work,
-            capacity,
-            count,
-        } => {
-            println!(rt; "{}", sum(rt, alloc, work, capacity, count)?)?;
-        },
-        Order::Wait {
-            capacity,
-            milliseconds,
-        } => {
-            println!(rt;
-                "{}",
-                wait::for_nothing(&rt, capacity.open(alloc)?, milliseconds)
-            )?;
-        },
-        Order::Stall { capacity, count } => {
-            println!(rt; "{}", stall::in_threads(rt, alloc, capacity, count)?)?;
-        },
-        Order::Calls(rounds) => {
-            println!(rt; "{}", rounds.make(&rt, alloc)?)?;
-        },
-        Order::Drops(futures) => {
-            let nanos = futures.time(&rt)?;
-            println!(rt; "{}", futures.count)?;
-            eprintln!(rt; "{nanos} ns a drop")?;
-        },
-        Order::Jobs(jobs) => {
-            println!(rt; "{}", jobs.sum(&rt)?)?;
+/// The scenarios on a channel of a given capacity, by their words.
+const SCENARIOS: [(&str, Scenario); 11] = [
+    ("seq", Scenario::InTurn),
+    ("async-seq", Scenario::TaskInTurn),
+    ("history-seq", Scenario::InOneHistory),
+    ("spsc", Scenario::Crowd(crowd::ONE_TO_ONE)),
+    ("mpsc", Scenario::Crowd(crowd::FOUR_TO_ONE)),
+    ("mpmc", Scenario::Crowd(crowd::FOUR_TO_FOUR)),
+    ("async-spsc", Scenario::Crowd(crowd::TASK_TO_TASK)),
+    ("async-mpmc", Scenario::Crowd(crowd::FOUR_TASKS_TO_FOUR)),
+    ("async-many", Scenario::Crowd(crowd::MANY_TASKS)),
+    ("wait", Scenario::Wait),
+    ("stall", Scenario::Stall),
+];
+
+/// The word at this place, which is a number.
+fn number(words: &[String], place: usize) -> Result<u64> {
+    match words.get(place) {
+        None => bail!("usage: kanal_bench SCENARIO WORD WORD .."),
+        Some(word) => match word.parse::<u64>() {
+            Ok(number) => Ok(number),
+            Err(_) => bail!("'{word}' is no number"),
         },
     }
+}
+
+/// Does what the words ask for, of which the first is the program's.
+fn run<R>(rt: R, words: &[String]) -> Result<()>
+where
+    R: Threads + Wait + RandomSource + AllocGlobal + Clock + Print + Eprint,
+    R: Copy + Send + Sync + 'static,
+{
+    let [_program, scenario, words @ ..] = words else {
+        bail!(
+            "usage: kanal_bench SCENARIO CAPACITY|u COUNT (finish, leave, drops and pool have words of their own)"
+        );
+    };
+    match scenario.as_str() {
+        "finish" | "leave" => {
+            let rounds = Rounds {
+                count: usize::try_from(number(words, 0)?)?,
+                passes: usize::try_from(number(words, 1)?)?,
+                rounds: usize::try_from(number(words, 2)?)?,
+                is_checked: scenario.as_str() == "finish",
+            };
+            println!(rt; "{}", rounds.make(&rt, rt.alloc())?)?;
+        },
+        "drops" => {
+            let (turn, count) = (Turn::named(words)?, number(words, 1)?);
+            let nanos = drops::time(&rt, turn, count)?;
+            println!(rt; "{count}")?;
+            eprintln!(rt; "{nanos} ns a drop")?;
+        },
+        "pool" => {
+            let (workers, count) = (pool::workers(words)?, number(words, 1)?);
+            println!(rt; "{}", pool::sum(&rt, workers, count)?)?;
+        },
+        scenario => run_on_a_channel(rt, scenario, words)?,
+    }
     Ok(())
+}
+
+/// Does what the word of a scenario on a channel asks for, with the words behind it.
+fn run_on_a_channel<R>(rt: R, scenario: &str, words: &[String]) -> Result<()>
+where
+    R: Threads + Wait + RandomSource + AllocGlobal + Clock + Print + Copy + Send + 'static,
+{
+    let Some((_word, scenario)) = SCENARIOS.iter().find(|it| it.0 == scenario) else {
+        bail!(
+            "scenarios: seq spsc mpsc mpmc async-seq async-spsc async-mpmc async-many history-seq wait stall finish leave drops pool"
+        );
+    };
+    let (alloc, count) = (rt.alloc(), number(words, 1)?);
+    let capacity = Capacity::read(words, scenario.least_capacity())?;
+    let sum = match scenario {
+        Scenario::InTurn => {
+            let (sender, receiver) = capacity.open(alloc)?;
+            threads::add_up(&rt, &sender, &receiver, count)?
+        },
+        Scenario::TaskInTurn => {
+            let (sender, receiver) = capacity.open(alloc)?;
+            tasks::add_up(&rt, sender.as_async(), receiver.as_async(), count)?
+        },
+        Scenario::InOneHistory => one_history::in_turn(&rt, alloc, capacity, count)?,
+        Scenario::Crowd(crowd) => {
+            crowd::send_and_receive(rt, capacity.open(alloc)?, *crowd, count)?
+        },
+        Scenario::Wait => {
+            println!(rt; "{}", wait::for_nothing(&rt, capacity.open(alloc)?, count))?;
+            return Ok(());
+        },
+        Scenario::Stall => {
+            println!(rt; "{}", stall::in_threads(rt, alloc, capacity, count)?)?;
+            return Ok(());
+        },
+    };
+    println!(rt; "{sum}")?;
+    Ok(())
+}
+
+fn main(rt: HostRuntime) -> Result<()> {
+    let words: Vec<String> = env::args(&rt)?.collect(rt.alloc())?;
+    run(rt, words.as_slice())
 }

@@ -13,9 +13,6 @@ use std::{fmt, thread};
 /// How many threads are busy beside the one that is measured.
 const BUSY_THREADS: u64 = 3;
 
-/// The least capacity: a place for each thread, so that no send waits for one.
-pub const LEAST_CAPACITY: usize = 4;
-
 /// How long the sends took.
 #[derive(Copy, Clone)]
 pub struct Times {
@@ -62,11 +59,6 @@ fn longest_but(sorted: &[Duration], longer: usize) -> Duration {
         .unwrap_or(Duration::ZERO)
 }
 
-/// Sends and receives once, and tells whether the channel went on.
-fn pass_one<R: Wait>(rt: &R, sender: &Sender<u64>, receiver: &Receiver<u64>) -> bool {
-    sender.send(rt, 0).is_ok() && receiver.recv(rt).is_ok()
-}
-
 /// Sends and receives in turn, until it is told to stop or the channel ends.
 fn keep_busy<R: Wait>(
     rt: &R,
@@ -75,29 +67,15 @@ fn keep_busy<R: Wait>(
     is_over: &AtomicBool,
 ) {
     for _ in rt.forever() {
-        if is_over.load(SeqCst) || !pass_one(rt, sender, receiver) {
+        let is_done = is_over.load(SeqCst);
+        if is_done || sender.send(rt, 0).is_err() || receiver.recv(rt).is_err() {
             return;
         }
     }
 }
 
-/// Starts a busy thread, with clones of both ends.
+/// Starts the busy threads, with clones of both ends.
 fn start_busy<R: Threads + Wait + Copy + Send + 'static>(
-    rt: R,
-    sender: &Sender<u64>,
-    receiver: &Receiver<u64>,
-    is_over: &Arc<AtomicBool>,
-) -> Result<JoinHandle<()>> {
-    let is_over = Arc::try_clone(is_over)?;
-    let sender = sender.clone(&rt)?;
-    let receiver = receiver.clone(&rt)?;
-    Ok(thread::spawn(&rt, move || {
-        keep_busy(&rt, &sender, &receiver, &is_over)
-    })?)
-}
-
-/// Starts the busy threads.
-fn start_all<R: Threads + Wait + Copy + Send + 'static>(
     rt: R,
     sender: &Sender<u64>,
     receiver: &Receiver<u64>,
@@ -105,7 +83,11 @@ fn start_all<R: Threads + Wait + Copy + Send + 'static>(
     busy: &mut Vec<JoinHandle<()>>,
 ) -> Result<()> {
     for _ in 0..BUSY_THREADS {
-        busy.push(start_busy(rt, sender, receiver, is_over)?)?;
+        let is_over = Arc::try_clone(is_over)?;
+        let (sender, receiver) = (sender.clone(&rt)?, receiver.clone(&rt)?);
+        busy.push(thread::spawn(&rt, move || {
+            keep_busy(&rt, &sender, &receiver, &is_over)
+        })?)?;
     }
     Ok(())
 }
@@ -139,15 +121,8 @@ fn note_beside<R: Threads + Wait + Clock + Copy + Send + 'static>(
     sends: &mut Vec<Duration>,
 ) -> Result<()> {
     let (sender, receiver) = capacity.open(alloc)?;
-    start_all(rt, &sender, &receiver, is_over, busy)?;
+    start_busy(rt, &sender, &receiver, is_over, busy)?;
     note_sends(&rt, &sender, &receiver, count, sends)
-}
-
-/// Joins the busy threads.
-fn join_all<R: Threads>(rt: &R, busy: Vec<JoinHandle<()>>) {
-    for thread in busy {
-        thread.join(rt);
-    }
 }
 
 /// Times so many sends of this thread beside the busy ones, and joins those.
@@ -162,7 +137,9 @@ pub fn in_threads<R: Threads + Wait + Clock + Copy + Send + 'static>(
     let mut sends = Vec::new(alloc);
     let noted = note_beside(rt, alloc, capacity, count, &is_over, &mut busy, &mut sends);
     is_over.store(true, SeqCst);
-    join_all(&rt, busy);
+    for thread in busy {
+        thread.join(&rt);
+    }
     noted?;
     Times::of(sends)
 }

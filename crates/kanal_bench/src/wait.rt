@@ -1,5 +1,5 @@
 //! The scenario of a wait for a message that nobody sends.
-use crate::threads::Ends;
+use crate::capacity::Ends;
 use kanal::SystemClock;
 use kanal::error::ReceiveErrorTimeout;
 use std::sync::Wait;

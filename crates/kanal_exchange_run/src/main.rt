@@ -1,4 +1,5 @@
-//! Runs each exchange at the capacities 0 and 4 and without limit, and prints what came out.
+//! Runs each exchange at the capacities 0 and 4 and without limit, and prints what came out; and then counts
+//! the words of standard input in a pipeline.
 //!
 //! Stands on `kanal_exchange`, whose contracts say what comes out. How the two lists of `gathered` are merged
 //! differs from run to run, so only their number is printed of them. Of a refused one it prints the error, and
@@ -8,6 +9,7 @@
 
 mod calls;
 mod memory;
+mod pipeline;
 mod refusals;
 mod stages;
 
@@ -106,7 +108,10 @@ fn main(rt: HostRuntime) -> Result<()> {
     let mut args = env::args(&rt)?;
     let _program = args.next();
     match args.next() {
-        None => exchange_many(&rt),
+        None => {
+            exchange_many(&rt)?;
+            pipeline::count_words(&rt)
+        },
         Some(_few) => exchange_few(&rt),
     }
 }

@@ -1,136 +1,235 @@
-//! Calls of the core: each kind that asks for memory is made again where it was refused.
-use crate::tally::{Tally, holds};
+//! Calls of the channel's core.
+mod rows;
+
+use crate::answer::Answer;
+use crate::driver::{Subject, Tally, make_row};
 use kanal_core::error::{DrainError, NewError, WaitError};
-use kanal_core::internal::{ChannelInternal, Offer, Take, Ticket};
+use kanal_core::internal::{ChannelInternal, Closing, Offer, Steps, Take, Ticket};
+use rows::ROWS;
 use std::alloc::Global;
+use std::marker::Brand;
 
 type Core = ChannelInternal<u64, u8>;
 
-/// A channel for this many messages.
-fn channel(alloc: Global, tally: &mut Tally, capacity: usize) -> Option<Core> {
+/// A call of the core.
+#[derive(Clone, Copy)]
+pub enum Call {
+    /// Offers this message.
+    Offer(u64),
+    /// Lets a send of this message wait, which finds no place.
+    WaitSend(u64, u8),
+    /// Takes a message.
+    Take,
+    /// Lets a receive wait, which finds no message.
+    WaitRecv(u8),
+    /// Withdraws the first wait that was started, which brought this.
+    Withdraw(u8),
+    /// Makes room in the vector for so many messages.
+    Room(usize),
+    /// Drains the line into the vector.
+    Drain,
+    AddSender,
+    AddReceiver,
+    DropSender,
+    DropReceiver,
+    Seal,
+    Close,
+    /// Asks each question of an empty core of capacity 3.
+    Questions,
+}
+
+/// What a refused call leaves as it was.
+#[derive(Clone, Copy, Debug, PartialEq, Eq)]
+pub struct State {
+    len: usize,
+    drained: usize,
+    senders: u32,
+    receivers: u32,
+}
+
+/// A core with the ticket of its first wait, and a vector to drain into.
+#[derive(Drop)]
+struct Called {
+    core: Core,
+    first: Option<Ticket>,
+    into: Vec<u64>,
+}
+
+impl Subject for Called {
+    type Call = Call;
+
+    type Answer = Answer;
+
+    type State = State;
+
+    fn state(&self) -> State {
+        State {
+            len: self.core.len(),
+            drained: self.into.len(),
+            senders: self.core.sender_count(),
+            receivers: self.core.receiver_count(),
+        }
+    }
+
+    fn make(&mut self, call: Call) -> Answer {
+        match call {
+            Call::Offer(message) => self.offer(message),
+            Call::WaitSend(message, w) => self.wait_send(message, w),
+            Call::Take => self.take(),
+            Call::WaitRecv(w) => self.wait_recv(w),
+            Call::Withdraw(w) => self.withdraw(w),
+            Call::Room(count) if self.into.try_reserve(count).is_err() => Answer::NoMemory,
+            Call::Room(_) => Answer::Done,
+            Call::Drain => self.drain(),
+            Call::AddSender => done(self.core.add_sender().is_ok()),
+            Call::AddReceiver => done(self.core.add_receiver().is_ok()),
+            Call::DropSender => Answer::Flag(self.core.drop_sender().next().is_some()),
+            Call::DropReceiver => Answer::Flag(self.core.drop_receiver().next().is_some()),
+            Call::Seal => done(self.core.seal().is_ok()),
+            Call::Close => self.close(),
+            Call::Questions => Answer::Flag(self.is_as_it_began()),
+        }
+    }
+
+    fn refused(_call: Call) -> Answer {
+        Answer::NoMemory
+    }
+}
+
+/// Whether an end or a clone was made.
+fn done(is_made: bool) -> Answer {
+    if is_made { Answer::Done } else { Answer::Ended }
+}
+
+impl Called {
+    fn offer(&mut self, message: u64) -> Answer {
+        match self.core.offer(message) {
+            Offer::Entered => Answer::Done,
+            Offer::Handed(_settled) => Answer::Handed,
+            Offer::Full(back) if back == message => Answer::No,
+            Offer::Sealed(back) if back == message => Answer::Sealed,
+            Offer::NoMemory(back) if back == message => Answer::NoMemory,
+            _ => Answer::Other,
+        }
+    }
+
+    fn wait_send(&mut self, message: u64, w: u8) -> Answer {
+        let Offer::Full(offered) = self.core.offer(message) else {
+            return Answer::Other;
+        };
+        match self.core.wait_send(offered, w) {
+            Ok(ticket) => {
+                self.first = self.first.or(Some(ticket));
+                Answer::Waits
+            },
+            Err((WaitError::NoMemory, back, same)) if back == message && same == w => {
+                Answer::NoMemory
+            },
+            Err(_other) => Answer::Other,
+        }
+    }
+
+    fn take(&mut self) -> Answer {
+        match self.core.take() {
+            Take::Got(message, None) => Answer::Got(message),
+            Take::Empty => Answer::Nothing,
+            Take::SendClosed => Answer::SendClosed,
+            _ => Answer::Other,
+        }
+    }
+
+    fn wait_recv(&mut self, w: u8) -> Answer {
+        let Take::Empty = self.core.take() else {
+            return Answer::Other;
+        };
+        match self.core.wait_recv(w) {
+            Ok(ticket) => {
+                self.first = self.first.or(Some(ticket));
+                Answer::Waits
+            },
+            Err((WaitError::NoMemory, same)) if same == w => Answer::NoMemory,
+            Err(_other) => Answer::Other,
+        }
+    }
+
+    fn withdraw(&mut self, w: u8) -> Answer {
+        let Some(first) = self.first else {
+            return Answer::Other;
+        };
+        let Some(out) = self.core.withdraw(first, &mut Steps::<Brand>::idle()) else {
+            return Answer::Nothing;
+        };
+        match out.message {
+            Some(message) if out.w == w => Answer::Got(message),
+            _ => Answer::Other,
+        }
+    }
+
+    /// Drains into the vector, and answers all that is in it as digits.
+    fn drain(&mut self) -> Answer {
+        let answer = self.core.drain_into(&mut self.into);
+        let mut digits: u64 = 0;
+        for digit in &self.into {
+            digits = digits.wrapping_mul(10).wrapping_add(*digit);
+        }
+        match answer {
+            Ok((count, _taken)) => Answer::Drained(count, digits),
+            Err(DrainError::NoMemory) => Answer::NoMemory,
+            Err(_other) => Answer::Other,
+        }
+    }
+
+    /// Answers the first message that was cleared, where no more than one wait ended.
+    fn close(&mut self) -> Answer {
+        match self.core.close() {
+            Ok(Closing { cleared, ended }) => {
+                let (mut cleared, mut ended) = (cleared, ended);
+                let first = cleared.next();
+                let are_right = ended.next().is_some() == first.is_some() && ended.next().is_none();
+                match first {
+                    Some(message) if are_right => Answer::Got(message),
+                    None if are_right => Answer::Done,
+                    _ => Answer::Other,
+                }
+            },
+            Err(_refused) => Answer::Ended,
+        }
+    }
+
+    /// Whether the core has room for three messages and has none, one handle a side, and nothing has ended.
+    fn is_as_it_began(&self) -> bool {
+        let core = &self.core;
+        let is_empty = core.len() == 0 && core.is_empty() && !core.is_full();
+        let is_bounded = core.is_bounded() && core.capacity() == 3;
+        let is_one_each = core.sender_count() == 1 && core.receiver_count() == 1;
+        let is_gone = core.is_closed() || core.send_side_gone() || core.receive_side_gone();
+        is_empty && is_bounded && is_one_each && !is_gone && !core.is_terminated()
+    }
+}
+
+/// A core for so many messages, or without limit.
+fn opened(alloc: Global, tally: &mut Tally, capacity: Option<usize>) -> Option<Core> {
+    let Some(capacity) = capacity else {
+        return Some(Core::unbounded(alloc));
+    };
     match Core::new(alloc, capacity) {
         Err(NewError::NoMemory) => {
-            tally.add();
+            tally.add()?;
             Core::new(alloc, capacity).ok()
         },
         made => made.ok(),
     }
 }
 
-/// Starts the wait of a send that finds no place.
-fn wait_send(core: &mut Core, tally: &mut Tally, message: u64, w: u8) -> Option<Ticket> {
-    let Offer::Full(offered) = core.offer(message) else {
-        return None;
-    };
-    match core.wait_send(offered, w) {
-        Err((WaitError::NoMemory, back, same)) => {
-            tally.add();
-            holds(back == message && same == w)?;
-            core.wait_send(back, same).ok()
-        },
-        started => started.ok(),
+/// Makes the calls of each row.
+pub fn call_all(alloc: Global, tally: &mut Tally) -> Option<()> {
+    for row in ROWS {
+        let mut called = Called {
+            core: opened(alloc, tally, row.made)?,
+            first: None,
+            into: Vec::new(alloc),
+        };
+        make_row(&mut called, tally, row)?;
     }
-}
-
-/// Starts the wait of a receive that finds no message.
-fn wait_recv(core: &mut Core, tally: &mut Tally, w: u8) -> Option<Ticket> {
-    let Take::Empty = core.take() else {
-        return None;
-    };
-    match core.wait_recv(w) {
-        Err((WaitError::NoMemory, same)) => {
-            tally.add();
-            holds(same == w)?;
-            core.wait_recv(same).ok()
-        },
-        started => started.ok(),
-    }
-}
-
-/// Offers the message to a channel that is never full.
-fn enter(core: &mut Core, tally: &mut Tally, message: u64) -> Option<()> {
-    let before = core.len();
-    let answer = match core.offer(message) {
-        Offer::NoMemory(back) => {
-            tally.add();
-            holds(back == message && core.len() == before)?;
-            core.offer(back)
-        },
-        answer => answer,
-    };
-    holds(matches!(answer, Offer::Entered))
-}
-
-/// How many messages a drain moves to the vector's end.
-fn drain(core: &mut Core, tally: &mut Tally, into: &mut Vec<u64>) -> Option<usize> {
-    let (messages, buffered) = (into.len(), core.len());
-    let answer = match core.drain_into(into) {
-        Err(DrainError::NoMemory) => {
-            tally.add();
-            holds(into.len() == messages && core.len() == buffered)?;
-            core.drain_into(into)
-        },
-        answer => answer,
-    };
-    match answer {
-        Ok((count, _taken)) => Some(count),
-        Err(_refused) => None,
-    }
-}
-
-/// A bounded channel: its buffer, waits of both sides, and a drain of all.
-pub fn bounded(alloc: Global, tally: &mut Tally) -> Option<()> {
-    let mut core = channel(alloc, tally, 1)?;
-    holds(fills(&mut core, tally) && drains(&mut core, alloc, tally, &[2, 3]))
-}
-
-/// Whether one message goes to a receive that waits, one enters, and one waits with its sender.
-fn fills(core: &mut Core, tally: &mut Tally) -> bool {
-    wait_recv(core, tally, 7).is_some()
-        && matches!(core.offer(1), Offer::Handed(_))
-        && matches!(core.offer(2), Offer::Entered)
-        && wait_send(core, tally, 3, 8).is_some()
-}
-
-/// Whether a drain moves these messages.
-fn drains(core: &mut Core, alloc: Global, tally: &mut Tally, expected: &[u64]) -> bool {
-    let mut messages = Vec::new(alloc);
-    let count = drain(core, tally, &mut messages);
-    count == Some(expected.len()) && messages.as_slice() == expected
-}
-
-/// A channel without limit: its buffer grows, and is drained.
-pub fn unlimited(alloc: Global, tally: &mut Tally) -> Option<()> {
-    let mut core = Core::unbounded(alloc);
-    holds(twenty_enter(&mut core, tally) && drains_twenty(&mut core, alloc, tally))
-}
-
-/// Whether 20 messages enter.
-fn twenty_enter(core: &mut Core, tally: &mut Tally) -> bool {
-    for message in 0..20 {
-        if enter(core, tally, message).is_none() {
-            return false;
-        }
-    }
-    true
-}
-
-/// Whether a drain moves 20 messages.
-fn drains_twenty(core: &mut Core, alloc: Global, tally: &mut Tally) -> bool {
-    let mut messages = Vec::new(alloc);
-    drain(core, tally, &mut messages) == Some(20) && messages.len() == 20
-}
-
-/// A seal asks for no memory: whoever receives ends, and nothing more enters.
-pub fn sealed(alloc: Global, tally: &mut Tally) -> Option<()> {
-    let mut core = channel(alloc, tally, 1)?;
-    holds(wait_recv(&mut core, tally, 7).is_some() && seals(&mut core))
-}
-
-/// Whether one seal is made, and what is told after it.
-fn seals(core: &mut Core) -> bool {
-    core.seal().is_ok()
-        && core.seal().is_err()
-        && matches!(core.offer(1), Offer::Sealed(1))
-        && matches!(core.take(), Take::SendClosed)
+    Some(())
 }

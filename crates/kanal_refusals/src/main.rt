@@ -1,78 +1,86 @@
-//! Calls in which any request for memory may be refused: of the core, the handles, the futures and a
-//! pool, and lists of events and calls of passes.
+//! Calls in which any request for memory may be refused, and calls that take none: of the core, the cell,
+//! the handles, the futures and a pool, and lists of events and calls of passes.
 //!
 //! Each call answers as with ample memory, or with a want of memory that left things as they were;
 //! then it is made again. It prints how many were refused, and its status is 0 where that is so of
 //! every call, and else 1. `scripts/refuse-memory` runs it with one request after another refused. The
-//! threads that meet a blocked call ask for no memory, so the requests come in one order.
+//! thread that serves a blocked call asks for no memory, so the requests come in one order.
+//!
+//! `kanal_refusals setup` makes what the calls need that take no memory, and `kanal_refusals calls` makes it
+//! and then them: both runs ask for memory as often, which that script counts.
 #![tactic(auto)]
 
+mod answer;
+mod cell;
+mod driver;
+mod given;
 mod handles;
-mod history;
+mod held;
 mod internal;
-mod messages;
-mod polls;
+mod lists;
+mod passes;
 mod pool;
-mod tally;
 
-use handles::{asleep, beside, blocked, calls, growths, timed};
-use history::{lists, passes};
-use std::alloc::{AllocGlobal, Global};
+use driver::{Run, Tally, holds};
+use std::alloc::AllocGlobal;
+use std::env;
+use std::env::Env;
 use std::process::ExitCode;
 use std::random::RandomSource;
 use std::sync::Wait;
-use std::time;
-use tally::Tally;
+use std::thread::Threads;
+use std::time::Clock;
 
-/// Calls of the core, and lists of events.
-fn below_the_lock(alloc: Global, tally: &mut Tally) -> Option<()> {
-    internal::bounded(alloc, tally)?;
-    internal::unlimited(alloc, tally)?;
-    internal::sealed(alloc, tally)?;
-    lists::run_all(alloc, tally)
+/// What the command's word asks for; None where it isn't known.
+fn run_of<R: Env + AllocGlobal>(rt: &R) -> Option<Run> {
+    let mut args = match env::args(rt) {
+        Err(_refused) => env::args(rt).ok()?,
+        Ok(args) => args,
+    };
+    let _program = args.next();
+    match args.next() {
+        None => Some(Run::Refusals),
+        Some(word) if word.as_str() == "setup" => Some(Run::Setup),
+        Some(word) if word.as_str() == "calls" => Some(Run::Calls),
+        Some(_other) => None,
+    }
 }
 
-/// Calls that wait for no other thread.
-fn on_one_thread<R: Wait + time::Clock>(rt: &R, alloc: Global, tally: &mut Tally) -> Option<()> {
-    growths::grow(rt, alloc, tally)?;
-    calls::drains(rt, alloc, tally)?;
-    calls::drains_for_tasks(rt, alloc, tally)?;
-    calls::seals(rt, alloc, tally)?;
-    timed::send_option_times_out(rt, alloc, tally)?;
-    timed::send_times_out(rt, alloc, tally)?;
-    timed::recv_times_out(rt, alloc, tally)?;
-    asleep::recv_is_given(rt, alloc, tally)?;
-    asleep::send_is_taken(rt, alloc, tally)?;
-    passes::call_all(rt, alloc, tally)
+/// Makes all calls; None where one answered otherwise.
+fn call_all<R>(rt: &R, tally: &mut Tally) -> Option<()>
+where
+    R: Threads + Wait + Clock + RandomSource + AllocGlobal + Copy + Send + Sync + 'static,
+{
+    let alloc = rt.alloc();
+    internal::call_all(alloc, tally)?;
+    handles::call_all(rt, alloc, tally)?;
+    passes::call_all(rt, alloc, tally)?;
+    if tally.run == Run::Refusals {
+        handles::call_served(rt, alloc, tally)?;
+        lists::run_all(alloc, tally)?;
+        pool::works(rt, alloc, tally)?;
+    }
+    if call_what_takes_none(rt, *tally).is_some() {
+        return Some(());
+    }
+    // What these calls need was refused.
+    holds(tally.run == Run::Refusals)?;
+    call_what_takes_none(rt, *tally)
 }
 
-/// Polls.
-fn in_tasks<R: Wait + RandomSource + AllocGlobal + time::Clock>(
-    rt: &R,
-    alloc: Global,
-    tally: &mut Tally,
-) -> Option<()> {
-    polls::send_is_polled(rt, alloc, tally)?;
-    polls::receive_is_polled(rt, alloc, tally)?;
-    polls::send_changes_its_task(rt, alloc, tally)?;
-    polls::receive_changes_its_task(rt, alloc, tally)?;
-    polls::stream_is_polled(rt, alloc, tally)?;
-    beside::sends(rt, alloc, tally)?;
-    beside::receives(rt, alloc, tally)
+/// Makes those of a cell, and a drop while the lock is held.
+fn call_what_takes_none<R: Wait + RandomSource + AllocGlobal>(rt: &R, tally: Tally) -> Option<()> {
+    cell::call_all(rt, rt.alloc(), tally)?;
+    held::leaves(rt, rt.alloc(), tally)
 }
 
 fn main(rt: HostRuntime) -> ExitCode {
-    let alloc = rt.alloc();
-    let mut tally = Tally::new();
-    let answered = below_the_lock(alloc, &mut tally).is_some()
-        && on_one_thread(&rt, alloc, &mut tally).is_some()
-        && in_tasks(&rt, alloc, &mut tally).is_some()
-        && pool::works(&rt, alloc, &mut tally).is_some()
-        && blocked::send_waits(rt, alloc, &mut tally).is_some()
-        && blocked::recv_waits(rt, alloc, &mut tally).is_some()
-        && beside::option_sends(&rt, alloc, &mut tally).is_some()
-        && beside::streams(&rt, alloc, &mut tally).is_some();
-    if answered && println!(rt; "refused calls: {}", tally.refused()).is_ok() {
+    let Some(run) = run_of(&rt) else {
+        return ExitCode::FAILURE;
+    };
+    let mut tally = Tally { run, refused: 0 };
+    let answered = call_all(&rt, &mut tally).is_some();
+    if answered && println!(rt; "refused calls: {}", tally.refused).is_ok() {
         ExitCode::SUCCESS
     } else {
         ExitCode::FAILURE

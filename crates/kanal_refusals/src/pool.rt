@@ -1,7 +1,7 @@
 //! A pool whose growths, threads and jobs may be refused: its workers have ended then.
 ghost use Rattle.std.proofs.Common.{rules};
 
-use crate::tally::{Tally, holds};
+use crate::driver::{Tally, holds};
 use kanal_pool::{Gate, Job, NoMemory, PoolError, map_jobs};
 use std::alloc::Global;
 use std::sync::Wait;
@@ -51,7 +51,7 @@ pub fn works<R: Threads + Wait + Sync>(rt: &R, alloc: Global, tally: &mut Tally)
     };
     let answers = match map_jobs(rt, alloc, &jobs, 2, &counts) {
         Err(PoolError::NoMemory | PoolError::NoThread) => {
-            tally.add();
+            tally.add()?;
             holds(counts.entered.load(SeqCst) == counts.left.load(SeqCst))?;
             map_jobs(rt, alloc, &jobs, 2, &counts).ok()?
         },

@@ -1,148 +1,112 @@
-//! Channels that are made and drained, and calls that ask for no memory, each made again where it was
-//! refused.
-use crate::tally::{Tally, holds};
-use kanal::error::{NewError, ReceiveError, SendError};
-use kanal::{
-    AsyncReceiver, AsyncSender, Receiver, Sender, bounded, bounded_async, unbounded,
-    unbounded_async,
-};
-use std::alloc::Global;
+//! The calls of handles that wait for no other thread.
+use super::{Form, Handles, Take};
+use crate::answer::{Answer, found, received, received_in_time, sent, sent_in_time, tried};
+use crate::given::Message;
+use kanal::TestClock;
 use std::sync::Wait;
+use std::time;
+use std::time::Duration;
 
-/// A channel for this many messages.
-pub fn channel<T: Drop>(
-    alloc: Global,
-    tally: &mut Tally,
-    capacity: usize,
-) -> Option<(Sender<T>, Receiver<T>)> {
-    match bounded(alloc, capacity) {
-        Err(NewError::NoMemory) => {
-            tally.add();
-            bounded(alloc, capacity).ok()
-        },
-        made => made.ok(),
+impl<R: Wait + time::Clock> Handles<'_, R> {
+    /// Sends a message with this number.
+    pub fn send(&self, form: Form, number: u64) -> Answer {
+        let Some(message) = self.given.message(number) else {
+            return Answer::Other;
+        };
+        let (rt, now, clock) = (self.rt, Duration::from_nanos(0), TestClock::still(0));
+        match form {
+            Form::Plain => sent(self.tx.send(rt, message)),
+            Form::Try => tried(self.tx.try_send(rt, message)),
+            Form::TryRealtime => tried(self.tx.try_send_realtime(message)),
+            Form::Late => sent_in_time(self.tx.send_timeout(rt, message, now, &clock)),
+            Form::ByView => sent(self.tx.as_async().as_sync().send(rt, message)),
+            Form::LateByView => {
+                let view = self.tx.as_async().as_sync();
+                sent_in_time(view.send_timeout(rt, message, now, &clock))
+            },
+            Form::TryByTask => tried(self.tx.as_async().try_send(rt, message)),
+            _ => self.send_option(form, message),
+        }
     }
-}
 
-/// A channel without limit.
-pub fn unlimited<T: Drop>(alloc: Global, tally: &mut Tally) -> Option<(Sender<T>, Receiver<T>)> {
-    match unbounded(alloc) {
-        Err(NewError::NoMemory) => {
-            tally.add();
-            unbounded(alloc).ok()
-        },
-        made => made.ok(),
+    /// Sends a message that stays in its option where it isn't sent.
+    fn send_option(&self, form: Form, message: Message) -> Answer {
+        let (rt, now, clock) = (self.rt, Duration::from_nanos(0), TestClock::still(0));
+        let mut option = Some(message);
+        let answer = match form {
+            Form::TryOption => tried(self.tx.try_send_option(rt, &mut option)),
+            Form::TryOptionRealtime => tried(self.tx.try_send_option_realtime(&mut option)),
+            Form::LateOptionByView => {
+                let view = self.tx.as_async().as_sync();
+                sent_in_time(view.send_option_timeout(rt, &mut option, now, &clock))
+            },
+            _ => sent_in_time(self.tx.send_option_timeout(rt, &mut option, now, &clock)),
+        };
+        let is_sent = matches!(answer, Answer::Yes | Answer::Done);
+        if is_sent == option.is_some() {
+            return Answer::Other;
+        }
+        answer
     }
-}
 
-/// A channel for this many messages, for tasks.
-pub fn task_channel<T: Drop>(
-    alloc: Global,
-    tally: &mut Tally,
-    capacity: usize,
-) -> Option<(AsyncSender<T>, AsyncReceiver<T>)> {
-    match bounded_async(alloc, capacity) {
-        Err(NewError::NoMemory) => {
-            tally.add();
-            bounded_async(alloc, capacity).ok()
-        },
-        made => made.ok(),
+    /// Receives a message, and drops it.
+    pub fn receive(&self, take: Take) -> Answer {
+        let (rt, now, clock) = (self.rt, Duration::from_nanos(0), TestClock::still(0));
+        match take {
+            Take::Plain => received(self.rx.recv(rt)),
+            Take::Try => found(self.rx.try_recv(rt)),
+            Take::TryRealtime => found(self.rx.try_recv_realtime()),
+            Take::Late => received_in_time(self.rx.recv_timeout(rt, now, &clock)),
+            Take::ByView => received(self.rx.as_async().as_sync().recv(rt)),
+            Take::LateByView => {
+                let view = self.rx.as_async().as_sync();
+                received_in_time(view.recv_timeout(rt, now, &clock))
+            },
+            Take::TryByTask => found(self.rx.as_async().try_recv(rt)),
+        }
     }
-}
 
-/// A channel without limit, for tasks.
-pub fn unlimited_task_channel<T: Drop>(
-    alloc: Global,
-    tally: &mut Tally,
-) -> Option<(AsyncSender<T>, AsyncReceiver<T>)> {
-    match unbounded_async(alloc) {
-        Err(NewError::NoMemory) => {
-            tally.add();
-            unbounded_async(alloc).ok()
-        },
-        made => made.ok(),
+    /// Drains into the vector, and answers the numbers of all that are in it as digits.
+    pub fn drain(&mut self, by_task: bool) -> Answer {
+        let answer = if by_task {
+            self.rx.as_async().drain_into(self.rt, &mut self.into)
+        } else {
+            self.rx.drain_into(self.rt, &mut self.into)
+        };
+        let mut digits: u64 = 0;
+        for message in &self.into {
+            digits = digits.wrapping_mul(10).wrapping_add(message.number);
+        }
+        match answer {
+            Ok(count) => Answer::Drained(count, digits),
+            Err(error) => received(Err(error)),
+        }
     }
-}
 
-/// A drain asks for the room of all messages before it moves one.
-pub fn drains<R: Wait>(rt: &R, alloc: Global, tally: &mut Tally) -> Option<()> {
-    let (sender, receiver) = channel::<u64>(alloc, tally, 2)?;
-    holds(
-        sender.send(rt, 1) == Ok(())
-            && sender.send(rt, 2) == Ok(())
-            && drains_two(rt, alloc, tally, &receiver),
-    )
-}
+    /// Whether the channel is open and empty, with two places.
+    pub fn is_as_it_began(&self) -> bool {
+        let (rt, tx) = (self.rt, self.tx);
+        let is_empty = tx.len(rt) == 0 && tx.is_empty(rt) && !tx.is_full(rt);
+        let is_bounded = tx.is_bounded(rt) && tx.capacity(rt) == 2;
+        let has_ended = tx.is_closed(rt) || tx.is_disconnected(rt) || self.rx.is_terminated(rt);
+        is_empty && is_bounded && !has_ended
+    }
 
-/// Whether both messages are drained, if need be the second time.
-fn drains_two<R: Wait>(rt: &R, alloc: Global, tally: &mut Tally, receiver: &Receiver<u64>) -> bool {
-    let mut messages = Vec::new(alloc);
-    let answer = match receiver.drain_into(rt, &mut messages) {
-        Err(ReceiveError::NoMemory) => {
-            tally.add();
-            if !messages.is_empty() || receiver.len(rt) != 2 {
-                return false;
-            }
-            receiver.drain_into(rt, &mut messages)
-        },
-        answer => answer,
-    };
-    answer == Ok(2) && messages.as_slice() == [1, 2].as_slice()
-}
-
-/// A drain by the receiver of tasks, of nothing and of two messages.
-pub fn drains_for_tasks<R: Wait>(rt: &R, alloc: Global, tally: &mut Tally) -> Option<()> {
-    drains_nothing(rt, alloc, tally)?;
-    let (sender, receiver) = task_channel::<u64>(alloc, tally, 2)?;
-    holds(
-        sender.try_send(rt, 1) == Ok(true)
-            && sender.try_send(rt, 2) == Ok(true)
-            && drains_two_for_tasks(rt, alloc, tally, &receiver),
-    )
-}
-
-/// A drain of a channel without limit that is empty.
-fn drains_nothing<R: Wait>(rt: &R, alloc: Global, tally: &mut Tally) -> Option<()> {
-    let (_sender, receiver) = unlimited_task_channel::<u64>(alloc, tally)?;
-    holds(receiver.drain_into(rt, &mut Vec::new(alloc)) == Ok(0))
-}
-
-/// Whether both messages are drained, if need be the second time.
-fn drains_two_for_tasks<R: Wait>(
-    rt: &R,
-    alloc: Global,
-    tally: &mut Tally,
-    receiver: &AsyncReceiver<u64>,
-) -> bool {
-    let mut messages = Vec::new(alloc);
-    let answer = match receiver.drain_into(rt, &mut messages) {
-        Err(ReceiveError::NoMemory) => {
-            tally.add();
-            if !messages.is_empty() || receiver.len(rt) != 2 {
-                return false;
-            }
-            receiver.drain_into(rt, &mut messages)
-        },
-        answer => answer,
-    };
-    answer == Ok(2) && messages.as_slice() == [1, 2].as_slice()
-}
-
-/// A seal asks for no memory: what is there is received, and nothing more enters.
-pub fn seals<R: Wait>(rt: &R, alloc: Global, tally: &mut Tally) -> Option<()> {
-    let (sender, receiver) = channel::<u64>(alloc, tally, 2)?;
-    holds(is_sealed(rt, &sender, &receiver) && is_received(rt, &receiver))
-}
-
-/// Whether one message enters, and none after the one seal that is made.
-fn is_sealed<R: Wait>(rt: &R, sender: &Sender<u64>, receiver: &Receiver<u64>) -> bool {
-    sender.send(rt, 1) == Ok(())
-        && receiver.seal(rt).is_ok()
-        && sender.seal(rt).is_err()
-        && sender.try_send(rt, 2) == Err(SendError::Sealed)
-}
-
-/// Whether that message is received, and then the end is told.
-fn is_received<R: Wait>(rt: &R, receiver: &Receiver<u64>) -> bool {
-    receiver.try_recv(rt) == Ok(Some(1)) && receiver.try_recv(rt) == Err(ReceiveError::SendClosed)
+    /// Clones of each kind become ones of the other kind, and are dropped.
+    pub fn converts(&self) -> bool {
+        let (Ok(sender), Ok(receiver)) = (self.tx.clone(self.rt), self.rx.clone(self.rt)) else {
+            return false;
+        };
+        let Ok(for_tasks) = self.tx.clone_async(self.rt) else {
+            return false;
+        };
+        let are_three = sender.as_async().sender_count(self.rt) == 3;
+        drop(for_tasks.to_sync());
+        drop(sender.to_async());
+        let back = receiver.to_async();
+        are_three
+            && back.clone_sync(self.rt).is_ok()
+            && self.rx.receiver_count(self.rt) == 2
+            && self.rx.as_async().as_sync().sender_count(self.rt) == 1
+    }
 }

@@ -1,0 +1,63 @@
+//! The examples, each a module that reads by itself, one after the other; below a heading with its name
+//! each prints what it finds.
+//!
+//! `kanal_examples NAME` runs that one alone, and `kanal_examples primes COUNT WORKERS` counts the primes
+//! of so many ranges by so many workers.
+#![tactic(auto)]
+
+mod actor;
+mod bridge;
+mod first_of;
+mod primes;
+mod two_threads;
+mod uses;
+
+use anyhow::{Result, bail};
+use primes::Ranges;
+use std::alloc::AllocGlobal;
+use std::env;
+use std::random::RandomSource;
+use std::sync::Wait;
+use std::thread::Threads;
+use std::time::Clock;
+
+/// The examples, in the order in which they run.
+const NAMES: [&str; 6] = [
+    "uses",
+    "bridge",
+    "actor",
+    "first_of",
+    "primes",
+    "two_threads",
+];
+
+/// Runs the example of this name, which counts primes in these ranges if it is `primes`.
+fn show<R>(rt: R, name: &str, ranges: Ranges) -> Result<()>
+where
+    R: Threads + Wait + RandomSource + AllocGlobal + Clock + Print + Eprint,
+    R: Copy + Send + Sync + 'static,
+{
+    match name {
+        "uses" => uses::show(rt),
+        "bridge" => bridge::show(rt),
+        "actor" => actor::show(rt),
+        "first_of" => first_of::show(rt),
+        "primes" => primes::show(&rt, ranges),
+        "two_threads" => two_threads::show(&rt),
+        _ => bail!("no example has the name {name}"),
+    }
+}
+
+fn main(rt: HostRuntime) -> Result<()> {
+    let mut args = env::args(&rt)?;
+    let _program = args.next();
+    if let Some(name) = args.next() {
+        let ranges = Ranges::read(args.next(), args.next())?;
+        return show(rt, &name, ranges);
+    }
+    for name in NAMES {
+        println!(rt; "{name}:")?;
+        show(rt, name, Ranges::FEW)?;
+    }
+    Ok(())
+}

@@ -1,0 +1,76 @@
+//! Short uses of a channel, one function each, in the order in which a reader meets them: between
+//! threads, between tasks, from one to the other, with a deadline, in a loop, and to the end; and the
+//! callers of the pages CALLING.md.
+mod callers;
+mod ends;
+mod facts;
+mod faults;
+mod loops;
+mod many;
+mod polls;
+mod tasks;
+mod threads;
+mod timed;
+
+use anyhow::Result;
+use callers::{Half, Square};
+use std::alloc::AllocGlobal;
+use std::random::RandomSource;
+use std::sync::Wait;
+use std::thread::Threads;
+use std::time::Clock;
+
+/// The callers of the pages for callers, each with what it answers.
+fn call_each<R: Threads + Wait + AllocGlobal + Print + Sync>(rt: &R) -> Result<()> {
+    let (sender, _receiver) = kanal::bounded::<u64>(rt.alloc(), 1)?;
+    println!(rt; "{}", callers::offer(rt, &sender, 7).1.is_none())?;
+    let (front, left) = callers::first_of_two(rt.alloc(), 8, 7)?;
+    println!(rt; "{front:?}, {left} left")?;
+    println!(rt; "{}", callers::handed(rt.alloc(), 9).unwrap_or(0))?;
+    if let Some(journal) = callers::one_message(rt, rt.alloc()) {
+        println!(rt; "{}", journal.entries.len())?;
+    }
+    let jobs = [Square(2), Square(3)];
+    for value in callers::by_two(rt, rt.alloc(), jobs.as_slice())? {
+        println!(rt; "{value}")?;
+    }
+    let halves = [Half(8), Half(9)];
+    for value in callers::by_two(rt, rt.alloc(), halves.as_slice())? {
+        println!(rt; "{value:?}")?;
+    }
+    Ok(())
+}
+
+/// Runs each use.
+pub fn show<R>(rt: R) -> Result<()>
+where
+    R: Threads + Wait + RandomSource + AllocGlobal + Clock + Print,
+    R: Copy + Send + Sync + 'static,
+{
+    threads::words_from_a_thread(rt)?;
+    threads::a_full_buffer(&rt)?;
+    tasks::within_one_task(&rt)?;
+    tasks::a_sender_lent_to_a_task(rt)?;
+    tasks::a_receiver_for_a_task_and_one_for_a_thread(rt)?;
+    timed::nothing_came(&rt)?;
+    timed::no_place_came(&rt)?;
+    timed::by_a_clock_that_moves(&rt)?;
+    loops::so_many(&rt)?;
+    loops::until_the_last_sender_is_gone(&rt)?;
+    loops::each_handed_to_a_closure(&rt)?;
+    ends::sealed(&rt)?;
+    ends::closed(&rt)?;
+    ends::last_sender_dropped(&rt)?;
+    ends::last_receiver_dropped(&rt)?;
+    many::a_clone_for_each_thread(rt)?;
+    many::a_seal_and_then_a_join(rt)?;
+    many::a_sender_shared_in_a_scope(&rt)?;
+    many::one_of_several(rt)?;
+    polls::before_the_message_and_after_it(&rt)?;
+    polls::two_channels_in_one_task(&rt)?;
+    polls::many_channels_in_one_task(&rt)?;
+    println!(rt; "{}", faults::each_by_a_question_mark(&rt)?)?;
+    faults::a_sealed_one(&rt)?;
+    facts::through_a_channel(&rt)?;
+    call_each(&rt)
+}

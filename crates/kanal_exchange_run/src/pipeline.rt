@@ -1,0 +1,51 @@
+//! Counts lines and words of standard input in a pipeline of four threads: the first sends the lines, the
+//! second counts each line's words, the third is slow, and the fourth receives the counts.
+//!
+//! A stage that is slower than the one before it holds that one back: a bounded channel is full then, and a
+//! send waits. How many counts waited for the slow stage at most goes to standard error, since no two runs
+//! agree on it. That each line was counted once, in its order, is the contract of `mapped_by_two` of
+//! `kanal_exchange`.
+mod slow;
+mod words;
+
+use crate::calls::map_by_two;
+use anyhow::Result;
+use slow::{Slow, Waiting};
+use std::alloc::AllocGlobal;
+use std::io::{BufRead, BufReader, Input};
+use std::sync::Wait;
+use std::thread::Threads;
+use std::time::Clock;
+use words::Words;
+
+/// How many lines or counts each channel has places for.
+const PLACES: usize = 2;
+
+/// Prints how many words are in how many lines.
+pub fn count_words<R>(rt: &R) -> Result<()>
+where
+    R: Threads + Wait + AllocGlobal + Clock + Input + Print + Eprint + Sync,
+{
+    let mut lines = Vec::new(rt.alloc());
+    let input = BufReader::new(rt.alloc(), rt.reader())?;
+    for line in input.lines(rt.alloc()) {
+        lines.push(line?)?;
+    }
+    let waiting = Waiting::new();
+    let counting = Words { waiting: &waiting };
+    let slow = Slow {
+        rt,
+        waiting: &waiting,
+    };
+    let counts = map_by_two(rt, rt.alloc(), &counting, &slow, Some(PLACES), lines)?;
+    let mut words: u64 = 0;
+    for count in counts.iter() {
+        words = words.wrapping_add(*count);
+    }
+    eprintln!(rt;
+        "at most {} counts waited, with {PLACES} places",
+        waiting.most()
+    )?;
+    println!(rt; "{words} words in {} lines", counts.len())?;
+    Ok(())
+}

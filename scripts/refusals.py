@@ -27,6 +27,7 @@ SOUGHT = re.compile(r"`search` did not prove ((?:`[^`]+`(?:, | and )?)+)")
 NAMES = re.compile(r"has no field|is not in scope|has no `|was not admitted")
 ENDED = re.compile(r"^(?:only=(\d+) proved=(\d+)|logic=(?:not-)?proved.*)$", re.MULTILINE)
 REFUSED, SURVIVED, UNTRIED, ALONE = "refused", "survived", "not tried", "alone"
+BY_NAME = "by a name alone, which a written answer cites: it says little of the contract"
 
 Function = collections.namedtuple("Function", "first last names")
 
@@ -113,7 +114,7 @@ class Attempt:
         if goals:
             return REFUSED, clauses_of(goals)
         if faults:
-            return REFUSED, "by a name alone, which a written answer cites: it says little of the contract"
+            return REFUSED, BY_NAME
         if own and all(kind == "proved" for kind, _ in own):
             return SURVIVED, "still proved"
         return ALONE, "; ".join(f"{kind}{more}" for kind, more in own) or "no verdict"
@@ -195,7 +196,10 @@ def first_fault(told):
 
 
 def try_batch(lane, batch):
-    """What becomes of these edits, tried in one check; each that it doesn't decide is tried alone."""
+    """What becomes of these edits, tried in one check; each that it doesn't decide is tried alone.
+
+    A name that is missing may be that of a function which another edit of the batch turned, so it decides nothing here.
+    """
     if len(batch) == 1:
         yield batch[0].body, *try_alone(lane, batch[0])
         return
@@ -207,7 +211,8 @@ def try_batch(lane, batch):
         return
     for it in batch:
         outcome, why = it.says(told)
-        yield (it.body, outcome, why) if outcome == REFUSED else (it.body, *try_alone(lane, it))
+        is_decided = outcome == REFUSED and why != BY_NAME
+        yield (it.body, outcome, why) if is_decided else (it.body, *try_alone(lane, it))
 
 
 def batches_of(attempts):

@@ -101,7 +101,7 @@ impl<T: Drop, H: History<T>> AsyncReceiver<T, H> {
     pub fn as_sync(&self) -> ReceiverView<'_, T, H>
         ensures same { viewed_receiver result ≡ self.now }
     {
-        ReceiverView::new(self)
+        ReceiverView { receiver: self }
     }
 
     /// Receives the front message, if there is one. `Ok(None)` says that there is none. It waits for

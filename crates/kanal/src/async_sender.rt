@@ -98,7 +98,7 @@ impl<T: Drop, H: History<T>> AsyncSender<T, H> {
     pub fn as_sync(&self) -> SenderView<'_, T, H>
         ensures same { viewed_sender result ≡ self.now }
     {
-        SenderView::new(self)
+        SenderView { sender: self }
     }
 
     /// Sends the message where there is a place for it. `Ok(false)` says that there is none, and the

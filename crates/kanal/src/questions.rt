@@ -1,6 +1,6 @@
 //! What both handles for tasks ask of their channel.
 //!
-//! Stands on the channel and on who makes a call. The handles for threads and the views ask these.
+//! Stands on the channel and on who makes a call.
 ghost use Rattle.kanal_history.specs.Handles.{Asks};
 ghost use Rattle.kanal_history.specs.Results.{count_by, flag_by, number_by};
 

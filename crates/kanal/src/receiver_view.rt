@@ -1,42 +1,31 @@
 //! What a thread does with a receiver for tasks, without a handle of its own.
 //!
-//! Stands on the receiver for tasks; nothing is done here but handing on. A view is not counted: it
-//! has no clone, no conversion and no drop of its own.
-ghost use Rattle.std.specs.Prelude.{◌≡◌, IfErr, IsErrOf, OnErr};
+//! A view is its receiver, by `Deref`, and adds the calls that wait where that one's are a future and a stream:
+//! their bodies stand here alone. A view is not counted, and has no drop of its own.
+ghost use Rattle.std.specs.Prelude.{◌≡◌, IsErrOf};
 ghost use Rattle.std.specs.Duration.{as_nanos};
-ghost use Rattle.std.specs.Vec.{vec_capacity, vec_len};
 ghost use Rattle.kanal.specs.Handles.{viewed_receiver};
 ghost use Rattle.kanal.specs.Messages.{ReceivesAll};
-ghost use Rattle.kanal_events.specs.declared.event.Ask.{Ask};
-ghost use Rattle.kanal_events.specs.declared.event.Side.{Side};
-ghost use Rattle.kanal_history.specs.Handles.{Asks, AsksForTheEnd, Closes, Drains, Receives, ReceivesInTime, Seals, TriesToReceive, TriesToReceiveNow};
-ghost use Rattle.kanal_history.specs.Makes.{HasTooLittleRoom};
-ghost use Rattle.kanal_history.specs.Results.{count_by, flag_by, number_by};
+ghost use Rattle.kanal_history.specs.Handles.{Receives, ReceivesInTime};
 
 use crate::async_receiver::AsyncReceiver;
 use crate::messages::{Messages, for_each};
 use kanal_channel::Clock;
-use kanal_core::error::{CloseError, ReceiveError, ReceiveErrorTimeout};
-use kanal_events::event::{Ask, Side};
+use kanal_core::error::{ReceiveError, ReceiveErrorTimeout};
 use kanal_futures::Caller;
 use kanal_history::{History, NoHistory};
+use std::ops::Deref;
 use std::sync::Wait;
 use std::time;
 use std::time::Duration;
 
 /// A receiver for tasks, as a thread uses it.
+///
+/// Its calls wait where those of `AsyncReceiver` are futures and a stream. The other calls are those of its
+/// `AsyncReceiver`, by `Deref`; so a clone through a view is one more receiver for tasks.
 #[derive(Drop)]
 pub struct ReceiverView<'a, T, H: History<T> = NoHistory> {
-    receiver: &'a AsyncReceiver<T, H>,
-}
-
-impl<'a, T: Drop, H: History<T>> ReceiverView<'a, T, H> {
-    /// A view of the receiver.
-    pub(crate) fn new(receiver: &'a AsyncReceiver<T, H>) -> Self
-        ensures same { viewed_receiver result ≡ receiver.now }
-    {
-        ReceiverView { receiver }
-    }
+    pub(crate) receiver: &'a AsyncReceiver<T, H>,
 }
 
 impl<T: Drop, H: History<T>> ReceiverView<'_, T, H> {
@@ -96,48 +85,6 @@ impl<T: Drop, H: History<T>> ReceiverView<'_, T, H> {
         answer
     }
 
-    /// Receives the front message, if there is one. `Ok(None)` says that there is none. It waits for
-    /// the lock.
-    ///
-    /// # Errors
-    /// `Closed` where the channel was closed or no receiver is left, and `SendClosed` where there is
-    /// no message and no sender is left.
-    ///
-    /// # Examples
-    /// ```text
-    /// view.try_recv(&rt)   answers  Ok(None)   in a new channel
-    /// ```
-    pub fn try_recv<R: Caller<H::Pass>>(&self, rt: R) -> Result<Option<T>, ReceiveError>
-        ensures received { TriesToReceive H.words (R.before rt) (R.after rt) result }
-    {
-        self.receiver.try_recv(rt)
-    }
-
-    /// Moves all messages to the vector's end, those of waiting senders too, and answers how many
-    /// they were. What the vector had stays its beginning. It waits for the lock.
-    ///
-    /// # Errors
-    /// `Closed` where no receiver is left, and `NoMemory` where the vector had too little room and
-    /// there was no memory for more. The vector holds what it held then.
-    ///
-    /// # Examples
-    /// ```text
-    /// view.drain_into(&rt, &mut messages)   answers  Ok(2)   where two messages were there
-    /// ```
-    pub fn drain_into<R: Caller<H::Pass>>(
-        &self,
-        rt: R,
-        into: &mut Vec<T>,
-    ) -> Result<usize, ReceiveError>
-        ensures drained { Drains H.words (R.before rt) (R.after rt) into.old.items into.new.items result }
-        ensures refused { IfErr result (λ _. into.new.items ≡ into.old.items) }
-        ensures memory { IsErrOf result ReceiveError.NoMemory
-            → HasTooLittleRoom H.words (R.after rt) (vec_len into.old) (vec_capacity into.old) }
-        ensures no_growth { OnErr result (vec_capacity into.new ≡ vec_capacity into.old) }
-    {
-        self.receiver.drain_into(rt, into)
-    }
-
     /// Hands each message that comes to the call, until no more come. Each receive waits as a `recv`
     /// does, and the call runs with the lock released.
     ///
@@ -163,185 +110,9 @@ impl<T: Drop, H: History<T>> ReceiverView<'_, T, H> {
     {
         for_each(rt, self.receiver, call)
     }
-
-    /// Whether no sender is left. It waits for the lock.
-    ///
-    /// # Examples
-    /// ```text
-    /// view.is_disconnected(&rt)   answers  true   after the last sender was dropped
-    /// ```
-    pub fn is_disconnected<R: Caller<H::Pass>>(&self, rt: R) -> bool
-        ensures asked { Asks H.words (R.before rt) (R.after rt) Side.Rx Ask.IsDisconnected flag_by result }
-    {
-        self.receiver.is_disconnected(rt)
-    }
-
-    /// Whether no sender is left and nothing is in the line, waiting senders' messages included, so that
-    /// no message will come. It waits for the lock.
-    ///
-    /// # Examples
-    /// ```text
-    /// view.is_terminated(&rt)   answers  false   while a message is in the buffer
-    /// ```
-    pub fn is_terminated<R: Caller<H::Pass>>(&self, rt: R) -> bool
-        ensures asked { AsksForTheEnd H.words (R.before rt) (R.after rt) result }
-    {
-        self.receiver.is_terminated(rt)
-    }
-
-    /// How many messages are in the buffer. It waits for the lock.
-    ///
-    /// # Examples
-    /// ```text
-    /// view.len(&rt)   answers  1   after one message entered a bounded channel for two
-    /// ```
-    pub fn len<R: Caller<H::Pass>>(&self, rt: R) -> usize
-        ensures asked { Asks H.words (R.before rt) (R.after rt) Side.Rx Ask.Len number_by result }
-    {
-        self.receiver.len(rt)
-    }
-
-    /// Whether no message is in the buffer, whoever waits. It waits for the lock.
-    ///
-    /// # Examples
-    /// ```text
-    /// view.is_empty(&rt)   answers  false   after one message entered
-    /// ```
-    pub fn is_empty<R: Caller<H::Pass>>(&self, rt: R) -> bool
-        ensures asked { Asks H.words (R.before rt) (R.after rt) Side.Rx Ask.IsEmpty flag_by result }
-    {
-        self.receiver.is_empty(rt)
-    }
-
-    /// Whether the buffer is at the capacity: always at capacity 0, and never without a limit. It
-    /// waits for the lock.
-    ///
-    /// # Examples
-    /// ```text
-    /// view.is_full(&rt)   answers  true   after one message entered a bounded channel for one
-    /// ```
-    pub fn is_full<R: Caller<H::Pass>>(&self, rt: R) -> bool
-        ensures asked { Asks H.words (R.before rt) (R.after rt) Side.Rx Ask.IsFull flag_by result }
-    {
-        self.receiver.is_full(rt)
-    }
-
-    /// Whether the channel has a limit. It waits for the lock.
-    ///
-    /// # Examples
-    /// ```text
-    /// view.is_bounded(&rt)   answers  true   for a channel that `bounded` made
-    /// ```
-    pub fn is_bounded<R: Caller<H::Pass>>(&self, rt: R) -> bool
-        ensures asked { Asks H.words (R.before rt) (R.after rt) Side.Rx Ask.IsBounded flag_by result }
-    {
-        self.receiver.is_bounded(rt)
-    }
-
-    /// How many messages the buffer may hold, which is `usize::MAX` without a limit. It waits for the
-    /// lock.
-    ///
-    /// # Examples
-    /// ```text
-    /// view.capacity(&rt)   answers  2   for a bounded channel for two
-    /// ```
-    pub fn capacity<R: Caller<H::Pass>>(&self, rt: R) -> usize
-        ensures asked { Asks H.words (R.before rt) (R.after rt) Side.Rx Ask.Capacity number_by result }
-    {
-        self.receiver.capacity(rt)
-    }
-
-    /// How many receivers there are. It waits for the lock.
-    ///
-    /// # Examples
-    /// ```text
-    /// view.receiver_count(&rt)   answers  1   for a new channel
-    /// ```
-    pub fn receiver_count<R: Caller<H::Pass>>(&self, rt: R) -> u32
-        ensures asked { Asks H.words (R.before rt) (R.after rt) Side.Rx Ask.ReceiverCount count_by result }
-    {
-        self.receiver.receiver_count(rt)
-    }
-
-    /// How many senders there are. It waits for the lock.
-    ///
-    /// # Examples
-    /// ```text
-    /// view.sender_count(&rt)   answers  1   for a new channel
-    /// ```
-    pub fn sender_count<R: Caller<H::Pass>>(&self, rt: R) -> u32
-        ensures asked { Asks H.words (R.before rt) (R.after rt) Side.Rx Ask.SenderCount count_by result }
-    {
-        self.receiver.sender_count(rt)
-    }
-
-    /// Whether both sides are gone. It waits for the lock.
-    ///
-    /// # Examples
-    /// ```text
-    /// view.is_closed(&rt)   answers  true   after a close
-    /// ```
-    pub fn is_closed<R: Caller<H::Pass>>(&self, rt: R) -> bool
-        ensures asked { Asks H.words (R.before rt) (R.after rt) Side.Rx Ask.IsClosed flag_by result }
-    {
-        self.receiver.is_closed(rt)
-    }
-
-    /// Lets the senders be done: nothing more enters, and the receivers take what is left. A receive
-    /// that waits ends with `SendClosed`, and so does each later one once nothing is left; a send that
-    /// waits is still served. Each later send is refused as `Sealed`. It waits for the lock.
-    ///
-    /// `close` throws away what is in the channel, and the last sender's drop needs every clone gone.
-    ///
-    /// # Errors
-    /// `CloseError` where the channel was sealed or closed already, or no sender is left.
-    ///
-    /// # Examples
-    /// ```text
-    /// view.seal(&rt)   answers  Ok(())
-    /// view.seal(&rt)   answers  Err(CloseError())   after that
-    /// ```
-    pub fn seal<R: Caller<H::Pass>>(&self, rt: R) -> Result<(), CloseError>
-        ensures sealed { Seals H.words (R.before rt) (R.after rt) result }
-    {
-        self.receiver.seal(rt)
-    }
-
-    /// Closes the channel for both sides: all waits end with `Closed`, and the buffer's messages are
-    /// dropped after the lock was released. It waits for the lock.
-    ///
-    /// # Errors
-    /// `CloseError` where both sides were gone already.
-    ///
-    /// # Examples
-    /// ```text
-    /// view.close(&rt)   answers  Ok(())
-    /// view.close(&rt)   answers  Err(CloseError())   after that
-    /// ```
-    pub fn close<R: Caller<H::Pass>>(&self, rt: R) -> Result<(), CloseError>
-        ensures closed { Closes H.words (R.before rt) (R.after rt) result }
-    {
-        self.receiver.close(rt)
-    }
 }
 
 impl<T: Drop, H: History<T, Pass = ()>> ReceiverView<'_, T, H> {
-    /// Receives the front message, if there is one and the lock is free: it waits for nobody.
-    /// `Ok(None)` says that there is none or the lock was held.
-    ///
-    /// # Errors
-    /// As `try_recv`.
-    ///
-    /// # Examples
-    /// ```text
-    /// view.try_recv_realtime()   answers  Ok(Some(1))   where 1 was sent
-    /// ```
-    pub fn try_recv_realtime(&self) -> Result<Option<T>, ReceiveError>
-        ensures received { TriesToReceiveNow H.words tt tt result }
-    {
-        self.receiver.try_recv_realtime()
-    }
-
     /// The messages, one `recv` after the other, until one is refused. It keeps the runtime value, and
     /// does nothing else; each item waits as a `recv` does.
     ///
@@ -356,5 +127,16 @@ impl<T: Drop, H: History<T, Pass = ()>> ReceiverView<'_, T, H> {
     /// ```
     pub fn iter<'m, R: Wait>(&'m mut self, rt: &'m R) -> Messages<'m, T, R, H> {
         Messages::new(rt, self.receiver, ())
+    }
+}
+
+/// The calls that it shares with the receiver for tasks.
+impl<T: Drop, H: History<T>> Deref for ReceiverView<'_, T, H> {
+    type Target = AsyncReceiver<T, H>;
+
+    ghost deref_gives = { λ view handle. handle ≡ viewed_receiver view };
+
+    fn deref(&self) -> &AsyncReceiver<T, H> {
+        self.receiver
     }
 }

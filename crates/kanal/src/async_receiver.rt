@@ -38,7 +38,7 @@ pub struct AsyncReceiver<T, H: History<T> = NoHistory> {
 impl<T: Drop, H: History<T>> Drop for AsyncReceiver<T, H> {
     fn drop(self) {
         let AsyncReceiver { shared, counted } = self;
-        shared.drop_receiver(counted);
+        shared.drop_handle(counted);
     }
 }
 
@@ -76,7 +76,7 @@ impl<T: Drop, H: History<T>> AsyncReceiver<T, H> {
         let Ok(shared) = Arc::try_clone(&self.shared) else {
             return Err(TooMany);
         };
-        let counted = self.shared.count_receiver(rt, pass)?;
+        let counted = self.shared.count(rt, pass)?;
         Ok(AsyncReceiver { shared, counted })
     }
 

@@ -35,7 +35,7 @@ pub struct AsyncSender<T, H: History<T> = NoHistory> {
 impl<T: Drop, H: History<T>> Drop for AsyncSender<T, H> {
     fn drop(self) {
         let AsyncSender { shared, counted } = self;
-        shared.drop_sender(counted);
+        shared.drop_handle(counted);
     }
 }
 
@@ -73,7 +73,7 @@ impl<T: Drop, H: History<T>> AsyncSender<T, H> {
         let Ok(shared) = Arc::try_clone(&self.shared) else {
             return Err(TooMany);
         };
-        let counted = self.shared.count_sender(rt, pass)?;
+        let counted = self.shared.count(rt, pass)?;
         Ok(AsyncSender { shared, counted })
     }
 

@@ -14,6 +14,7 @@ use kanal_core::error::NewError;
 use kanal_core::internal::ChannelInternal;
 use kanal_history::{History, NoHistory};
 use std::alloc::Global;
+use std::sync::Arc;
 
 /// The two first handles over this core.
 fn handles<T: Drop>(
@@ -45,12 +46,13 @@ pub fn over<T: Drop, H: History<T>>(
     requires core { H.stands history (line_of core) }
     ensures large { IsErrOf result NewError.TooLarge → ⊥ }
 {
-    let (one, other) = Shared::halves(core, history, cleanup, board, alloc)?;
-    let (shared, counted) = one;
-    let sender = AsyncSender::new(shared, counted);
-    let (shared, counted) = other;
-    let receiver = AsyncReceiver::new(shared, counted);
-    Ok((sender, receiver))
+    let (shared, first) = Shared::with_handles(core, history, cleanup, board, alloc)?;
+    let Ok(other) = Arc::try_clone(&shared) else {
+        return Err(NewError::NoMemory);
+    };
+    let (sender, receiver) = first.into_tokens();
+    let sender = AsyncSender::new(shared, sender);
+    Ok((sender, AsyncReceiver::new(other, receiver)))
 }
 
 /// Makes a channel whose buffer holds so many messages; at 0 each send waits for its receive.

@@ -1,10 +1,12 @@
 -- What a caller sees of an end.
 use Rattle.std.specs.Prelude.{◌≡◌, true, false, Option}
+use Rattle.atomic_table.specs.Seated.{TableId}
 use Rattle.futures.specs.declared.task.waker.Waker.{Waker}
 use Rattle.kanal_cell.specs.declared.signal.rule.Bits.{Bits}
 use Rattle.kanal_cell.specs.declared.signal.rule.View.{View}
 use Rattle.kanal_cell.specs.declared.signal.WaitEnd.{WaitEnd}
 use Rattle.kanal_cell.specs.declared.signal.SettleEnd.{SettleEnd}
+use Rattle.kanal_cell.specs.declared.signal.settlement.Settlement.{Settlement}
 
 -- the end goes on as this step does where it finds what it found
 abbrev pub GoesOn : (View → Bits → View) → View → View → Type 0
@@ -14,7 +16,19 @@ GoesOn after old new = new ≡ after old new.found
 abbrev pub FindsOutcome : View → View → Type 0
 FindsOutcome old new = (new.found.ended ≡ true) × (old.had ≡ false)
 
+-- the name of a cell
+abbrev pub CellName : Type 0
+CellName = TableId
+
 module _ {P : Type 0} where
+  -- the cell that the waiter waits for
+  abbrev pub wait_cell : WaitEnd P → CellName
+  wait_cell e = e.seat.table_id
+
+  -- the cell that the settler settles
+  abbrev pub settle_cell : SettleEnd P → CellName
+  settle_cell e = e.seat.table_id
+
   -- what the waiter knows of its own steps
   abbrev pub wait_view : WaitEnd P → View
   wait_view e = e.seat.me.0
@@ -29,8 +43,12 @@ module _ {P : Type 0} where
 
   -- what the waiter waits for is what the settler settles
   abbrev pub AreOfOneCell : WaitEnd P → SettleEnd P → Type 0
-  AreOfOneCell wait settle = wait.seat.table_id ≡ settle.seat.table_id
+  AreOfOneCell wait settle = wait_cell wait ≡ settle_cell settle
 
   -- the settler is that of the same cell as before
   abbrev pub StaysAtCell : SettleEnd P → SettleEnd P → Type 0
-  StaysAtCell old new = new.seat.table_id ≡ old.seat.table_id
+  StaysAtCell old new = settle_cell new ≡ settle_cell old
+
+  -- the cell of this settler was settled with this outcome
+  abbrev pub HasSettled : Settlement P → SettleEnd P → P → Type 0
+  HasSettled shown end outcome = (settle_cell shown.end.value ≡ settle_cell end) × (shown.outcome.value ≡ outcome)

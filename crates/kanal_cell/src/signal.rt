@@ -22,12 +22,14 @@ use std::sync::Arc;
 mod calls;
 mod law;
 mod rule;
+mod settlement;
 mod steps;
 mod waking;
 
 pub use calls::new;
 pub use law::{cell_law, signal_law};
 pub use rule::{Bits, Held, Role, Signal, SignalRule, Sleeper, View};
+pub use settlement::Settlement;
 pub use steps::{CellCore, CellReply, CellReport, CellStep, Owner, cell_run};
 
 /// The end that waits for the outcome. Once it has left it may not be used any more.

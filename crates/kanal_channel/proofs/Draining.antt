@@ -7,8 +7,9 @@ use Rattle.kanal_events.specs.declared.event.Event.TheVariants.{Drain}
 use Rattle.kanal_events.specs.Steps.{is_no_memory, take_line}
 use Rattle.kanal_history.specs.declared.call.Call.{Call}
 use Rattle.kanal_events.specs.declared.made.Made.{Made}
-use Rattle.kanal_events.specs.declared.made.Made.TheVariants.{One, All, Shut, Drained as WasDrained}
-use Rattle.kanal_events.specs.Made.{drained_of, is_drained, reply_of}
+use Rattle.kanal_events.specs.declared.made.Leaving.{Leaving}
+use Rattle.kanal_events.specs.declared.made.Leaving.TheVariants.{One, All, Shut, Drained as WasDrained}
+use Rattle.kanal_events.specs.Made.{drained_of, drained_of_left, is_drained, is_drained_left, reply_of, reply_of_left}
 use Rattle.kanal_history.specs.Entries.{call_from}
 use Rattle.kanal_history.specs.Handles.{Drains}
 use Rattle.kanal_history.specs.Makes.{IsNoted}
@@ -29,25 +30,34 @@ module _ {T : Type 0} where
       ]
 
 module _ {T W : Type 0} where
+  none-left : (leaving : Leaving T W) → is_no_memory (reply_of_left leaving) ≡ true → drained_of_left leaving ≡ []
+  none-left (One reply settled) lacking = refl
+  none-left (All reply ended) lacking = refl
+  none-left (Shut closing) lacking = refl
+  none-left (WasDrained count ended moved) lacking = absurd (true≢false (sym lacking))
+
   none-drained : (made : Made T W) → is_no_memory (reply_of made) ≡ true → drained_of made ≡ []
-  none-drained (One reply settled) lacking = refl
-  none-drained (All reply ended) lacking = refl
-  none-drained (Shut closing) lacking = refl
-  none-drained (WasDrained count ended moved) lacking = absurd (true≢false (sym lacking))
+  none-drained made lacking = none-left made.leaving lacking
+
+  holds-left : (before now : List T) (leaving : Leaving T W) → now ≡ before ++ drained_of_left leaving → IfErr (drained_by (reply_of_left leaving)) (λ _. now ≡ before)
+  holds-left before now (One reply settled) moved = if-err (now ≡ before) _ (moved ∙ append-nil before)
+  holds-left before now (All reply ended) moved = if-err (now ≡ before) _ (moved ∙ append-nil before)
+  holds-left before now (Shut closing) moved = moved ∙ append-nil before
+  holds-left before now (WasDrained count ended vectors) moved = tt
 
   -- a refused drain leaves the vector as it was
   pub refused_holds : (before now : List T) (made : Made T W) → now ≡ before ++ drained_of made → IfErr (drained_by (reply_of made)) (λ _. now ≡ before)
-  refused_holds before now (One reply settled) moved = if-err (now ≡ before) _ (moved ∙ append-nil before)
-  refused_holds before now (All reply ended) moved = if-err (now ≡ before) _ (moved ∙ append-nil before)
-  refused_holds before now (Shut closing) moved = moved ∙ append-nil before
-  refused_holds before now (WasDrained count ended vectors) moved = tt
+  refused_holds before now made moved = holds-left before now made.leaving moved
+
+  keeps-left : (before now : ℕ) (leaving : Leaving T W) → (is_drained_left leaving ≡ false → now ≡ before) → OnErr (drained_by (reply_of_left leaving)) (now ≡ before)
+  keeps-left before now (One reply settled) keeps = if-err (now ≡ before) _ (keeps refl)
+  keeps-left before now (All reply ended) keeps = if-err (now ≡ before) _ (keeps refl)
+  keeps-left before now (Shut closing) keeps = keeps refl
+  keeps-left before now (WasDrained count ended vectors) keeps = tt
 
   -- a refused drain leaves the vector's room as it was
   pub refused_keeps_room : (before now : ℕ) (made : Made T W) → (is_drained made ≡ false → now ≡ before) → OnErr (drained_by (reply_of made)) (now ≡ before)
-  refused_keeps_room before now (One reply settled) keeps = if-err (now ≡ before) _ (keeps refl)
-  refused_keeps_room before now (All reply ended) keeps = if-err (now ≡ before) _ (keeps refl)
-  refused_keeps_room before now (Shut closing) keeps = keeps refl
-  refused_keeps_room before now (WasDrained count ended vectors) keeps = tt
+  refused_keeps_room before now made keeps = keeps-left before now made.leaving keeps
 
   -- a drain that was noted
   pub noted_drains : {P : Type 0} (w : Words T P) (old new : P) (before now : List T) (made : Made T W)

@@ -10,7 +10,7 @@ use Rattle.kanal_channel.specs.Starts.{HasBegun}
 module _ {T P : Type 0} (w : Words T P) (sound : AreSound w) where
   begun-on : {H B S C : Type 0} (old mid new : P) (event : Event T) (begun : Begun T H P B S C) → w.looks old mid → HasBegun w mid new event begun → HasBegun w old new event begun
   begun-on old mid new event (BegunReplied reply) looks c = (answered-from w sound old mid new event reply looks c.0, c.1)
-  begun-on old mid new event (BegunWaits ticket waiting) looks c = replied-from w sound old mid new event (λ reply. reply) _ looks c
+  begun-on old mid new event (BegunWaits counted waiting) looks c = replied-from w sound old mid new event (λ reply. reply) _ looks c
   begun-on old mid new event (BegunLacking back) looks c = (c.0, lacks-from w sound old mid new event looks c.1)
 
   -- what the start of a wait came to that began where the pass had looked

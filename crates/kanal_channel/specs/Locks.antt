@@ -1,7 +1,6 @@
 -- The lock of a channel, while it is held.
 use Rattle.std.specs.Prelude.{◌≡◌, Bool, None}
 use Rattle.kanal_core.specs.Line.{Line}
-use Rattle.kanal_history.specs.declared.history.History.{Ghosts}
 use Rattle.kanal_channel.specs.declared.shared.locked.Left.{Left}
 use Rattle.kanal_channel.specs.declared.shared.locked.Locked.{Locked}
 
@@ -18,7 +17,6 @@ module _ {T H P B S C : Type 0} where
   abbrev pub line_under : Locked T H P B S C → Line T
   line_under locked = locked.state.value.1
 
-module _ {T H P B S C : Type 0} {G : Ghosts H T P B S C} where
   -- the notices took nothing out
-  abbrev pub takes_nothing : Left T H P B S C G → Type 0
+  abbrev pub takes_nothing : Left T H P B S C → Type 0
   takes_nothing left = left.taken ≡ None

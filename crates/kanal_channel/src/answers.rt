@@ -8,7 +8,7 @@ ghost use Rattle.kanal_history.specs.Results.{asked_by, back_after, back_by, clo
 ghost use Rattle.kanal_history.specs.Results.{count_by, number_by};
 ghost use Rattle.kanal_channel.specs.Deadlines.{answer_in_time, back_in_time};
 
-use crate::timed::Timed;
+use crate::blocking::Came;
 use kanal_core::error::{
     CloseError, ReceiveError, ReceiveErrorTimeout, SendError, SendErrorTimeout,
 };
@@ -143,21 +143,21 @@ fn timed_sent_after<T: Drop>(
 
 /// The answer of a send with a deadline, for what it came to; a message that comes back goes into the option.
 pub(crate) fn sent_in_time<T: Drop>(
-    timed: Timed<T>,
+    came: Came<T>,
     option: &mut Option<T>,
 ) -> Result<(), SendErrorTimeout>
     requires empty { option.old ≡ None }
-    ensures answer { result ≡ answer_in_time send_in_time timed }
-    ensures back { option.new ≡ back_in_time timed }
+    ensures answer { result ≡ answer_in_time send_in_time came }
+    ensures back { option.new ≡ back_in_time came }
 {
-    match timed {
-        Timed::Replied(reply) => timed_sent_by(reply, option),
-        Timed::Settled(outcome) => timed_sent_after(outcome, option),
-        Timed::Withdrawn(back) => {
+    match came {
+        Came::Replied(reply) => timed_sent_by(reply, option),
+        Came::Settled(outcome) => timed_sent_after(outcome, option),
+        Came::Withdrawn(back) => {
             *option = back;
             Err(SendErrorTimeout::Timeout)
         },
-        Timed::Lacking(event) => timed_sent_by(event.refused(Refusal::NoMemory), option),
+        Came::Lacking(event) => timed_sent_by(event.refused(Refusal::NoMemory), option),
     }
 }
 
@@ -270,14 +270,14 @@ fn timed_received_after<T: Drop>(outcome: Outcome<T>) -> Result<T, ReceiveErrorT
 }
 
 /// The answer of a receive with a deadline, for what it came to.
-pub(crate) fn received_in_time<T: Drop>(timed: Timed<T>) -> Result<T, ReceiveErrorTimeout>
-    ensures { result ≡ answer_in_time receive_in_time timed }
+pub(crate) fn received_in_time<T: Drop>(came: Came<T>) -> Result<T, ReceiveErrorTimeout>
+    ensures { result ≡ answer_in_time receive_in_time came }
 {
-    match timed {
-        Timed::Replied(reply) => timed_received_by(reply),
-        Timed::Settled(outcome) => timed_received_after(outcome),
-        Timed::Withdrawn(_back) => Err(ReceiveErrorTimeout::Timeout),
-        Timed::Lacking(_event) => Err(ReceiveErrorTimeout::NoMemory),
+    match came {
+        Came::Replied(reply) => timed_received_by(reply),
+        Came::Settled(outcome) => timed_received_after(outcome),
+        Came::Withdrawn(_back) => Err(ReceiveErrorTimeout::Timeout),
+        Came::Lacking(_event) => Err(ReceiveErrorTimeout::NoMemory),
     }
 }
 

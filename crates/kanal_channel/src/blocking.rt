@@ -1,22 +1,22 @@
 //! What all calls on the line have in common: one step under the lock, and the wait of a call that must.
 //!
-//! Stands on the lock as a token, on what settles a wait and on how a blocked call waits. A call takes the
-//! lock, makes one step on the state, gives the lock back, and only then tells those whose waits it settled,
-//! and drops what it cleared.
+//! Stands on the lock as a token and its ways out, and on how a blocked call waits. A call takes the lock, makes
+//! one step on the state, and gives the lock back. A wait that it starts is owed: what became of it counts it
+//! out.
 ghost use Rattle.std.specs.Prelude.{◌≡◌, IfErr, IfOk, false, true};
-ghost use Rattle.kanal_events.specs.Made.{MustWait, is_plain, made_of, may_wait, owed_by, reply_of, settled_of};
+ghost use Rattle.kanal_core.specs.Tickets.{number_of};
+ghost use Rattle.kanal_events.specs.Made.{MustWait, is_plain, may_wait};
 ghost use Rattle.kanal_history.specs.Makes.{HasReplied, IsAnswered, SeesWait};
-ghost use Rattle.kanal_history.specs.Words.{HaveSettled, HaveShown};
-ghost use Rattle.kanal_state.specs.Counts.{counts_handle};
+ghost use Rattle.kanal_state.specs.Counts.{counts_handle, ticket_of};
 ghost use Rattle.kanal_channel.specs.Locks.{IsQuiet, line_under};
 ghost use Rattle.kanal_channel.specs.Starts.{HasBegun, HasCome};
 
-use crate::shared::{Left, Locked, Shared};
-use kanal_core::internal::{Outcome, Ticket};
+use crate::shared::{Locked, Shared};
+use kanal_core::internal::Outcome;
 use kanal_events::event::{Event, Reply};
-use kanal_events::made::{Answered, Kept, Made, Owed, Tried};
+use kanal_events::made::Tried;
 use kanal_history::History;
-use kanal_state::{Delivered, Seat, ends};
+use kanal_state::{CountedWait, Delivered, WaitStart, ends};
 use kanal_waits::{Waiting, pause_once};
 use std::sync::Wait;
 use std::thread;
@@ -28,150 +28,23 @@ pub(crate) enum Came<T> {
     Replied(Reply<T>),
     /// It waited, and this became of the wait.
     Settled(Outcome<T>),
+    /// It waited, the deadline came, and the wait was taken back, with its message if it had one.
+    Withdrawn(Option<T>),
     /// It had to wait, and there was no memory for that. It comes back.
     Lacking(Event<T>),
 }
 
-/// What the start of a wait came to.
-#[derive(Drop)]
+/// What a call came to that waits where it must, once its wait has started. A wait is still to be counted out.
 pub(crate) enum Begun<T, H: History<T>> {
     /// The call was answered at once.
     Replied(Reply<T>),
-    /// It waits, under this ticket.
-    Waits(Ticket, Waiting<Delivered<T, H>>),
+    /// It waits.
+    Waits(CountedWait, Waiting<Delivered<T, H>>),
     /// There was no memory for the wait. The call comes back.
     Lacking(Event<T>),
 }
 
 impl<T: Drop, H: History<T>> Shared<T, H> {
-    /// Tells those whose waits the call settled, and drops what it cleared. The lock is released.
-    ///
-    /// # Examples
-    /// ```text
-    /// locked.release();
-    /// let reply = shared.settle(&mut pass, made);
-    /// shared.look();
-    /// ```
-    pub fn settle(&self, pass: &mut H::Pass, made: Made<T, Seat<T, H>>) -> Reply<T>
-        requires seen { HaveSettled H.words pass.old (settled_of made) }
-        ensures reply { result ≡ reply_of made }
-        ensures same { pass.new ≡ pass.old }
-    {
-        let prefix = H::prefix(&self.board, pass);
-        self.hand_out(prefix, made)
-    }
-
-    /// Tells those whose waits a call settled, with what was seen of it, and drops what it cleared. The lock
-    /// is released.
-    pub(crate) fn hand_out(&self, prefix: H::Prefix, made: Made<T, Seat<T, H>>) -> Reply<T>
-        requires seen { HaveShown H.shows prefix (settled_of made) }
-        ensures reply { result ≡ reply_of made }
-    {
-        let mut prefix = prefix;
-        let mut made = made;
-        while let Some(owed) = made.next() {
-            owed.tell(H::again(&self.board, &mut prefix));
-        }
-        drop(prefix);
-        let (reply, cleared) = made.into_parts();
-        drop(cleared);
-        reply
-    }
-
-    /// Gives the lock back after a step of the caller's, tells those whose waits it settled, and looks for new
-    /// notices.
-    pub(crate) fn give_back(
-        &self,
-        locked: Locked<'_, T, H>,
-        pass: &mut H::Pass,
-        made: Made<T, Seat<T, H>>,
-    ) -> Reply<T>
-        requires quiet { IsQuiet locked }
-        requires seen { HaveSettled H.words pass.old (settled_of made) }
-        ensures reply { result ≡ reply_of made }
-        ensures same { pass.new ≡ pass.old }
-    {
-        locked.release();
-        let reply = self.settle(pass, made);
-        self.look();
-        reply
-    }
-
-    /// Gives the lock back after a step that settled at most one wait, tells who is owed that, and looks for new
-    /// notices if there are some.
-    #[inline]
-    pub(crate) fn give_back_owed(
-        &self,
-        locked: Locked<'_, T, H>,
-        pass: &mut H::Pass,
-        owed: Option<Owed<T, Seat<T, H>>>,
-    )
-        requires quiet { IsQuiet locked }
-        requires seen { HaveSettled H.words pass.old (owed_by owed) }
-        ensures same { pass.new ≡ pass.old }
-    {
-        locked.release();
-        if let Some(owed) = owed {
-            owed.tell(H::prefix(&self.board, pass));
-        }
-        if !self.is_quiet() {
-            self.look();
-        }
-    }
-
-    /// The same, of a call that was answered at once, with its reply.
-    ///
-    /// # Examples
-    /// ```text
-    /// match locked.state.start(shared.board(), &mut pass, Event::Recv) {
-    ///     Tried::Told(answered) => shared.give_back_answered(locked, &mut pass, answered),
-    ///     ..
-    /// }
-    /// ```
-    #[inline]
-    pub fn give_back_answered(
-        &self,
-        locked: Locked<'_, T, H>,
-        pass: &mut H::Pass,
-        answered: Answered<T, Seat<T, H>>,
-    ) -> Reply<T>
-        requires quiet { IsQuiet locked }
-        requires seen { HaveSettled H.words pass.old (settled_of (made_of answered)) }
-        ensures reply { result ≡ reply_of (made_of answered) }
-        ensures same { pass.new ≡ pass.old }
-    {
-        let (reply, owed) = answered.into_parts();
-        self.give_back_owed(locked, pass, owed);
-        reply
-    }
-
-    /// The same, of a lock that one try got: what the notices took out is told first.
-    ///
-    /// # Examples
-    /// ```text
-    /// let (mut locked, left) = shared.try_hold()?;
-    /// let made = locked.state.call(shared.board(), &mut pass, Event::TryRecv);
-    /// shared.give_back_left(locked, left, &mut pass, made)   answers  the reply
-    /// ```
-    pub fn give_back_left(
-        &self,
-        locked: Locked<'_, T, H>,
-        left: Left<T, H>,
-        pass: &mut H::Pass,
-        made: Made<T, Seat<T, H>>,
-    ) -> Reply<T>
-        requires quiet { IsQuiet locked }
-        requires seen { HaveSettled H.words pass.old (settled_of made) }
-        ensures reply { result ≡ reply_of made }
-        ensures same { pass.new ≡ pass.old }
-    {
-        locked.release();
-        self.tell_left(left);
-        let reply = self.settle(pass, made);
-        self.look();
-        reply
-    }
-
     /// Makes a call that never waits for the other side, and counts no handle.
     pub(crate) fn call<R: Wait>(&self, rt: &R, pass: &mut H::Pass, event: Event<T>) -> Reply<T>
         requires plain { is_plain event ≡ true }
@@ -210,13 +83,13 @@ impl<T: Drop, H: History<T>> Shared<T, H> {
     ) -> Came<T>
         requires waits { may_wait event ≡ true }
         requires quiet { IsQuiet locked }
-        ensures come { HasCome H.words pass.old pass.new event result }
+        ensures come { HasCome H.words ⊥ pass.old pass.new event result }
     {
         match self.begin_held(locked, pass, event) {
             Begun::Replied(reply) => Came::Replied(reply),
-            Begun::Waits(ticket, waiting) => {
+            Begun::Waits(counted, waiting) => {
                 let delivered = waiting.outcome(rt, &self.policy);
-                Came::Settled(self.learn_of(rt, pass, delivered, ticket.number()))
+                Came::Settled(self.learn(rt, pass, counted, delivered))
             },
             Begun::Lacking(event) => Came::Lacking(event),
         }
@@ -316,32 +189,33 @@ impl<T: Drop, H: History<T>> Shared<T, H> {
             locked.give_back_quiet();
             return Begun::Lacking(event);
         };
-        let (reply, kept) = locked.state.wait(&self.board, pass, event, seat);
+        let start = locked.state.wait(&self.board, pass, event, seat);
         locked.give_back_quiet();
-        match kept {
-            Kept::Ticket(ticket) => Begun::Waits(ticket, Waiting::new(end)),
-            Kept::Back(seat) => {
+        match start {
+            WaitStart::Waits(counted) => Begun::Waits(counted, Waiting::new(end)),
+            WaitStart::Refused(reply, seat) => {
                 drop(seat);
                 Begun::Replied(reply)
             },
         }
     }
 
-    /// Learns what became of the wait with the ticket.
+    /// Learns what became of the wait, and counts it out.
     ///
     /// A cell is settled for its own ticket. No type ties the cell to the ticket, so the two are compared;
     /// the call would never return if they differed, which no run has shown.
-    pub(crate) fn learn_of<R: Wait>(
+    pub(crate) fn learn<R: Wait>(
         &self,
         rt: &R,
         pass: &mut H::Pass,
+        counted: CountedWait,
         delivered: Delivered<T, H>,
-        ticket: u64,
     ) -> Outcome<T>
         ensures looks { H.words.looks pass.old pass.new }
-        ensures settled { H.words.settled pass.new (ticket, result) }
+        ensures settled { H.words.settled pass.new (number_of (ticket_of counted), result) }
     {
-        if delivered.ticket() == ticket {
+        if delivered.ticket() == counted.ticket().number() {
+            counted.told(&delivered);
             let (outcome, prefix) = delivered.into_parts();
             H::learn(&self.board, pass, prefix);
             return outcome;

@@ -19,7 +19,8 @@ mod timed;
 
 pub use answers::{received_after, received_by, sent_after, sent_by};
 pub use kanal_state::{
-    Core, CountedReceiver, CountedSender, CountedWait, Delivered, Seat, State, TellsCalls,
+    Core, Counted, CountedReceiver, CountedSender, CountedWait, Delivered, FirstHandles, OfSide,
+    ReceiveSide, Released, Seat, SendSide, State, WaitStart,
 };
 pub use kanal_waits::{Clock, SystemClock, TestClock, later};
-pub use shared::{Halves, Left, Locked, Shared};
+pub use shared::{Left, Locked, Shared};

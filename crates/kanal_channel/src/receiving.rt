@@ -16,7 +16,6 @@ use crate::answers::{
 };
 use crate::blocking::Came;
 use crate::shared::{Locked, Shared};
-use crate::timed::Timed;
 use kanal_core::error::{ReceiveError, ReceiveErrorTimeout};
 use kanal_events::event::{Event, Reply};
 use kanal_history::History;
@@ -70,7 +69,7 @@ impl<T: Drop, H: History<T>> Shared<T, H> {
         if self.has_buffer {
             self.recv_again(rt, locked, pass)
         } else {
-            self.fetch(rt, locked, pass)
+            self.recv_waiting(rt, locked, pass)
         }
     }
 
@@ -87,7 +86,7 @@ impl<T: Drop, H: History<T>> Shared<T, H> {
         ensures received { Receives H.words pass.old pass.new result }
     {
         if !locked.state.is_empty() {
-            return self.fetch(rt, locked, pass);
+            return self.recv_waiting(rt, locked, pass);
         }
         locked.give_back_quiet();
         pause_once();
@@ -97,33 +96,13 @@ impl<T: Drop, H: History<T>> Shared<T, H> {
                 locked.give_back_quiet();
                 Ok(message)
             },
-            None => self.fetch(rt, locked, pass),
-        }
-    }
-
-    /// The same, where the front message comes, by which a sender that waits may be let in; where there is no
-    /// message the call is refused, or waits.
-    #[cold]
-    fn fetch<R: Wait>(
-        &self,
-        rt: &R,
-        locked: Locked<'_, T, H>,
-        pass: &mut H::Pass,
-    ) -> Result<T, ReceiveError>
-        requires quiet { IsQuiet locked }
-        ensures received { Receives H.words pass.old pass.new result }
-    {
-        let mut locked = locked;
-        match locked.state.fetch(&self.board, pass) {
-            Some((message, owed)) => {
-                self.give_back_owed(locked, pass, owed);
-                Ok(message)
-            },
             None => self.recv_waiting(rt, locked, pass),
         }
     }
 
-    /// The same, where there is no message: the call is refused, or waits.
+    /// The same, where a sender that waits may be let in, or may hand its message over; otherwise the call is
+    /// refused, or waits.
+    #[cold]
     fn recv_waiting<R: Wait>(
         &self,
         rt: &R,
@@ -136,6 +115,7 @@ impl<T: Drop, H: History<T>> Shared<T, H> {
         match self.blocking(rt, locked, pass, Event::Recv) {
             Came::Replied(reply) => received_by(reply),
             Came::Settled(outcome) => received_after(outcome),
+            Came::Withdrawn(_back) => unreachable!(),
             Came::Lacking(_event) => Err(ReceiveError::NoMemory),
         }
     }
@@ -199,7 +179,7 @@ impl<T: Drop, H: History<T>> Shared<T, H> {
             return Ok(None);
         };
         let made = locked.state.call(&self.board, pass, Event::TryRecv);
-        asked_by(self.give_back_left(locked, left, pass, made))
+        asked_by(self.give_back_tried(locked, left, pass, made))
     }
 
     /// Receives a message, and waits where there is none, until the deadline, which is the clock's moment
@@ -250,7 +230,7 @@ impl<T: Drop, H: History<T>> Shared<T, H> {
         pass: &mut H::Pass,
         clock: &C,
         deadline: u64,
-    ) -> Timed<T>
+    ) -> Came<T>
         ensures passed { HasPassed H.words (C.answers clock.now) deadline pass.old pass.new
             Event.Recv result }
     {
@@ -258,7 +238,7 @@ impl<T: Drop, H: History<T>> Shared<T, H> {
         match locked.state.pop(&self.board, pass) {
             Some(message) => {
                 locked.give_back_quiet();
-                Timed::Replied(Reply::Got(message))
+                Came::Replied(Reply::Got(message))
             },
             None => self.timed(rt, locked, pass, Event::Recv, clock, deadline),
         }

@@ -14,7 +14,6 @@ ghost use Rattle.kanal_channel.specs.Locks.{IsQuiet};
 use crate::answers::{restored, sent_after, sent_by, sent_in_time};
 use crate::blocking::Came;
 use crate::shared::{Locked, Shared};
-use crate::timed::Timed;
 use kanal_core::error::{SendError, SendErrorTimeout};
 use kanal_events::event::{Event, Reply};
 use kanal_history::History;
@@ -81,7 +80,7 @@ impl<T: Drop, H: History<T>> Shared<T, H> {
         if self.has_buffer {
             self.send_again(rt, locked, pass, message)
         } else {
-            self.hand_over(rt, locked, pass, message)
+            self.send_waiting(rt, locked, pass, message)
         }
     }
 
@@ -99,7 +98,7 @@ impl<T: Drop, H: History<T>> Shared<T, H> {
         ensures sent { Sends H.words pass.old pass.new message result }
     {
         if !locked.state.is_full() {
-            return self.hand_over(rt, locked, pass, message);
+            return self.send_waiting(rt, locked, pass, message);
         }
         locked.give_back_quiet();
         pause_once();
@@ -109,34 +108,12 @@ impl<T: Drop, H: History<T>> Shared<T, H> {
                 locked.give_back_quiet();
                 Ok(())
             },
-            Err(message) => self.hand_over(rt, locked, pass, message),
-        }
-    }
-
-    /// The same, where the message enters, or is handed to a receiver that waits; where neither can be so, the
-    /// call is refused, or waits.
-    #[cold]
-    fn hand_over<R: Wait>(
-        &self,
-        rt: &R,
-        locked: Locked<'_, T, H>,
-        pass: &mut H::Pass,
-        message: T,
-    ) -> Result<(), SendError>
-        requires quiet { IsQuiet locked }
-        ensures sent { Sends H.words pass.old pass.new message result }
-    {
-        let mut locked = locked;
-        match locked.state.hand(&self.board, pass, message) {
-            Ok(owed) => {
-                self.give_back_owed(locked, pass, owed);
-                Ok(())
-            },
             Err(message) => self.send_waiting(rt, locked, pass, message),
         }
     }
 
-    /// The same, where the message neither enters nor is handed over: the call is refused, or waits.
+    /// The same, where it may be handed to a receiver that waits; otherwise the call is refused, or waits.
+    #[cold]
     fn send_waiting<R: Wait>(
         &self,
         rt: &R,
@@ -150,6 +127,7 @@ impl<T: Drop, H: History<T>> Shared<T, H> {
         match self.blocking(rt, locked, pass, Event::Send(message)) {
             Came::Replied(reply) => sent_by(reply),
             Came::Settled(outcome) => sent_after(outcome),
+            Came::Withdrawn(_back) => unreachable!(),
             Came::Lacking(_event) => Err(SendError::NoMemory),
         }
     }
@@ -290,7 +268,7 @@ impl<T: Drop, H: History<T>> Shared<T, H> {
         let made = locked
             .state
             .call(&self.board, pass, Event::TrySend(message));
-        restored(self.give_back_left(locked, left, pass, made), back)
+        restored(self.give_back_tried(locked, left, pass, made), back)
     }
 
     /// Sends the option's message if it can enter at once and the lock is free, and empties the option exactly
@@ -416,7 +394,7 @@ impl<T: Drop, H: History<T>> Shared<T, H> {
         message: T,
         clock: &C,
         deadline: u64,
-    ) -> Timed<T>
+    ) -> Came<T>
         ensures passed { HasPassed H.words (C.answers clock.now) deadline pass.old pass.new
             (Event.Send message) result }
     {
@@ -424,7 +402,7 @@ impl<T: Drop, H: History<T>> Shared<T, H> {
         match locked.state.push(&self.board, pass, message) {
             Ok(()) => {
                 locked.give_back_quiet();
-                Timed::Replied(Reply::Sent)
+                Came::Replied(Reply::Sent)
             },
             Err(message) => self.timed(rt, locked, pass, Event::Send(message), clock, deadline),
         }

@@ -3,47 +3,51 @@
 //!
 //! Stands on the lock and the state. A call takes the lock, makes one step, and gives the lock back; only then
 //! it tells those whose waits the step settled. A call that may not wait leaves a notice where the lock is
-//! held, which whoever gets the lock next applies. `locked` alone reads a notice's counter, and alone
-//! releases the lock.
+//! held, which whoever gets the lock next applies. `locked` alone takes the notices, and `release` alone
+//! gives the lock back and tells.
 ghost use Rattle.std.specs.Prelude.{◌≡◌, IsErrOf};
 ghost use Rattle.kanal_core.specs.Channel.{line_of};
 
 mod locked;
+mod release;
 
 use kanal_core::error::NewError;
 use kanal_core::mutex::Mutex;
 use kanal_history::History;
-use kanal_state::{
-    Core, CountedReceiver, CountedSender, CountedWait, ReceiverNotices, SenderNotices, State,
-    WaitNotices,
-};
+use kanal_state::{Core, Counted, CountedWait, FirstHandles, Notices, OfSide, State};
 use kanal_waits::WaitPolicy;
 pub use locked::{Left, Locked};
 use std::alloc::Global;
 use std::sync::Arc;
-use std::sync::atomic::AtomicU64;
-use std::sync::atomic::Ordering::SeqCst;
 
 /// A channel, as its handles share it: the lock round the core and its history, what the memory of a wait is
 /// asked of, whether a message may lie in a buffer, how blocked calls wait, and the notices.
-#[derive(Drop)]
+///
+/// It goes with its state and its notices together.
 pub struct Shared<T, H: History<T>> {
     pub(crate) board: H::Board,
     pub(crate) state: Mutex<State<T, H>>,
     pub(crate) alloc: Global,
     pub(crate) has_buffer: bool,
     pub(crate) policy: WaitPolicy,
-    notices: AtomicU64,
-    left: WaitNotices,
-    senders: SenderNotices,
-    receivers: ReceiverNotices,
+    notices: Notices,
 }
 
-/// A channel held twice, by its first sender and its first receiver, each of which is counted.
-pub type Halves<T, H> = (
-    (Arc<Shared<T, H>>, CountedSender),
-    (Arc<Shared<T, H>>, CountedReceiver),
-);
+impl<T: Drop, H: History<T>> Drop for Shared<T, H> {
+    fn drop(self) {
+        let Shared {
+            board,
+            state,
+            alloc: _,
+            has_buffer: _,
+            policy,
+            notices,
+        } = self;
+        state.into_inner().end(notices);
+        drop(board);
+        drop(policy);
+    }
+}
 
 impl<T: Drop, H: History<T>> Shared<T, H> {
     /// A free lock round the core and what is kept of the calls that led to its line, with what makes
@@ -75,43 +79,36 @@ impl<T: Drop, H: History<T>> Shared<T, H> {
             alloc,
             has_buffer: places > 0,
             policy: WaitPolicy::new(places),
-            notices: AtomicU64::new(0),
-            left: WaitNotices::new(),
-            senders: SenderNotices::new(),
-            receivers: ReceiverNotices::new(),
+            notices: Notices::new(),
         }
     }
 
-    /// The same, for handles: it takes the tokens of the channel's first sender and first receiver.
+    /// The same, for handles: with the tokens of the channel's first sender and first receiver.
     ///
     /// # Errors
     /// `NoMemory` where there is no memory for the channel.
     ///
     /// # Examples
     /// ```text
-    /// let (one, other) = Shared::halves(core, NoHistory, (), (), alloc)?;
+    /// let (shared, first) = Shared::with_handles(core, NoHistory, (), (), alloc)?;
+    /// let (sender, receiver) = first.into_tokens();
     /// ```
-    pub fn halves(
+    pub fn with_handles(
         core: Core<T, H>,
         history: H,
         cleanup: H::Cleanup,
         board: H::Board,
         alloc: Global,
-    ) -> Result<Halves<T, H>, NewError>
+    ) -> Result<(Arc<Self>, FirstHandles), NewError>
         requires core { H.stands history (line_of core) }
         ensures large { IsErrOf result NewError.TooLarge → ⊥ }
     {
         let places = core.capacity();
         let (state, first) = State::with_handles(core, history, cleanup);
-        let shared = Shared::round(state, places, board, alloc);
-        let Ok(one) = Arc::new(alloc, shared) else {
+        let Ok(shared) = Arc::new(alloc, Shared::round(state, places, board, alloc)) else {
             return Err(NewError::NoMemory);
         };
-        let Ok(other) = Arc::try_clone(&one) else {
-            return Err(NewError::NoMemory);
-        };
-        let (sender, receiver) = first.into_tokens();
-        Ok(((one, sender), (other, receiver)))
+        Ok((shared, first))
     }
 
     /// What all who share the channel share of what is kept of its calls.
@@ -152,49 +149,24 @@ impl<T: Drop, H: History<T>> Shared<T, H> {
     /// ```
     #[doc(hidden)] // For tests of what stays in the line while the lock is held.
     pub fn left_waits(&self) -> u64 {
-        self.left.count()
+        self.notices.waits()
     }
 
-    /// A sender goes away: it waits for nobody.
+    /// A handle goes away: it waits for nobody.
     ///
     /// # Examples
     /// ```text
-    /// shared.drop_sender(counted);   the last one ends the receivers that wait
+    /// shared.drop_handle(counted);   the last sender ends the receivers that wait
     /// ```
-    pub fn drop_sender(&self, counted: CountedSender) {
+    pub fn drop_handle<S: OfSide>(&self, counted: Counted<S>) {
         match self.try_hold() {
             Some((mut locked, left)) => {
-                let gone = locked.state.drop_sender(&self.board, counted);
-                locked.release_after();
-                self.tell_left(left);
-                self.tell(Some(gone));
-                self.look();
+                let gone = locked.state.drop_handle(&self.board, counted);
+                self.give_back_gone(locked, left, gone);
             },
             None => {
-                self.senders.add(counted);
-                self.notify();
-            },
-        }
-    }
-
-    /// A receiver goes away: it waits for nobody.
-    ///
-    /// # Examples
-    /// ```text
-    /// shared.drop_receiver(counted);   the last one ends the senders that wait
-    /// ```
-    pub fn drop_receiver(&self, counted: CountedReceiver) {
-        match self.try_hold() {
-            Some((mut locked, left)) => {
-                let gone = locked.state.drop_receiver(&self.board, counted);
-                locked.release_after();
-                self.tell_left(left);
-                self.tell(Some(gone));
+                self.notices.add_handle(counted);
                 self.look();
-            },
-            None => {
-                self.receivers.add(counted);
-                self.notify();
             },
         }
     }
@@ -209,21 +181,12 @@ impl<T: Drop, H: History<T>> Shared<T, H> {
         match self.try_hold() {
             Some((mut locked, left)) => {
                 let found = locked.state.leave(&self.board, counted);
-                locked.release_after();
-                self.tell_left(left);
-                drop(found);
-                self.look();
+                self.give_back_left(locked, left, found);
             },
             None => {
-                self.left.add(counted);
-                self.notify();
+                self.notices.add_wait(counted);
+                self.look();
             },
         }
-    }
-
-    /// Says that there is a notice, and looks whether the lock was released meanwhile.
-    fn notify(&self) {
-        self.notices.fetch_add(1, SeqCst);
-        self.look();
     }
 }

@@ -1,2 +1,3 @@
 mod Giving
 mod Draining
+mod Leaving

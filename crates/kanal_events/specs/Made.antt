@@ -12,8 +12,9 @@ use Rattle.kanal_events.specs.declared.event.Reply.{Reply}
 use Rattle.kanal_events.specs.declared.event.Reply.TheVariants.{Cleared, Drained as HasDrained, Got, Refused, Sent, Waits, Withdrawn}
 use Rattle.kanal_events.specs.Steps.{Told, Tells, IsWait, only}
 use Rattle.kanal_events.specs.declared.made.Answered.{Answered}
+use Rattle.kanal_events.specs.declared.made.Leaving.{Leaving}
+use Rattle.kanal_events.specs.declared.made.Leaving.TheVariants.{One, All, Shut, Drained}
 use Rattle.kanal_events.specs.declared.made.Made.{Made}
-use Rattle.kanal_events.specs.declared.made.Made.TheVariants.{One, All, Shut, Drained}
 use Rattle.kanal_events.specs.declared.made.Owed.{Owed}
 use Rattle.kanal_events.specs.declared.made.Kept.{Kept}
 use Rattle.kanal_events.specs.declared.made.Kept.TheVariants.{Ticket as Waiting, Back}
@@ -58,49 +59,73 @@ module _ {T : Type 0} where
   got m line = only line (Got m)
 
 module _ {T W : Type 0} where
+  -- the reply, of what left the core
+  abbrev pub reply_of_left : Leaving T W → Reply T
+  reply_of_left (One reply settled) = reply
+  reply_of_left (All reply ended) = reply
+  reply_of_left (Shut closing) = Cleared (length closing.cleared)
+  reply_of_left (Drained count ended moved) = HasDrained count
+
   -- the reply
   abbrev pub reply_of : Made T W → Reply T
-  reply_of (One reply settled) = reply
-  reply_of (All reply ended) = reply
-  reply_of (Shut closing) = Cleared (length closing.cleared)
-  reply_of (Drained count ended moved) = HasDrained count
+  reply_of made = reply_of_left made.leaving
+
+  -- the tickets that were settled, of what left the core
+  abbrev pub settled_of_left : Leaving T W → List (ℕ × Outcome T)
+  settled_of_left (One reply settled) = settlements settled
+  settled_of_left (All reply ended) = map settlement ended
+  settled_of_left (Shut closing) = map settlement closing.ended
+  settled_of_left (Drained count ended moved) = map settlement ended
 
   -- the tickets that it settled
   abbrev pub settled_of : Made T W → List (ℕ × Outcome T)
-  settled_of (One reply settled) = settlements settled
-  settled_of (All reply ended) = map settlement ended
-  settled_of (Shut closing) = map settlement closing.ended
-  settled_of (Drained count ended moved) = map settlement ended
+  settled_of made = settled_of_left made.leaving
 
   -- the ticket of a wait that is owed, and what became of it
   abbrev pub owed_of : Owed T W → ℕ × Outcome T
   owed_of owed = settlement owed.settled
+
+  -- who is owed it
+  abbrev pub who_of : Owed T W → W
+  who_of owed = owed.settled.w
 
   -- what is owed after a step that settled at most one wait
   abbrev pub owed_by : Option (Owed T W) → List (ℕ × Outcome T)
   owed_by None = []
   owed_by (Some owed) = owed_of owed ∷ []
 
+  -- the messages that were drained, of what left the core
+  abbrev pub drained_of_left : Leaving T W → List T
+  drained_of_left (One reply settled) = []
+  drained_of_left (All reply ended) = []
+  drained_of_left (Shut closing) = []
+  drained_of_left (Drained count ended moved) = drop (length moved.before.value.items) moved.after.value.items
+
   -- the messages that it drained: those behind what the vector had held
   abbrev pub drained_of : Made T W → List T
-  drained_of (One reply settled) = []
-  drained_of (All reply ended) = []
-  drained_of (Shut closing) = []
-  drained_of (Drained count ended moved) = drop (length moved.before.value.items) moved.after.value.items
+  drained_of made = drained_of_left made.leaving
+
+  -- what left the core is that of a drain
+  abbrev pub is_drained_left : Leaving T W → Bool
+  is_drained_left (One reply settled) = false
+  is_drained_left (All reply ended) = false
+  is_drained_left (Shut closing) = false
+  is_drained_left (Drained count ended moved) = true
 
   -- it is a drain that was made
   abbrev pub is_drained : Made T W → Bool
-  is_drained (One reply settled) = false
-  is_drained (All reply ended) = false
-  is_drained (Shut closing) = false
-  is_drained (Drained count ended moved) = true
+  is_drained made = is_drained_left made.leaving
+
+  -- the messages that were cleared, of what left the core
+  abbrev pub cleared_of_left : Leaving T W → List T
+  cleared_of_left (One reply settled) = []
+  cleared_of_left (All reply ended) = []
+  cleared_of_left (Shut closing) = closing.cleared
+  cleared_of_left (Drained count ended moved) = []
 
   -- the messages that it cleared
   abbrev pub cleared_of : Made T W → List T
-  cleared_of (One reply settled) = []
-  cleared_of (All reply ended) = []
-  cleared_of (Shut closing) = closing.cleared
-  cleared_of (Drained count ended moved) = []
+  cleared_of made = cleared_of_left made.leaving
 
   -- all that it tells, with the line after it
   abbrev pub told_of : Line T → Made T W → Told T
@@ -109,15 +134,7 @@ module _ {T W : Type 0} where
 
   -- what a send or a receive told that was answered at once, as what any step told
   abbrev pub made_of : Answered T W → Made T W
-  made_of answered = One answered.reply answered.settled
-
-  -- what a send tells that entered, or was handed to who is owed it, with the line after it
-  abbrev pub handed : Option (Owed T W) → Line T → Told T
-  handed owed line = record { line = line; reply = Sent; settled = owed_by owed; drained = []; cleared = [] }
-
-  -- what a receive tells that got this message, and let in the one of who is owed that, with the line after it
-  abbrev pub fetched : T → Option (Owed T W) → Line T → Told T
-  fetched m owed line = record { line = line; reply = Got m; settled = owed_by owed; drained = []; cleared = [] }
+  made_of answered = record { leaving = One answered.reply answered.settled }
 
   -- the event was made, and doesn't wait; or it must wait, comes back, and nothing changed
   abbrev pub Tries : Line T → Event T → Tried T W → Line T → Type 0

@@ -1,14 +1,14 @@
 //! What a step told, as it leaves the core, and what it owes to those whose waits it settled.
 //!
 //! Stands on what the core hands out. A value here holds all that left the core at one step: nothing of it
-//! is settled, noted or dropped while the lock is held. Only `steps` makes one. A wait that a step settled
+//! is settled, noted or dropped while the lock is held. Only `steps` makes one that settled a wait. Such a wait
 //! is owed to who waits: it leaves a `Made` by `next` alone and an `Answered` by `into_parts` alone, and the
 //! prover refuses to let go one of them that may still have one, or an `Owed` that nobody was told of.
-ghost use Rattle.std.specs.Prelude.{◌≡◌, ℕ, [], ◌∷◌, true, MatchOption};
+ghost use Rattle.std.specs.Prelude.{◌≡◌, ℕ, [], ◌∷◌, None, true, MatchOption};
 ghost use Rattle.kanal_core.specs.Channel.{settlements};
 ghost use Rattle.kanal_core.specs.declared.internal.outcome.Outcome.{Outcome};
 ghost use Rattle.kanal_events.specs.Steps.{is_done, is_no_memory};
-ghost use Rattle.kanal_events.specs.Made.{cleared_of, made_of, owed_of, owed_by, reply_of, settled_of};
+ghost use Rattle.kanal_events.specs.Made.{cleared_of, made_of, owed_of, owed_by, reply_of, settled_of, who_of};
 
 use crate::event::{Event, Reply};
 use kanal_core::internal::{Cleared, Closing, Ended, Outcome, Settled, Ticket};
@@ -27,13 +27,27 @@ pub struct Moved<T> {
 pub trait Waits<T>: Drop {
     /// What it is told beside that: what a pass has seen of a history.
     type Seen: Drop;
+    /// What shows that it was told.
+    type Evidence: Drop;
+    /// What shows that the lock of the core is released.
+    type Released: Drop;
 
     /// What was seen has it that a call settled the ticket so.
     ghost shows: { Self.Seen → ℕ × Outcome T → Type 0 };
 
+    /// Who waits was told that its ticket was settled so.
+    ghost tells: { Self.Evidence → Self → ℕ × Outcome T → Type 0 };
+
     /// Tells who waits, under the ticket of this number, what became of the wait.
-    fn tell(self, ticket: u64, outcome: Outcome<T>, seen: Self::Seen)
-        requires seen { shows seen (ticket, outcome) };
+    fn tell(
+        self,
+        ticket: u64,
+        outcome: Outcome<T>,
+        seen: Self::Seen,
+        released: &Self::Released,
+    ) -> Self::Evidence
+        requires seen { shows seen (ticket, outcome) }
+        ensures told { tells result self (ticket, outcome) };
 }
 
 /// A wait that was settled, and is owed to who waits.
@@ -84,19 +98,20 @@ impl<T: Drop, W: Waits<T>> Owed<T, W> {
     /// # Examples
     /// ```text
     /// while let Some(owed) = made.next() {
-    ///     owed.tell(pass.again(&board));
+    ///     owed.tell(pass.again(&board), &released);
     /// }
     /// ```
     #[cold]
-    pub fn tell(self, seen: W::Seen)
+    pub fn tell(self, seen: W::Seen, released: &W::Released) -> W::Evidence
         requires seen { W.shows seen (owed_of self) }
+        ensures told { W.tells result (who_of self) (owed_of self) }
     {
         let Owed {
             settled,
             is_told: _,
         } = self;
         let Settled { ticket, w, outcome } = settled;
-        w.tell(ticket.number(), outcome, seen);
+        w.tell(ticket.number(), outcome, seen, released)
     }
 }
 
@@ -123,8 +138,8 @@ impl<T: Drop> Owed<T, ()> {
     }
 }
 
-/// What a step of the core told.
-pub enum Made<T, W> {
+/// What left the core at a step.
+enum Leaving<T, W> {
     /// A reply, and at most one wait that was settled.
     One(Reply<T>, Option<Settled<T, W>>),
     /// A reply, and the waits that were settled.
@@ -135,21 +150,27 @@ pub enum Made<T, W> {
     Drained(usize, Ended<T, W>, Moved<T>),
 }
 
+/// What a step of the core told. The waits that it settled leave it by `next` alone.
+pub struct Made<T, W> {
+    leaving: Leaving<T, W>,
+}
+
 impl<T: Drop, W: Drop> Drop for Made<T, W> {
     fn drop(self)
         requires nobody { settled_of self ≡ [] }
     {
-        match self {
-            Made::One(reply, settled) => {
+        let Made { leaving } = self;
+        match leaving {
+            Leaving::One(reply, settled) => {
                 drop(reply);
                 drop(settled);
             },
-            Made::All(reply, ended) => {
+            Leaving::All(reply, ended) => {
                 drop(reply);
                 drop(ended);
             },
-            Made::Shut(closing) => drop(closing),
-            Made::Drained(_count, ended, moved) => {
+            Leaving::Shut(closing) => drop(closing),
+            Leaving::Drained(_count, ended, moved) => {
                 drop(ended);
                 drop(moved);
             },
@@ -158,6 +179,55 @@ impl<T: Drop, W: Drop> Drop for Made<T, W> {
 }
 
 impl<T: Drop, W: Drop> Made<T, W> {
+    /// A reply that settles no wait.
+    ///
+    /// # Examples
+    /// ```text
+    /// Made::replied(Reply::Nothing)   tells that nothing was there
+    /// ```
+    pub fn replied(reply: Reply<T>) -> Self
+        ensures { result ≡ record { leaving = Leaving.One reply None } }
+    {
+        Made::one(reply, None)
+    }
+
+    /// A reply, and the wait that was settled, if one was.
+    #[inline(always)]
+    pub(crate) fn one(reply: Reply<T>, settled: Option<Settled<T, W>>) -> Self
+        ensures { result ≡ record { leaving = Leaving.One reply settled } }
+    {
+        Made {
+            leaving: Leaving::One(reply, settled),
+        }
+    }
+
+    /// A reply, and the waits that were settled.
+    pub(crate) fn all(reply: Reply<T>, ended: Ended<T, W>) -> Self
+        ensures { result ≡ record { leaving = Leaving.All reply ended } }
+    {
+        Made {
+            leaving: Leaving::All(reply, ended),
+        }
+    }
+
+    /// A close, with the waits that it ended and the messages that it cleared.
+    pub(crate) fn shut(closing: Closing<T, W>) -> Self
+        ensures { result ≡ record { leaving = Leaving.Shut closing } }
+    {
+        Made {
+            leaving: Leaving::Shut(closing),
+        }
+    }
+
+    /// A drain of so many messages, with the waits that it settled and what it moved.
+    pub(crate) fn drained(count: usize, ended: Ended<T, W>, moved: Moved<T>) -> Self
+        ensures { result ≡ record { leaving = Leaving.Drained count ended moved } }
+    {
+        Made {
+            leaving: Leaving::Drained(count, ended, moved),
+        }
+    }
+
     /// Hands out the next wait that it settled, the oldest first.
     ///
     /// # Examples
@@ -171,11 +241,11 @@ impl<T: Drop, W: Drop> Made<T, W> {
         ensures reply { reply_of self.new ≡ reply_of self.old }
         ensures cleared { cleared_of self.new ≡ cleared_of self.old }
     {
-        let settled = match self {
-            Made::One(_reply, settled) => settled.take(),
-            Made::All(_reply, ended) => ended.next(),
-            Made::Shut(closing) => closing.ended.next(),
-            Made::Drained(_count, ended, _moved) => ended.next(),
+        let settled = match &mut self.leaving {
+            Leaving::One(_reply, settled) => settled.take(),
+            Leaving::All(_reply, ended) => ended.next(),
+            Leaving::Shut(closing) => closing.ended.next(),
+            Leaving::Drained(_count, ended, _moved) => ended.next(),
         };
         match settled {
             Some(settled) => Some(Owed::new(settled)),
@@ -194,22 +264,23 @@ impl<T: Drop, W: Drop> Made<T, W> {
         ensures reply { result.0 ≡ reply_of self }
         ensures cleared { MatchOption result.1 (cleared_of self ≡ []) (λ c. cleared_of self ≡ c) }
     {
-        match self {
-            Made::One(reply, settled) => {
+        let Made { leaving } = self;
+        match leaving {
+            Leaving::One(reply, settled) => {
                 drop(settled);
                 (reply, None)
             },
-            Made::All(reply, ended) => {
+            Leaving::All(reply, ended) => {
                 drop(ended);
                 (reply, None)
             },
-            Made::Shut(closing) => {
+            Leaving::Shut(closing) => {
                 let Closing { cleared, ended } = closing;
                 let count = cleared.len();
                 drop(ended);
                 (Reply::Cleared(count), Some(cleared))
             },
-            Made::Drained(count, ended, moved) => {
+            Leaving::Drained(count, ended, moved) => {
                 drop(ended);
                 drop(moved);
                 (Reply::Drained(count), None)
@@ -226,11 +297,11 @@ impl<T: Drop, W: Drop> Made<T, W> {
     pub fn lacks_memory(&self) -> bool
         ensures { result ≡ is_no_memory (reply_of self.now) }
     {
-        match self {
-            Made::One(reply, _settled) => reply.is_no_memory(),
-            Made::All(reply, _ended) => reply.is_no_memory(),
-            Made::Shut(_closing) => false,
-            Made::Drained(_count, _ended, _moved) => false,
+        match &self.leaving {
+            Leaving::One(reply, _settled) => reply.is_no_memory(),
+            Leaving::All(reply, _ended) => reply.is_no_memory(),
+            Leaving::Shut(_closing) => false,
+            Leaving::Drained(_count, _ended, _moved) => false,
         }
     }
 
@@ -243,11 +314,11 @@ impl<T: Drop, W: Drop> Made<T, W> {
     pub fn is_done(&self) -> bool
         ensures { result ≡ is_done (reply_of self.now) }
     {
-        match self {
-            Made::One(reply, _settled) => reply.is_done(),
-            Made::All(reply, _ended) => reply.is_done(),
-            Made::Shut(_closing) => false,
-            Made::Drained(_count, _ended, _moved) => false,
+        match &self.leaving {
+            Leaving::One(reply, _settled) => reply.is_done(),
+            Leaving::All(reply, _ended) => reply.is_done(),
+            Leaving::Shut(_closing) => false,
+            Leaving::Drained(_count, _ended, _moved) => false,
         }
     }
 }
@@ -273,7 +344,7 @@ impl<T: Drop, W: Drop> Answered<T, W> {
     /// A reply, and the wait that was settled, if one was.
     #[inline(always)]
     pub(crate) fn new(reply: Reply<T>, settled: Option<Settled<T, W>>) -> Self
-        ensures { made_of result ≡ Made.One reply settled }
+        ensures { made_of result ≡ record { leaving = Leaving.One reply settled } }
     {
         Answered { reply, settled }
     }
@@ -304,7 +375,7 @@ impl<T: Drop, W: Drop> Answered<T, W> {
         ensures { result ≡ made_of self }
     {
         let Answered { reply, settled } = self;
-        Made::One(reply, settled)
+        Made::one(reply, settled)
     }
 
     /// Whether the reply says that there was no memory.

@@ -8,14 +8,15 @@ ghost use Rattle.std.specs.Prelude.{◌≡◌, ◌==◌, ◌+◌, ◌<◌, ◌�
 ghost use Rattle.std.specs.Vec.{vec_capacity, vec_len};
 ghost use Rattle.kanal_core.specs.Channel.{line_of};
 ghost use Rattle.kanal_core.specs.Tickets.{number_of};
-ghost use Rattle.kanal_core.specs.Waiters.{IsPlaced};
+ghost use Rattle.kanal_core.specs.Waiters.{IsPlaced, waiter_of, without};
 ghost use Rattle.kanal_core.specs.Calls.{IsFull, IsEmpty};
-ghost use Rattle.kanal_events.specs.Steps.{Tells, answer as answer_of, is_no_memory, only as only_told};
+ghost use Rattle.kanal_events.specs.Steps.{Tells, answer as answer_of, is_no_memory, only};
 ghost use Rattle.kanal_events.specs.Given.{Gives, GivesNone};
-ghost use Rattle.kanal_events.specs.Made.{Keeps, MustWait, Tries, drained_of, entered, fetched, got, handed, is_drained, is_plain, may_wait, not_waiting, reply_of, told_of, withdrawn};
+ghost use Rattle.kanal_events.specs.Leaving.{Comes, Leave, LeaveTried, gone_of};
+ghost use Rattle.kanal_events.specs.Made.{Keeps, MustWait, Tries, drained_of, entered, got, is_drained, is_plain, may_wait, not_waiting, reply_of, told_of, withdrawn};
 
 use crate::event::{Ask, Event, Refusal, Reply, Side};
-use crate::made::{Answered, Kept, Made, Moved, Owed, Tried};
+use crate::made::{Answered, Kept, Made, Moved, Tried};
 use kanal_core::error::{DrainError, WaitError};
 use kanal_core::internal::{ChannelInternal, Offer, Settled, Steps, Take, Ticket, Waiter};
 use std::marker::Brand;
@@ -34,6 +35,7 @@ pub fn push<T: Drop, W: Drop>(core: &mut ChannelInternal<T, W>, message: T) -> R
     ensures told { OnOk result (Tells (line_of core.old) (Event.Send message)
         (entered (line_of core.new))) }
     ensures refused { IfErr result (λ back. (back ≡ message) × (core.new ≡ core.old)) }
+    ensures waiters { core.new.waiters ≡ core.old.waiters }
 {
     core.push(message)
 }
@@ -51,108 +53,57 @@ pub fn pop<T: Drop, W: Drop>(core: &mut ChannelInternal<T, W>) -> Option<T>
     ensures told { IfSome result (λ m. Tells (line_of core.old) Event.Recv
         (got m (line_of core.new))) }
     ensures refused { IfNone result (core.new ≡ core.old) }
+    ensures waiters { core.new.waiters ≡ core.old.waiters }
 {
     core.pop()
 }
 
-/// Sends a message that enters, or is handed to a receiver that waits; it comes back, and nothing changes,
-/// otherwise. Who was handed it is owed that.
-///
-/// # Examples
-/// ```text
-/// hand(&mut core, 7)   answers  Ok(Some(owed))   where a receiver waits
-/// hand(&mut core, 7)   answers  Err(7)           in a new core without places
-/// ```
-#[inline(always)]
-pub fn hand<T: Drop, W: Drop>(
-    core: &mut ChannelInternal<T, W>,
-    message: T,
-) -> Result<Option<Owed<T, W>>, T>
-    ensures told { IfOk result (λ owed. Tells (line_of core.old) (Event.Send message)
-        (handed owed (line_of core.new))) }
-    ensures refused { IfErr result (λ back. (back ≡ message)
-        × (line_of core.new ≡ line_of core.old)) }
-{
-    match core.offer(message) {
-        Offer::Entered => Ok(None),
-        Offer::Handed(settled) => Ok(Some(Owed::new(settled))),
-        Offer::Full(back) => Err(back),
-        Offer::Closed(back) => Err(back),
-        Offer::ReceiveClosed(back) => Err(back),
-        Offer::Sealed(back) => Err(back),
-        Offer::NoMemory(back) => Err(back),
-    }
-}
-
-/// Receives the front message, if there is one; nothing changes otherwise. A sender that waits gives its
-/// message into the place, or at once, and is owed that.
-///
-/// # Examples
-/// ```text
-/// fetch(&mut core)   answers  Some((7, None))   after 7 entered
-/// fetch(&mut core)   answers  None              after that
-/// ```
-#[inline(always)]
-pub fn fetch<T: Drop, W: Drop>(core: &mut ChannelInternal<T, W>) -> Option<(T, Option<Owed<T, W>>)>
-    ensures told { IfSome result (λ r. Tells (line_of core.old) Event.Recv
-        (fetched r.0 r.1 (line_of core.new))) }
-    ensures refused { IfNone result (line_of core.new ≡ line_of core.old) }
-{
-    match core.take() {
-        Take::Got(message, settled) => Some((message, Owed::from_settled(settled))),
-        Take::Closed => None,
-        Take::SendClosed => None,
-        Take::Empty => None,
-    }
-}
-
-/// A reply that settles no wait.
-fn only<T: Drop, W: Drop>(reply: Reply<T>) -> Made<T, W>
-    ensures { result ≡ Made.One reply None }
-{
-    Made::One(reply, None)
-}
-
 /// Offers the message of a call that doesn't wait.
+#[tactic(auto, using(crate::proofs::Leaving::oldest_leaves))]
 fn try_send<T: Drop, W: Drop>(core: &mut ChannelInternal<T, W>, message: T) -> Made<T, W>
     ensures told { Tells (line_of core.old) (Event.TrySend message)
         (told_of (line_of core.new) result) }
     ensures tickets { GivesNone core.old core.new }
+    ensures leave { Leave core.old.waiters (gone_of result) core.new.waiters }
 {
     match core.offer(message) {
-        Offer::Entered => only(Reply::Yes),
-        Offer::Handed(settled) => Made::One(Reply::Yes, Some(settled)),
-        Offer::Full(back) => only(Reply::No(back)),
-        Offer::Closed(back) => only(Reply::Refused(Refusal::Closed, Some(back))),
-        Offer::ReceiveClosed(back) => only(Reply::Refused(Refusal::ReceiveClosed, Some(back))),
-        Offer::Sealed(back) => only(Reply::Refused(Refusal::Sealed, Some(back))),
-        Offer::NoMemory(back) => only(Reply::Refused(Refusal::NoMemory, Some(back))),
+        Offer::Entered => Made::replied(Reply::Yes),
+        Offer::Handed(settled) => Made::one(Reply::Yes, Some(settled)),
+        Offer::Full(back) => Made::replied(Reply::No(back)),
+        Offer::Closed(back) => Made::replied(Reply::Refused(Refusal::Closed, Some(back))),
+        Offer::ReceiveClosed(back) => Made::replied(Reply::Refused(Refusal::ReceiveClosed, Some(back))),
+        Offer::Sealed(back) => Made::replied(Reply::Refused(Refusal::Sealed, Some(back))),
+        Offer::NoMemory(back) => Made::replied(Reply::Refused(Refusal::NoMemory, Some(back))),
     }
 }
 
 /// Asks for a message, for a call that doesn't wait.
+#[tactic(auto, using(crate::proofs::Leaving::oldest_leaves))]
 fn try_recv<T: Drop, W: Drop>(core: &mut ChannelInternal<T, W>) -> Made<T, W>
     ensures told { Tells (line_of core.old) Event.TryRecv (told_of (line_of core.new) result) }
     ensures tickets { GivesNone core.old core.new }
+    ensures leave { Leave core.old.waiters (gone_of result) core.new.waiters }
 {
     match core.take() {
-        Take::Got(message, settled) => Made::One(Reply::Got(message), settled),
-        Take::Closed => only(Reply::Refused(Refusal::Closed, None)),
-        Take::SendClosed => only(Reply::Refused(Refusal::SendClosed, None)),
-        Take::Empty => only(Reply::Nothing),
+        Take::Got(message, settled) => Made::one(Reply::Got(message), settled),
+        Take::Closed => Made::replied(Reply::Refused(Refusal::Closed, None)),
+        Take::SendClosed => Made::replied(Reply::Refused(Refusal::SendClosed, None)),
+        Take::Empty => Made::replied(Reply::Nothing),
     }
 }
 
 /// Asks for a message, for a call whose deadline has passed.
+#[tactic(auto, using(crate::proofs::Leaving::oldest_leaves))]
 fn recv_late<T: Drop, W: Drop>(core: &mut ChannelInternal<T, W>) -> Made<T, W>
     ensures told { Tells (line_of core.old) Event.RecvLate (told_of (line_of core.new) result) }
     ensures tickets { GivesNone core.old core.new }
+    ensures leave { Leave core.old.waiters (gone_of result) core.new.waiters }
 {
     match core.take() {
-        Take::Got(message, settled) => Made::One(Reply::Got(message), settled),
-        Take::Closed => only(Reply::Refused(Refusal::Closed, None)),
-        Take::SendClosed => only(Reply::Refused(Refusal::Timeout, None)),
-        Take::Empty => only(Reply::Refused(Refusal::Timeout, None)),
+        Take::Got(message, settled) => Made::one(Reply::Got(message), settled),
+        Take::Closed => Made::replied(Reply::Refused(Refusal::Closed, None)),
+        Take::SendClosed => Made::replied(Reply::Refused(Refusal::Timeout, None)),
+        Take::Empty => Made::replied(Reply::Refused(Refusal::Timeout, None)),
     }
 }
 
@@ -166,9 +117,11 @@ fn answered<T: Drop, W: Drop>(reply: Reply<T>, settled: Option<Settled<T, W>>) -
 
 /// Offers the message of a call that waits where there is no place for it.
 #[inline(always)]
+#[tactic(auto, using(crate::proofs::Leaving::oldest_leaves))]
 fn offer<T: Drop, W: Drop>(core: &mut ChannelInternal<T, W>, message: T) -> Tried<T, W>
     ensures step { Tries (line_of core.old) (Event.Send message) result (line_of core.new) }
     ensures tickets { GivesNone core.old core.new }
+    ensures leave { LeaveTried core.old.waiters result core.new.waiters }
 {
     let refused = match core.offer(message) {
         Offer::Entered => return answered(Reply::Sent, None),
@@ -184,9 +137,11 @@ fn offer<T: Drop, W: Drop>(core: &mut ChannelInternal<T, W>, message: T) -> Trie
 
 /// Asks for a message, for a call that waits where there is none.
 #[inline(always)]
+#[tactic(auto, using(crate::proofs::Leaving::oldest_leaves))]
 fn take<T: Drop, W: Drop>(core: &mut ChannelInternal<T, W>) -> Tried<T, W>
     ensures step { Tries (line_of core.old) Event.Recv result (line_of core.new) }
     ensures tickets { GivesNone core.old core.new }
+    ensures leave { LeaveTried core.old.waiters result core.new.waiters }
 {
     let refused = match core.take() {
         Take::Got(message, settled) => return answered(Reply::Got(message), settled),
@@ -209,6 +164,7 @@ pub fn start<T: Drop, W: Drop>(core: &mut ChannelInternal<T, W>, event: Event<T>
     requires waits { may_wait event ≡ true }
     ensures step { Tries (line_of core.old) event result (line_of core.new) }
     ensures tickets { GivesNone core.old core.new }
+    ensures leave { LeaveTried core.old.waiters result core.new.waiters }
 {
     match event {
         Event::Send(message) => offer(core, message),
@@ -226,9 +182,10 @@ fn wait_send<T: Drop, W: Drop>(
 ) -> (Reply<T>, Kept<W>)
     requires full { IsFull (line_of core.old) }
     ensures told { Tells (line_of core.old) (Event.Send message)
-        (only_told (line_of core.new) result.0) }
+        (only (line_of core.new) result.0) }
     ensures kept { Keeps result.0 result.1 }
     ensures tickets { Gives result.1 core.old core.new }
+    ensures comes { Comes core.old.waiters (Event.Send message) w result.1 core.new.waiters }
 {
     match core.wait_send(message, w) {
         Ok(ticket) => (Reply::Waits(ticket.number()), Kept::Ticket(ticket)),
@@ -245,9 +202,10 @@ fn wait_send<T: Drop, W: Drop>(
 #[inline(always)]
 fn wait_recv<T: Drop, W: Drop>(core: &mut ChannelInternal<T, W>, w: W) -> (Reply<T>, Kept<W>)
     requires empty { IsEmpty (line_of core.old) }
-    ensures told { Tells (line_of core.old) Event.Recv (only_told (line_of core.new) result.0) }
+    ensures told { Tells (line_of core.old) Event.Recv (only (line_of core.new) result.0) }
     ensures kept { Keeps result.0 result.1 }
     ensures tickets { Gives result.1 core.old core.new }
+    ensures comes { Comes core.old.waiters Event.Recv w result.1 core.new.waiters }
 {
     match core.wait_recv(w) {
         Ok(ticket) => (Reply::Waits(ticket.number()), Kept::Ticket(ticket)),
@@ -272,9 +230,10 @@ pub fn wait<T: Drop, W: Drop>(
 ) -> (Reply<T>, Kept<W>)
     requires waits { may_wait event ≡ true }
     requires must { MustWait (line_of core.old) event }
-    ensures told { Tells (line_of core.old) event (only_told (line_of core.new) result.0) }
+    ensures told { Tells (line_of core.old) event (only (line_of core.new) result.0) }
     ensures kept { Keeps result.0 result.1 }
     ensures tickets { Gives result.1 core.old core.new }
+    ensures comes { Comes core.old.waiters event w result.1 core.new.waiters }
 {
     match event {
         Event::Send(message) => wait_send(core, message, w),
@@ -303,7 +262,7 @@ pub fn make_waiting<T: Drop, W: Drop>(
         Tried::Told(answered) => (answered.into_made(), Kept::Back(w)),
         Tried::MustWait(event) => {
             let (reply, kept) = wait(core, event, w);
-            (only(reply), kept)
+            (Made::replied(reply), kept)
         },
     }
 }
@@ -326,6 +285,8 @@ pub fn withdraw<T: Drop, W: Drop>(
         → Tells (line_of core.old) (Event.Withdraw (number_of ticket))
         (not_waiting (line_of core.new))) }
     ensures tickets { GivesNone core.old core.new }
+    ensures waiter { result ≡ waiter_of ticket core.old.waiters }
+    ensures others { core.new.waiters ≡ without ticket core.old.waiters }
 {
     let mut steps = Steps::<Brand>::idle();
     core.withdraw(ticket, &mut steps)
@@ -338,6 +299,7 @@ pub fn withdraw<T: Drop, W: Drop>(
 /// ```text
 /// drain(&mut core, &mut messages)   replies  Drained(2)   after two messages entered
 /// ```
+#[tactic(auto, using(crate::proofs::Leaving::drained_leaves))]
 pub fn drain<T: Drop, W: Drop>(core: &mut ChannelInternal<T, W>, into: &mut Vec<T>) -> Made<T, W>
     ensures told { Tells (line_of core.old) Event.Drain (told_of (line_of core.new) result) }
     ensures moved { into.new.items ≡ into.old.items ++ drained_of result }
@@ -347,37 +309,42 @@ pub fn drain<T: Drop, W: Drop>(core: &mut ChannelInternal<T, W>, into: &mut Vec<
         → vec_capacity into.new ≡ vec_capacity into.old }
     ensures no_growth { is_drained result ≡ false → vec_capacity into.new ≡ vec_capacity into.old }
     ensures tickets { GivesNone core.old core.new }
+    ensures leave { Leave core.old.waiters (gone_of result) core.new.waiters }
 {
     let before = Snapshot::of(&*into);
     match core.drain_into(into) {
         Ok((count, ended)) => {
             let after = Snapshot::of(&*into);
-            Made::Drained(count, ended, Moved { before, after })
+            Made::drained(count, ended, Moved { before, after })
         },
-        Err(DrainError::Closed) => only(Reply::Refused(Refusal::Closed, None)),
-        Err(DrainError::NoMemory) => only(Reply::Refused(Refusal::NoMemory, None)),
+        Err(DrainError::Closed) => Made::replied(Reply::Refused(Refusal::Closed, None)),
+        Err(DrainError::NoMemory) => Made::replied(Reply::Refused(Refusal::NoMemory, None)),
     }
 }
 
 /// Seals the channel.
+#[tactic(auto, using(crate::proofs::Leaving::sealed_leaves))]
 fn seal<T: Drop, W: Drop>(core: &mut ChannelInternal<T, W>) -> Made<T, W>
     ensures told { Tells (line_of core.old) Event.Seal (told_of (line_of core.new) result) }
     ensures tickets { GivesNone core.old core.new }
+    ensures leave { Leave core.old.waiters (gone_of result) core.new.waiters }
 {
     match core.seal() {
-        Ok(ended) => Made::All(Reply::Done, ended),
-        Err(_) => only(Reply::Refused(Refusal::CloseError, None)),
+        Ok(ended) => Made::all(Reply::Done, ended),
+        Err(_) => Made::replied(Reply::Refused(Refusal::CloseError, None)),
     }
 }
 
 /// Closes the channel.
+#[tactic(auto, using(crate::proofs::Leaving::closed_leaves))]
 fn close<T: Drop, W: Drop>(core: &mut ChannelInternal<T, W>) -> Made<T, W>
     ensures told { Tells (line_of core.old) Event.Close (told_of (line_of core.new) result) }
     ensures tickets { GivesNone core.old core.new }
+    ensures leave { Leave core.old.waiters (gone_of result) core.new.waiters }
 {
     match core.close() {
-        Ok(closing) => Made::Shut(closing),
-        Err(_) => only(Reply::Refused(Refusal::CloseError, None)),
+        Ok(closing) => Made::shut(closing),
+        Err(_) => Made::replied(Reply::Refused(Refusal::CloseError, None)),
     }
 }
 
@@ -385,10 +352,11 @@ fn close<T: Drop, W: Drop>(core: &mut ChannelInternal<T, W>) -> Made<T, W>
 fn add_sender<T: Drop, W: Drop>(core: &mut ChannelInternal<T, W>) -> Made<T, W>
     ensures told { Tells (line_of core.old) Event.CloneTx (told_of (line_of core.new) result) }
     ensures tickets { GivesNone core.old core.new }
+    ensures leave { Leave core.old.waiters (gone_of result) core.new.waiters }
 {
     match core.add_sender() {
-        Ok(()) => only(Reply::Done),
-        Err(_) => only(Reply::Refused(Refusal::TooMany, None)),
+        Ok(()) => Made::replied(Reply::Done),
+        Err(_) => Made::replied(Reply::Refused(Refusal::TooMany, None)),
     }
 }
 
@@ -396,27 +364,32 @@ fn add_sender<T: Drop, W: Drop>(core: &mut ChannelInternal<T, W>) -> Made<T, W>
 fn add_receiver<T: Drop, W: Drop>(core: &mut ChannelInternal<T, W>) -> Made<T, W>
     ensures told { Tells (line_of core.old) Event.CloneRx (told_of (line_of core.new) result) }
     ensures tickets { GivesNone core.old core.new }
+    ensures leave { Leave core.old.waiters (gone_of result) core.new.waiters }
 {
     match core.add_receiver() {
-        Ok(()) => only(Reply::Done),
-        Err(_) => only(Reply::Refused(Refusal::TooMany, None)),
+        Ok(()) => Made::replied(Reply::Done),
+        Err(_) => Made::replied(Reply::Refused(Refusal::TooMany, None)),
     }
 }
 
 /// Counts one sender less.
+#[tactic(auto, using(crate::proofs::Leaving::sender_leaves))]
 fn drop_sender<T: Drop, W: Drop>(core: &mut ChannelInternal<T, W>) -> Made<T, W>
     ensures told { Tells (line_of core.old) Event.DropTx (told_of (line_of core.new) result) }
     ensures tickets { GivesNone core.old core.new }
+    ensures leave { Leave core.old.waiters (gone_of result) core.new.waiters }
 {
-    Made::All(Reply::Done, core.drop_sender())
+    Made::all(Reply::Done, core.drop_sender())
 }
 
 /// Counts one receiver less.
+#[tactic(auto, using(crate::proofs::Leaving::receiver_leaves))]
 fn drop_receiver<T: Drop, W: Drop>(core: &mut ChannelInternal<T, W>) -> Made<T, W>
     ensures told { Tells (line_of core.old) Event.DropRx (told_of (line_of core.new) result) }
     ensures tickets { GivesNone core.old core.new }
+    ensures leave { Leave core.old.waiters (gone_of result) core.new.waiters }
 {
-    Made::All(Reply::Done, core.drop_receiver())
+    Made::all(Reply::Done, core.drop_receiver())
 }
 
 /// Asks a question through a side.
@@ -458,6 +431,7 @@ pub fn make<T: Drop, W: Drop>(core: &mut ChannelInternal<T, W>, event: Event<T>)
     requires plain { is_plain event ≡ true }
     ensures told { Tells (line_of core.old) event (told_of (line_of core.new) result) }
     ensures tickets { GivesNone core.old core.new }
+    ensures leave { Leave core.old.waiters (gone_of result) core.new.waiters }
 {
     match event {
         Event::TrySend(message) => try_send(core, message),
@@ -469,8 +443,8 @@ pub fn make<T: Drop, W: Drop>(core: &mut ChannelInternal<T, W>, event: Event<T>)
         Event::DropRx => drop_receiver(core),
         Event::Seal => seal(core),
         Event::Close => close(core),
-        Event::Ask(side, question) => only(ask(core, side, question)),
-        Event::Terminated => only(terminated(core)),
+        Event::Ask(side, question) => Made::replied(ask(core, side, question)),
+        Event::Terminated => Made::replied(terminated(core)),
         Event::Send(_message) => unreachable!(),
         Event::Recv | Event::Drain | Event::Withdraw(_) => unreachable!(),
     }

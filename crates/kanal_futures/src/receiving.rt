@@ -259,8 +259,8 @@ impl<'a, T: Drop, H: History<T>> Receiving<'a, T, H> {
         self.begin_noticed(locked, pass, cx)
     }
 
-    /// The same, where there are notices: they are applied before the call, and what they took out is told
-    /// after it.
+    /// The same, where there are notices: they are applied before the call. Where they took something out, that
+    /// is told first, and where another has the lock then, another poll is asked for.
     #[cold]
     fn begin_noticed(
         &mut self,
@@ -276,11 +276,10 @@ impl<'a, T: Drop, H: History<T>> Receiving<'a, T, H> {
         ensures kept { Keeps cx.old cx.new }
         ensures source { receive_source self.new ≡ receive_source self.old }
     {
-        let mut locked = locked;
-        let left = locked.take_left();
-        let answer = self.begin_held(locked, pass, cx);
-        self.shared.tell_left(left);
-        answer
+        match self.shared.catch_up_once(locked) {
+            Some(locked) => self.begin_held(locked, pass, cx),
+            None => self.retry(pass, cx),
+        }
     }
 
     /// Takes the front message, with the lock held and the notices applied; where there is none, the wait

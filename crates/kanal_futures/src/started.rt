@@ -9,6 +9,7 @@ ghost use Rattle.kanal_cell.specs.CellEnds.{wait_view};
 ghost use Rattle.kanal_core.specs.Tickets.{number_of};
 ghost use Rattle.kanal_events.specs.Made.{MustWait, may_wait};
 ghost use Rattle.kanal_history.specs.Makes.{HasReplied, HasWaited, IsReplied, SeesWait};
+ghost use Rattle.kanal_state.specs.Counts.{ticket_of};
 ghost use Rattle.kanal_channel.specs.Locks.{IsQuiet, line_under};
 ghost use Rattle.kanal_futures.specs.Tasks.{opened, source_of};
 
@@ -16,10 +17,10 @@ use crate::asks::{Asks, Opening};
 use crate::wakers::Wakers;
 use futures::task::{Context, Poll};
 use kanal_cell::signal::WaitEnd;
-use kanal_channel::{CountedWait, Delivered, Locked, Shared};
+use kanal_channel::{CountedWait, Delivered, Locked, Shared, WaitStart};
 use kanal_core::internal::{Outcome, Ticket};
 use kanal_events::event::{Event, Refusal, Reply};
-use kanal_events::made::{Kept, Tried};
+use kanal_events::made::Tried;
 use kanal_history::History;
 use std::marker::{Model, PhantomData};
 
@@ -69,18 +70,18 @@ impl<T: Drop, H: History<T>, M: Drop, A: Asks<T, M>> Started<T, H, M, A> {
     fn new(
         opening: Opening<H::Pass, M>,
         pass: H::Pass,
-        ticket: Ticket,
+        counted: CountedWait,
         end: WaitEnd<Delivered<T, H>>,
     ) -> Self
         requires unspent { HasNotLeft (wait_view end) }
         requires waits { IsReplied H.words opening.pass.value pass (A.event opening.asked.value)
-            (λ reply. reply) (Reply.Waits (number_of ticket)) }
+            (λ reply. reply) (Reply.Waits (number_of (ticket_of counted))) }
         ensures { result ≡ opened opening }
     {
         Started {
             opening,
             pass,
-            counted: CountedWait::new(ticket),
+            counted,
             end,
             asks: PhantomData,
         }
@@ -251,11 +252,11 @@ impl Wakers {
             locked.give_back_quiet();
             return Ok((opening, pass, event.refused(Refusal::NoMemory)));
         };
-        let (reply, kept) = locked.state.wait(shared.board(), &mut pass, event, seat);
+        let start = locked.state.wait(shared.board(), &mut pass, event, seat);
         locked.give_back_quiet();
-        match kept {
-            Kept::Ticket(ticket) => Err(Started::new(opening, pass, ticket, end)),
-            Kept::Back(seat) => {
+        match start {
+            WaitStart::Waits(counted) => Err(Started::new(opening, pass, counted, end)),
+            WaitStart::Refused(reply, seat) => {
                 drop(seat);
                 Ok((opening, pass, reply))
             },

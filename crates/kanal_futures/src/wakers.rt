@@ -83,8 +83,8 @@ impl Wakers {
             return false;
         };
         let waits = locked.state.renew(ticket, &mut self.spare);
-        locked.release();
-        shared.tell_left(left);
+        let released = locked.release();
+        shared.tell_left(left, &released);
         shared.look();
         waits
     }

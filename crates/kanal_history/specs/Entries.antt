@@ -6,9 +6,8 @@ use Rattle.kanal_events.specs.declared.event.Event.TheVariants.{Send, TrySend, R
 use Rattle.kanal_events.specs.declared.event.Reply.TheVariants.{Got, Sent, Withdrawn, Yes}
 use Rattle.kanal_events.specs.declared.event.Reply.{Reply}
 use Rattle.kanal_events.specs.declared.made.Made.{Made}
-use Rattle.kanal_events.specs.declared.made.Owed.{Owed}
 use Rattle.kanal_events.specs.Steps.{MayRefuse, Told}
-use Rattle.kanal_events.specs.Made.{MustWait, cleared_of, drained_of, owed_by, reply_of, settled_of}
+use Rattle.kanal_events.specs.Made.{MustWait, cleared_of, drained_of, reply_of, settled_of}
 use Rattle.kanal_history.specs.declared.call.Call.{Call}
 
 module _ {T : Type 0} where
@@ -45,14 +44,6 @@ module _ {T : Type 0} where
   told_by line call = record { line = line; reply = call.reply; settled = call.settled; drained = call.drained; cleared = call.cleared }
 
 module _ {T W : Type 0} where
-  -- the call of a send that entered, or was handed to who is owed it
-  abbrev pub handed_entry : T → Option (Owed T W) → Call T
-  handed_entry m owed = record { event = Send m; reply = Sent; settled = owed_by owed; drained = []; cleared = [] }
-
-  -- the call of a receive that got this message, and let in the one of who is owed that
-  abbrev pub fetched_receipt : T → Option (Owed T W) → Call T
-  fetched_receipt m owed = record { event = Recv; reply = Got m; settled = owed_by owed; drained = []; cleared = [] }
-
   -- the call of this event, of which a step told this
   abbrev pub call_from : Event T → Made T W → Call T
   call_from event made =

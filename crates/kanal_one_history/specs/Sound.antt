@@ -50,10 +50,6 @@ module _ {T : Type 0} where
         settled_on = λ a b pair looks h. settled_longer a.log b.log pair looks.seen h;
       }
 
-  -- no call leaves a pass as it was: it has one place more
-  pub ghost_tells_calls : (capacity : Option ℕ) (pass : Known (Call T)) (call : Call T) → Makes capacity pass pass call → ⊥
-  ghost_tells_calls capacity pass call m = let more : length pass.own ≡ suc (length pass.own) = ap length m.own in omega (arith, more)
-
   cleans-on : (capacity : Option ℕ) (a b c : List (Call T)) (call : Call T) → IsPrefix a b → Cleans capacity b c call → Cleans capacity a c call
   cleans-on capacity a b c call looks m = record { before = m.before; seen = prefix_trans a b m.before looks m.seen; last = m.last; told = m.told }
 

@@ -9,7 +9,6 @@ ghost use Rattle.kanal_board.specs.Views.{known};
 
 use crate::pass::{Cleanup, Pass, Prefix};
 use kanal_board::{Board, EntryOf, Keeper, Naming, Opened};
-use kanal_channel::TellsCalls;
 use kanal_history::{Call, History};
 use std::marker::Model;
 
@@ -147,10 +146,4 @@ impl<T, J: Naming> History<T> for GhostHistory<T, J> {
     ghost cleans_sound = { cleanup_sound J.capacity };
 
     ghost tells_exchanges = { ghost_exchanges J.capacity };
-}
-
-impl<T, J: Naming> TellsCalls<T> for GhostHistory<T, J> {
-    ghost use Rattle.kanal_one_history.specs.Sound.{ghost_tells_calls};
-
-    ghost tells_calls = { ghost_tells_calls J.capacity };
 }

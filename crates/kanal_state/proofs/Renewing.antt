@@ -9,9 +9,7 @@ use Rattle.kanal_core.specs.declared.internal.outcome.Waiter.{Waiter}
 use Rattle.kanal_core.specs.Channel.{Channel, line_of, entry_of, demand_of}
 use Rattle.kanal_core.specs.Line.{bare}
 use Rattle.kanal_core.specs.Waiters.{same_ticket, waiter_of, with_w}
-use Rattle.kanal_history.specs.declared.history.History.{Ghosts}
-use Rattle.kanal_state.specs.Renewing.{Renews, Swaps}
-use Rattle.kanal_state.specs.declared.seat.Seat.{Seat}
+use Rattle.kanal_state.specs.Renewing.{Brought, Renews, Swaps}
 
 module _ {T W : Type 0} where
   -- what is read of waiters without their W is read alike where one has another W
@@ -38,7 +36,7 @@ module _ {T W : Type 0} (t : Ticket) (old : List (Waiter T W)) (was now : W) (Q 
       (now, refl, subst (λ v. P v now) same holds)
 
 -- who waits with the ticket brought a seat that swapped its waker
-pub renews : {T H P B S C : Type 0} {G : Ghosts H T P B S C} (t : Ticket) (spare after : Option Waker) (old : List (Waiter T (Seat T H P B S C G))) (was now : Seat T H P B S C G)
+pub renews : {T : Type 0} (t : Ticket) (spare after : Option Waker) (old : List (Waiter T Brought)) (was now : Brought)
     → Some was ≡ option_map (λ w. w.w) (waiter_of t old) → Swaps spare was now after → Renews t spare old (with_w t now old) after
 renews t spare after old was now e swaps =
     found t old was now ((with_w t now old ≡ old) × (after ≡ spare)) (λ a b. Swaps spare a b after) (waiter_of t old) e swaps

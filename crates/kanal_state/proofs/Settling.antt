@@ -18,7 +18,7 @@ use Rattle.kanal_events.specs.declared.made.Owed.{Owed}
 use Rattle.kanal_core.specs.Line.{Line}
 use Rattle.kanal_history.specs.Calls.{IsIn, IsTold}
 use Rattle.kanal_events.specs.Made.{settled_of, reply_of}
-use Rattle.kanal_history.specs.Entries.{MayLack, call_from, entry, fetched_receipt, handed_entry, receipt, tried_entry, tried_receipt}
+use Rattle.kanal_history.specs.Entries.{MayLack, call_from, entry, receipt, tried_entry, tried_receipt}
 use Rattle.kanal_history.specs.Words.{Words, AreSound, HaveSettled, HaveShown}
 use Rattle.kanal_history.specs.Handles.{TriesToReceive, TriesToSend}
 use Rattle.kanal_history.specs.Makes.{Lacks, IsReplied, HasWaited, IsKept, IsNoted, IsAnswered, HasReplied, Finishes, Comes, SeesWait}
@@ -143,20 +143,6 @@ module _ {T P : Type 0} (w : Words T P) where
   -- the message was got
   pub received_at_once : (old new : P) (m : T) → w.makes old new (receipt m) → IsTold (receipt m) → Finishes w old new Recv received_by received_after (Err ReceiveNoMemory) (Ok m)
   received_at_once old new m made told = inl (record { replied = record { call = receipt m; made = made; asked = refl; reads = refl; told = told }; clear = λ waits. waits })
-
-  -- it entered or was handed over, and who is owed it was told
-  pub handed_at_once : {W : Type 0} (old mid new : P) (m : T) (owed : Option (Owed T W)) → w.makes old mid (handed_entry m owed) → IsTold (handed_entry m owed) → new ≡ mid
-      → Finishes w old new (Send m) sent_by sent_after (Err SendNoMemory) (Ok tt)
-  handed_at_once old mid new m owed made told same =
-      subst (λ (k : P). Finishes w old k (Send m) sent_by sent_after (Err SendNoMemory) (Ok tt)) (sym same)
-      (inl (record { replied = record { call = handed_entry m owed; made = made; asked = refl; reads = refl; told = told }; clear = λ waits. waits }))
-
-  -- the message was got, and who is owed that was told
-  pub fetched_at_once : {W : Type 0} (old mid new : P) (m : T) (owed : Option (Owed T W)) → w.makes old mid (fetched_receipt m owed) → IsTold (fetched_receipt m owed) → new ≡ mid
-      → Finishes w old new Recv received_by received_after (Err ReceiveNoMemory) (Ok m)
-  fetched_at_once old mid new m owed made told same =
-      subst (λ (k : P). Finishes w old k Recv received_by received_after (Err ReceiveNoMemory) (Ok m)) (sym same)
-      (inl (record { replied = record { call = fetched_receipt m owed; made = made; asked = refl; reads = refl; told = told }; clear = λ waits. waits }))
 
   -- a send that goes on with what came back, and with the pass as it was
   pub sent_from : (old mid new : P) (m back : T) (answer : Result (Unit {0}) SendError) → back ≡ m → mid ≡ old → Finishes w mid new (Send back) sent_by sent_after (Err SendNoMemory) answer → Finishes w old new (Send m) sent_by sent_after (Err SendNoMemory) answer

@@ -1,2 +1,4 @@
 pub mod Counts
 pub mod Renewing
+pub mod Seats
+pub mod Waits

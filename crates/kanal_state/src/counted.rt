@@ -1,31 +1,33 @@
-//! That a handle is counted, and that a future waits: tokens of no bytes, each of which has to be counted out.
+//! That a handle is counted, and that a call waits: tokens of no bytes, each of which has to be counted out.
 //!
-//! Stands on the kit's tag. The prover refuses to let one go. A sender's is counted out by evidence that its
-//! drop was made as a call of nobody's, or into the notices of its own kind. Who takes the notices
-//! has the tokens again: each of those that left by notice is counted out by a call, or put back. Nothing
-//! else makes a handle's token but a new channel, and the state, by evidence that a call counted one more.
+//! Stands on the kit's tag. The prover refuses to let one go. A handle's is counted out by evidence that its
+//! drop was made as a call of nobody's, or into its channel's notices; a wait's by evidence of what became of
+//! it, or into the notices. Who takes the notices has the handles' tokens again. Nothing else makes a handle's
+//! token but a new channel, and the state, by evidence that a call counted one more; nothing makes a wait's
+//! but the state, which hands it out where it starts the wait.
 ghost use Rattle.std.specs.Prelude.{◌≡◌, false, Ok};
-ghost use Rattle.kanal_core.specs.Tickets.{number_of};
 ghost use Rattle.kanal_core.specs.Channel.{line_of};
+ghost use Rattle.kanal_core.specs.Tickets.{number_of};
 ghost use Rattle.kanal_core.specs.Waiters.{IsPlaced};
 ghost use Rattle.kanal_events.specs.Made.{not_waiting};
 ghost use Rattle.kanal_events.specs.Steps.{Tells};
 ghost use Rattle.kanal_history.specs.Entries.{call_from, withdrawal};
-ghost use Rattle.kanal_history.specs.Handles.{CountsReceiver, CountsSender};
-ghost use Rattle.kanal_state.specs.Counts.{has_receiver, has_sender, has_wait, ticket_of};
+ghost use Rattle.kanal_history.specs.Makes.{IsReplied};
+ghost use Rattle.kanal_history.specs.Results.{counted_by};
+ghost use Rattle.kanal_state.specs.Counts.{is_counted, one_less, one_more, ticket_of, waits};
 
 mod notices;
 
 use crate::delivered::Delivered;
 use crate::seat::Core;
+use crate::side::{OfSide, ReceiveSide, SendSide};
 use boxcar::tag::{Names, Tag};
 use kanal_core::internal::{Ticket, Waiter};
 use kanal_events::event::Event;
 use kanal_events::made::Made;
 use kanal_history::History;
-pub use notices::{
-    GoneReceivers, GoneSenders, GoneWaits, ReceiverNotices, SenderNotices, WaitNotices, emptied,
-};
+pub use notices::{GoneHandles, GoneWaits, Notices};
+use std::marker::PhantomData;
 use std::snapshot::Snapshot;
 
 /// What a token is made of: the kit's tag, which has no bytes, goes to other threads and is shared by them,
@@ -46,103 +48,63 @@ fn stands() -> Stands {
     Tag::of::<(), Standing>(&())
 }
 
-/// A sender that is counted.
-pub struct CountedSender {
+/// A handle of a side that is counted.
+pub struct Counted<S> {
     stands: Stands,
+    side: PhantomData<S>,
 }
+
+/// A sender that is counted.
+pub type CountedSender = Counted<SendSide>;
 
 /// A receiver that is counted.
-pub struct CountedReceiver {
-    stands: Stands,
-}
+pub type CountedReceiver = Counted<ReceiveSide>;
 
-impl Drop for CountedSender {
+impl<S> Drop for Counted<S> {
     fn drop(self)
-        requires counted_out { has_sender self ≡ false }
+        requires counted_out { is_counted self ≡ false }
     {
-        let CountedSender { stands } = self;
+        let Counted { stands, side: _ } = self;
         drop(stands);
     }
 }
 
-impl Drop for CountedReceiver {
-    fn drop(self)
-        requires counted_out { has_receiver self ≡ false }
-    {
-        let CountedReceiver { stands } = self;
-        drop(stands);
-    }
-}
-
-impl CountedSender {
-    /// One sender more.
+impl<S> Counted<S> {
+    /// One handle more.
     fn new() -> Self {
-        CountedSender { stands: stands() }
+        Counted {
+            stands: stands(),
+            side: PhantomData,
+        }
     }
 
-    /// Counts a sender in: a call of this pass counted one more. The state alone calls this, once a call.
+    /// Counts the handle out into the notices of its side, which alone call this.
+    fn notice(self) {
+        let Counted { stands, side: _ } = self;
+        drop(stands);
+    }
+}
+
+impl<S: OfSide> Counted<S> {
+    /// Counts a handle in: a call of this pass counted one more. The state alone calls this, once a call.
     pub(crate) fn count_in<T, H: History<T>>(before: &Snapshot<H::Pass>, after: &H::Pass) -> Self
-        requires made { CountsSender H.words before.now.value after.now (Ok tt) }
+        requires made { IsReplied H.words before.now.value after.now (one_more S.side) counted_by (Ok tt) }
     {
         let _ = before;
         let _ = after;
-        CountedSender::new()
+        Counted::new()
     }
 
-    /// Counts the sender out into the notices of its kind, which alone call this.
-    fn notice(self) {
-        let CountedSender { stands } = self;
-        drop(stands);
-    }
-
-    /// Counts the sender out: its drop was made as a call of nobody's.
+    /// Counts the handle out: its drop was made as a call of nobody's.
     pub(crate) fn count_out<T, W, H: History<T>>(
         self,
         before: &Snapshot<H::Cleanup>,
         after: &H::Cleanup,
         made: &Made<T, W>,
     )
-        requires made { H.cleans.makes before.now.value after.now (call_from Event.DropTx made.now) }
+        requires made { H.cleans.makes before.now.value after.now (call_from (one_less S.side) made.now) }
     {
-        let CountedSender { stands } = self;
-        let _ = before;
-        let _ = after;
-        let _ = made;
-        drop(stands);
-    }
-}
-
-impl CountedReceiver {
-    /// One receiver more.
-    fn new() -> Self {
-        CountedReceiver { stands: stands() }
-    }
-
-    /// Counts a receiver in: a call of this pass counted one more. The state alone calls this, once a call.
-    pub(crate) fn count_in<T, H: History<T>>(before: &Snapshot<H::Pass>, after: &H::Pass) -> Self
-        requires made { CountsReceiver H.words before.now.value after.now (Ok tt) }
-    {
-        let _ = before;
-        let _ = after;
-        CountedReceiver::new()
-    }
-
-    /// Counts the receiver out into the notices of its kind, which alone call this.
-    fn notice(self) {
-        let CountedReceiver { stands } = self;
-        drop(stands);
-    }
-
-    /// Counts the receiver out: its drop was made as a call of nobody's.
-    pub(crate) fn count_out<T, W, H: History<T>>(
-        self,
-        before: &Snapshot<H::Cleanup>,
-        after: &H::Cleanup,
-        made: &Made<T, W>,
-    )
-        requires made { H.cleans.makes before.now.value after.now (call_from Event.DropRx made.now) }
-    {
-        let CountedReceiver { stands } = self;
+        let Counted { stands, side: _ } = self;
         let _ = before;
         let _ = after;
         let _ = made;
@@ -168,13 +130,12 @@ impl FirstHandles {
     /// ```
     pub fn into_tokens(self) -> (CountedSender, CountedReceiver) {
         let FirstHandles(()) = self;
-        (CountedSender::new(), CountedReceiver::new())
+        (Counted::new(), Counted::new())
     }
 }
 
-/// That a future waits with this ticket. It is counted out by evidence that a call of nobody's took the wait
-/// back, that nobody waits with the ticket, or that the future was told what became of the wait; or into the
-/// notices of its kind.
+/// That a call waits with this ticket. It is counted out by evidence that a call took the wait back, that
+/// nobody waits with the ticket, or that who waits was told what became of the wait; or into the notices.
 pub struct CountedWait {
     ticket: Ticket,
     stands: Stands,
@@ -182,7 +143,7 @@ pub struct CountedWait {
 
 impl Drop for CountedWait {
     fn drop(self)
-        requires counted_out { has_wait self ≡ false }
+        requires counted_out { waits self ≡ false }
     {
         let CountedWait { ticket: _, stands } = self;
         drop(stands);
@@ -190,8 +151,8 @@ impl Drop for CountedWait {
 }
 
 impl CountedWait {
-    /// One wait more.
-    pub fn new(ticket: Ticket) -> Self
+    /// One wait more. The state alone calls this, once a wait that it starts.
+    pub(crate) fn new(ticket: Ticket) -> Self
         ensures ticket { ticket_of result ≡ ticket }
     {
         CountedWait {
@@ -201,15 +162,38 @@ impl CountedWait {
     }
 
     /// The ticket.
+    ///
+    /// # Examples
+    /// ```text
+    /// counted.ticket().number()   answers  0   for the first that waits
+    /// ```
+    #[inline]
     pub fn ticket(&self) -> Ticket
         ensures { result ≡ ticket_of self.now }
     {
         self.ticket
     }
 
-    /// Counts the wait out into the notices of its kind, which alone call this.
+    /// Counts the wait out into the notices, which alone call this.
     fn notice(self) {
         let CountedWait { ticket: _, stands } = self;
+        drop(stands);
+    }
+
+    /// Counts the wait out: a call of its pass took it back.
+    pub(crate) fn withdrawn<T, W, H: History<T>>(
+        self,
+        before: &Snapshot<H::Pass>,
+        after: &H::Pass,
+        waiter: &Waiter<T, W>,
+    )
+        requires made { H.words.makes before.now.value after.now
+            (withdrawal (number_of (ticket_of self)) waiter.now.message) }
+    {
+        let CountedWait { ticket: _, stands } = self;
+        let _ = before;
+        let _ = after;
+        let _ = waiter;
         drop(stands);
     }
 
@@ -240,7 +224,15 @@ impl CountedWait {
         drop(stands);
     }
 
-    /// Counts the wait out: this became of it, and the future was told.
+    /// Counts the wait out: this became of it, and who waits was told.
+    ///
+    /// # Examples
+    /// ```text
+    /// if delivered.ticket() == counted.ticket().number() {
+    ///     counted.told(&delivered);
+    /// }
+    /// ```
+    #[inline]
     pub fn told<T, H: History<T>>(self, delivered: &Delivered<T, H>)
         requires told { delivered.now.0 ≡ number_of (ticket_of self) }
     {

@@ -4,10 +4,10 @@
 //! into the type: what comes along has it that a call settled this ticket so.
 ghost use Rattle.std.specs.Prelude.{◌≡◌, Some};
 ghost use Rattle.kanal_cell.specs.CellRule.{HasNotSettled};
-ghost use Rattle.kanal_cell.specs.CellEnds.{kept_waker, settle_view};
+ghost use Rattle.kanal_cell.specs.CellEnds.{HasSettled, StaysAtCell, kept_waker, settle_view};
 
 use futures::task::Waker;
-use kanal_cell::signal::SettleEnd;
+use kanal_cell::signal::{SettleEnd, Settlement};
 use kanal_core::internal::Outcome;
 use kanal_history::History;
 use std::marker::Model;
@@ -88,21 +88,27 @@ impl<T: Drop, H: History<T>> Settler<T, H> {
     /// Over an end that has not settled.
     pub(crate) fn new(end: SettleEnd<Delivered<T, H>>) -> Self
         requires { HasNotSettled (settle_view end) }
+        ensures { result.end ≡ end }
     {
         Settler { end }
     }
 
-    /// Hands over what became of the wait; what comes back, since the waiter has left, is let go.
-    pub(crate) fn settle(self, delivered: Delivered<T, H>) {
+    /// Hands over what became of the wait, and shows that; what comes back, since the waiter has left, is let
+    /// go.
+    pub(crate) fn settle(self, delivered: Delivered<T, H>) -> Settlement<Delivered<T, H>>
+        ensures told { HasSettled result self.end delivered }
+    {
         let Settler { mut end } = self;
-        let back = end.settle(delivered);
+        let (settlement, back) = end.hand_over(delivered);
         drop(back);
+        settlement
     }
 
     /// Keeps the waker for the settling, and answers the one that was kept.
     pub(crate) fn set_waker(&mut self, waker: Waker) -> Option<Waker>
         ensures displaced { result ≡ kept_waker self.old.end }
         ensures kept { kept_waker self.new.end ≡ Some waker }
+        ensures cell { StaysAtCell self.old.end self.new.end }
     {
         self.end.set_waker(waker)
     }

@@ -3,21 +3,23 @@
 //!
 //! Stands on the one set of steps of `kanal_events`, on `kanal_history` for what is kept of the calls, and on
 //! `kanal_cell` for what a wait is settled by. A call lends the core to one step and has the call kept; a handle
-//! and a future's wait are counted by tokens, which are counted out by evidence of a call, or into the notices.
+//! and a wait are counted by tokens, which are counted out by evidence of a call, or into the notices.
 //! Nothing here takes the lock, waits, or tells a waiter: `kanal_channel` does, with what leaves the core.
 #![tactic(auto)]
 
 mod counted;
 mod delivered;
+mod released;
 mod seat;
+mod side;
 mod state;
-mod telling;
 
 pub use counted::{
-    CountedReceiver, CountedSender, CountedWait, FirstHandles, GoneReceivers, GoneSenders,
-    GoneWaits, ReceiverNotices, SenderNotices, WaitNotices, emptied,
+    Counted, CountedReceiver, CountedSender, CountedWait, FirstHandles, GoneHandles, GoneWaits,
+    Notices,
 };
 pub use delivered::Delivered;
+pub use released::Released;
 pub use seat::{Core, Leavers, Seat};
-pub use state::{Gone, State, ends};
-pub use telling::TellsCalls;
+pub use side::{OfSide, ReceiveSide, SendSide};
+pub use state::{Gone, State, WaitStart, ends};

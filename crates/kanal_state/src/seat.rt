@@ -3,22 +3,25 @@
 //!
 //! Stands on the settling end and on the kit's linked list. What leaves the core is told or let go only after
 //! the lock was released.
-ghost use Rattle.std.specs.Prelude.{◌≡◌, ◌<◌, ◌^◌, suc, length};
+ghost use Rattle.std.specs.Prelude.{◌≡◌, ◌<◌, ◌^◌, None, false, is_some, length, true, IfSome};
 ghost use Rattle.kanal_cell.specs.CellRule.{HasNotSettled};
-ghost use Rattle.kanal_cell.specs.CellEnds.{settle_view};
+ghost use Rattle.kanal_cell.specs.CellEnds.{kept_waker, settle_cell, settle_view};
 ghost use Rattle.kanal_state.specs.Renewing.{Swaps};
+ghost use Rattle.kanal_state.specs.Seats.{IsKept, IsTold};
 
 mod room;
 
 use crate::delivered::{Delivered, Settler};
+use crate::released::Released;
 use futures::task::Waker;
-use kanal_cell::signal::SettleEnd;
+use kanal_cell::signal::{SettleEnd, Settlement};
 use kanal_core::internal::{ChannelInternal, Outcome, Waiter};
 use kanal_events::made::Waits;
 use kanal_history::History;
 pub use room::{Leaver, Leavers, Room};
 use std::alloc::Global;
 use std::collections::LinkedList;
+use std::marker::Model;
 
 /// The core of a channel whose waiters bring seats.
 pub type Core<T, H> = ChannelInternal<T, Seat<T, H>>;
@@ -32,25 +35,48 @@ pub struct Seat<T, H: History<T>> {
     room: Option<Room<T, H>>,
 }
 
+impl<T, H: History<T>> Model for Seat<T, H> {
+    ghost use Rattle.std.specs.Prelude.{is_some};
+    ghost use Rattle.kanal_cell.specs.CellEnds.{kept_waker, settle_cell};
+    ghost use Rattle.kanal_state.specs.Renewing.{Brought};
+
+    ghost Value = { Brought };
+
+    ghost view = { λ s. record { cell = settle_cell s.settler.end; waker = kept_waker s.settler.end; has_room = is_some s.room } };
+}
+
 impl<T: Drop, H: History<T>> Waits<T> for Seat<T, H> {
     type Seen = H::Prefix;
 
+    type Evidence = Settlement<Delivered<T, H>>;
+
+    type Released = Released;
+
     ghost shows = { H.shows };
 
-    fn tell(self, ticket: u64, outcome: Outcome<T>, seen: H::Prefix)
+    ghost tells = { IsTold };
+
+    fn tell(
+        self,
+        ticket: u64,
+        outcome: Outcome<T>,
+        seen: H::Prefix,
+        _released: &Released,
+    ) -> Settlement<Delivered<T, H>>
         requires seen { H.shows seen (ticket, outcome) }
+        ensures told { IsTold result self (ticket, outcome) }
     {
         let Seat { settler, room } = self;
-        settler.settle(Delivered::new(ticket, outcome, seen));
         drop(room);
+        settler.settle(Delivered::new(ticket, outcome, seen))
     }
 }
 
 impl<T: Drop, H: History<T>> Room<T, H> {
-    /// Keeps the entry that left, in front of those that left before.
+    /// Keeps the entry that left, with its message and its cell, in front of those that left before.
     pub(crate) fn keep(self, waiter: Waiter<T, Seat<T, H>>, before: Leavers<T, H>) -> Leavers<T, H>
         requires few { length before < 2 ^ 62 }
-        ensures one { length result ≡ suc (length before) }
+        ensures kept { IsKept waiter before result }
     {
         let Room { mut place } = self;
         let Waiter {
@@ -78,6 +104,9 @@ impl<T: Drop, H: History<T>> Seat<T, H> {
     /// The seat of a blocked call, over an end that has not settled.
     pub(crate) fn of_call(end: SettleEnd<Delivered<T, H>>) -> Self
         requires { HasNotSettled (settle_view end) }
+        ensures cell { result.cell ≡ settle_cell end }
+        ensures waker { result.waker ≡ kept_waker end }
+        ensures room { result.has_room ≡ false }
     {
         Seat {
             settler: Settler::new(end),
@@ -94,6 +123,9 @@ impl<T: Drop, H: History<T>> Seat<T, H> {
     /// ```
     pub fn of_task(alloc: Global, end: SettleEnd<Delivered<T, H>>) -> Option<Self>
         requires { HasNotSettled (settle_view end) }
+        ensures cell { IfSome result (λ seat. seat.cell ≡ settle_cell end) }
+        ensures waker { IfSome result (λ seat. seat.waker ≡ kept_waker end) }
+        ensures room { IfSome result (λ seat. seat.has_room ≡ true) }
     {
         let mut place = LinkedList::new(alloc);
         place.push_back(None).ok()?;
@@ -118,12 +150,17 @@ impl<T: Drop, H: History<T>> Seat<T, H> {
     }
 
     /// Takes the room, if it has one.
-    pub(crate) fn take_room(&mut self) -> Option<Room<T, H>> {
+    pub(crate) fn take_room(&mut self) -> Option<Room<T, H>>
+        ensures taken { is_some result ≡ self.old.has_room }
+        ensures stays { self.new ≡ record self.old { has_room = false } }
+    {
         self.room.take()
     }
 
     /// Whether the waiter has left, and its entry has a room to be kept in.
-    pub(crate) fn is_left(&self) -> bool {
+    pub(crate) fn is_left(&self) -> bool
+        ensures room { result ≡ true → self.now.has_room ≡ true }
+    {
         self.room.is_some() && self.settler.is_left()
     }
 }

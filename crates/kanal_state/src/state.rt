@@ -2,40 +2,42 @@
 //!
 //! Stands on the one set of steps. Each call lends the core to one step and has the call that was made kept,
 //! before the lock is given back; a call that is refused for memory is not kept. Nothing else changes a core.
-ghost use Rattle.std.specs.Prelude.{◌≡◌, ◌↔◌, ◌==◌, ◌++◌, true, false, not, IsSome, IfErr, IfNone, IfOk, IfSome, OnOk};
+ghost use Rattle.std.specs.Prelude.{◌≡◌, ◌↔◌, ◌==◌, ◌++◌, true, false, not, None, Some, IsSome, IfErr, IfNone, IfOk, IfSome, OnOk};
 ghost use Rattle.std.specs.Vec.{vec_capacity, vec_len};
-ghost use Rattle.kanal_cell.specs.CellEnds.{wait_view};
+ghost use Rattle.kanal_cell.specs.CellEnds.{wait_cell, wait_view};
 ghost use Rattle.kanal_cell.specs.CellRule.{MaySleep};
 ghost use Rattle.kanal_core.specs.Channel.{line_of};
 ghost use Rattle.kanal_core.specs.Line.{Line, last_word};
 ghost use Rattle.kanal_core.specs.Tickets.{number_of};
-ghost use Rattle.kanal_core.specs.Waiters.{waiter_of};
+ghost use Rattle.kanal_core.specs.Waiters.{waiter_of, without};
+ghost use Rattle.kanal_events.specs.Leaving.{Leave, LeaveTried, gone_of};
 ghost use Rattle.kanal_events.specs.Steps.{IsWait, Tells, is_no_memory, only};
-ghost use Rattle.kanal_events.specs.Made.{Keeps, MustWait, Tries, drained_of, entered, got, is_drained, is_plain, may_wait, reply_of, told_of, withdrawn};
+ghost use Rattle.kanal_events.specs.Made.{MustWait, Tries, drained_of, entered, got, is_drained, is_plain, may_wait, reply_of, told_of, withdrawn};
 ghost use Rattle.kanal_history.specs.Calls.{IsTold};
-ghost use Rattle.kanal_history.specs.Entries.{entry, fetched_receipt, handed_entry, receipt, replied, told_by, tried_entry, tried_receipt, withdrawal};
+ghost use Rattle.kanal_history.specs.Entries.{entry, receipt, replied, told_by, tried_entry, tried_receipt, withdrawal};
 ghost use Rattle.kanal_history.specs.Makes.{HasTooLittleRoom, IsKept, IsNoted, IsTried};
-ghost use Rattle.kanal_state.specs.Counts.{counts_handle};
+ghost use Rattle.kanal_state.specs.Counts.{count_of, counts_handle, ticket_of};
 ghost use Rattle.kanal_state.specs.Renewing.{Renews};
+ghost use Rattle.kanal_state.specs.Waits.{HasStarted, Joins, reply_at};
 
 mod counting;
 mod keeping;
 mod leaving;
 
-use crate::counted::FirstHandles;
+use crate::counted::{CountedWait, FirstHandles, Notices};
 use crate::delivered::Delivered;
 use crate::seat::{Core, Seat};
 use futures::task::Waker;
 use kanal_cell::signal;
 use kanal_cell::signal::WaitEnd;
 use kanal_core::internal::{Ticket, Waiter};
-use kanal_events::event::{Event, Refusal, Reply};
-use kanal_events::made::{Answered, Kept, Made, Owed, Tried};
+use kanal_events::event::{Event, Refusal, Reply, Side};
+use kanal_events::made::{Answered, Kept, Made, Tried};
 use kanal_events::steps;
 use kanal_history::History;
 use keeping::{
-    Asked, OfAnswer, OfCall, OfEntry, OfFetch, OfHandOver, OfReceipt, OfReply, OfTriedEntry,
-    OfTriedReceipt, OfWithdrawal, note, note_made,
+    Asked, OfAnswer, OfCall, OfEntry, OfReceipt, OfReply, OfTriedEntry, OfTriedReceipt,
+    OfWithdrawal, note, note_made,
 };
 pub use leaving::Gone;
 use std::alloc::Global;
@@ -43,7 +45,7 @@ use std::marker::Model;
 use std::snapshot::Snapshot;
 
 /// The core, the history of the calls on its line, and what makes the calls that are nobody's: of a handle
-/// that is gone, or of a wait that was left. Contracts see what makes those, and the line.
+/// that is gone, or of a wait that was left. Contracts see what makes those, the line, and who waits with what.
 ///
 /// Its type keeps that what is kept led to that line.
 #[derive(Drop)]
@@ -55,13 +57,24 @@ pub struct State<T, H: History<T>> {
 
 impl<T, H: History<T>> Model for State<T, H> {
     ghost use Rattle.kanal_core.specs.Channel.{line_of};
+    ghost use Rattle.std.specs.Prelude.{List};
     ghost use Rattle.kanal_core.specs.Line.{Line};
+    ghost use Rattle.kanal_core.specs.declared.internal.outcome.Waiter.{Waiter};
+    ghost use Rattle.kanal_state.specs.Renewing.{Brought};
 
-    ghost Value = { H.Cleanup × Line T };
+    ghost Value = { H.Cleanup × Line T × List (Waiter T Brought) };
 
-    ghost view = { λ s. (s.cleanup, line_of s.core) };
+    ghost view = { λ s. (s.cleanup, line_of s.core, s.core.waiters) };
 
     ghost invariant = { λ s. H.stands s.history (line_of s.core) };
+}
+
+/// What the start of a wait came to.
+pub enum WaitStart<T, H: History<T>> {
+    /// The call waits. That has to be counted out.
+    Waits(CountedWait),
+    /// It was refused so, and the seat that it brought is back.
+    Refused(Reply<T>, Seat<T, H>),
 }
 
 /// What a blocked call waits with: the end at which it is told, and the seat for the core. `None` where
@@ -74,6 +87,7 @@ impl<T, H: History<T>> Model for State<T, H> {
 #[inline]
 pub fn ends<T: Drop, H: History<T>>(alloc: Global) -> Option<(WaitEnd<Delivered<T, H>>, Seat<T, H>)>
     ensures fresh { IfSome result (λ ends. MaySleep (wait_view ends.0)) }
+    ensures cell { IfSome result (λ ends. ends.1.cell ≡ wait_cell ends.0) }
 {
     let (end, settling) = signal::new(alloc).ok()?;
     Some((end, Seat::of_call(settling)))
@@ -142,6 +156,27 @@ impl<T: Drop, H: History<T>> State<T, H> {
         (State::new(core, history, cleanup), FirstHandles::new())
     }
 
+    /// The channel goes, with its notices.
+    ///
+    /// # Examples
+    /// ```text
+    /// mutex.into_inner().end(notices);
+    /// ```
+    pub fn end(self, notices: Notices) {
+        notices.end();
+        drop(self);
+    }
+
+    /// How many handles a side has.
+    fn count_of(&self, side: Side) -> u32
+        ensures { result ≡ count_of side self.now.1 }
+    {
+        match side {
+            Side::Tx => self.core.sender_count(),
+            Side::Rx => self.core.receiver_count(),
+        }
+    }
+
     /// Makes a call that never waits, and counts no handle.
     ///
     /// # Examples
@@ -158,6 +193,7 @@ impl<T: Drop, H: History<T>> State<T, H> {
         requires uncounted { counts_handle event ≡ false }
         ensures noted { IsNoted H.words pass.old pass.new event result }
         ensures step { Tells self.old.1 event (told_of self.new.1 result) }
+        ensures leave { Leave self.old.2 (gone_of result) self.new.2 }
         ensures cleanup { self.new.0 ≡ self.old.0 }
     {
         self.make(board, pass, event)
@@ -168,6 +204,7 @@ impl<T: Drop, H: History<T>> State<T, H> {
         requires plain { is_plain event ≡ true }
         ensures noted { IsNoted H.words pass.old pass.new event result }
         ensures step { Tells self.old.1 event (told_of self.new.1 result) }
+        ensures leave { Leave self.old.2 (gone_of result) self.new.2 }
         ensures cleanup { self.new.0 ≡ self.old.0 }
     {
         let asked = Snapshot::of(&event);
@@ -184,6 +221,7 @@ impl<T: Drop, H: History<T>> State<T, H> {
         ensures refused { IfErr result (λ back. (back ≡ message) × (pass.new ≡ pass.old)) }
         ensures step { OnOk result (Tells self.old.1 (Event.Send message) (entered self.new.1)) }
         ensures same { IfErr result (λ _. self.new.1 ≡ self.old.1) }
+        ensures waiters { self.new.2 ≡ self.old.2 }
         ensures cleanup { self.new.0 ≡ self.old.0 }
     {
         let asked = Snapshot::of(&message);
@@ -201,66 +239,13 @@ impl<T: Drop, H: History<T>> State<T, H> {
         ensures refused { IfNone result (pass.new ≡ pass.old) }
         ensures step { IfSome result (λ m. Tells self.old.1 Event.Recv (got m self.new.1)) }
         ensures same { IfNone result (self.new.1 ≡ self.old.1) }
+        ensures waiters { self.new.2 ≡ self.old.2 }
         ensures cleanup { self.new.0 ≡ self.old.0 }
     {
         let message = steps::pop(&mut self.core)?;
         let history = &mut self.history;
         history.append::<T, (), OfReceipt>(board, pass, &message, &());
         Some(message)
-    }
-
-    /// Makes a send whose message enters, or is handed to a receiver that waits, and answers who is owed it;
-    /// where neither can be so nothing changes.
-    ///
-    /// # Examples
-    /// ```text
-    /// locked.state.hand(board, &mut pass, 7)   answers  Ok(None)   where nobody waits and there is a place
-    /// ```
-    #[inline(always)]
-    pub fn hand(
-        &mut self,
-        board: &H::Board,
-        pass: &mut H::Pass,
-        message: T,
-    ) -> Result<Option<Owed<T, Seat<T, H>>>, T>
-        ensures made { IfOk result (λ owed. H.words.makes pass.old pass.new
-            (handed_entry message owed)) }
-        ensures told { IfOk result (λ owed. IsTold (handed_entry message owed)) }
-        ensures refused { IfErr result (λ back. (back ≡ message) × (pass.new ≡ pass.old)) }
-        ensures cleanup { self.new.0 ≡ self.old.0 }
-    {
-        let asked = Snapshot::of(&message);
-        let owed = steps::hand(&mut self.core, message)?;
-        let history = &mut self.history;
-        history.append::<Snapshot<T>, Option<Owed<T, Seat<T, H>>>, OfHandOver>(
-            board, pass, &asked, &owed,
-        );
-        Ok(owed)
-    }
-
-    /// Makes a receive that gets the front message, and answers who is owed that, if a sender that waited was
-    /// let in; where there is no message so nothing changes.
-    ///
-    /// # Examples
-    /// ```text
-    /// locked.state.fetch(board, &mut pass)   answers  None   in a new channel
-    /// ```
-    #[inline(always)]
-    pub fn fetch(
-        &mut self,
-        board: &H::Board,
-        pass: &mut H::Pass,
-    ) -> Option<(T, Option<Owed<T, Seat<T, H>>>)>
-        ensures made { IfSome result (λ r. H.words.makes pass.old pass.new
-            (fetched_receipt r.0 r.1)) }
-        ensures told { IfSome result (λ r. IsTold (fetched_receipt r.0 r.1)) }
-        ensures refused { IfNone result (pass.new ≡ pass.old) }
-        ensures cleanup { self.new.0 ≡ self.old.0 }
-    {
-        let (message, owed) = steps::fetch(&mut self.core)?;
-        let history = &mut self.history;
-        history.append::<T, Option<Owed<T, Seat<T, H>>>, OfFetch>(board, pass, &message, &owed);
-        Some((message, owed))
     }
 
     /// Makes the send of a call that doesn't wait, where the message enters and nobody waits; where it doesn't
@@ -275,6 +260,7 @@ impl<T: Drop, H: History<T>> State<T, H> {
         ensures made { OnOk result (H.words.makes pass.old pass.new (tried_entry message)) }
         ensures told { OnOk result (IsTold (tried_entry message)) }
         ensures refused { IfErr result (λ back. (back ≡ message) × (pass.new ≡ pass.old)) }
+        ensures waiters { self.new.2 ≡ self.old.2 }
         ensures cleanup { self.new.0 ≡ self.old.0 }
     {
         let asked = Snapshot::of(&message);
@@ -296,6 +282,7 @@ impl<T: Drop, H: History<T>> State<T, H> {
         ensures made { IfSome result (λ m. H.words.makes pass.old pass.new (tried_receipt m)) }
         ensures told { IfSome result (λ m. IsTold (tried_receipt m)) }
         ensures refused { IfNone result (pass.new ≡ pass.old) }
+        ensures waiters { self.new.2 ≡ self.old.2 }
         ensures cleanup { self.new.0 ≡ self.old.0 }
     {
         let message = steps::pop(&mut self.core)?;
@@ -314,6 +301,7 @@ impl<T: Drop, H: History<T>> State<T, H> {
         requires waits { may_wait event ≡ true }
         ensures tried { IsTried H.words pass.old pass.new event result }
         ensures step { Tries self.old.1 event result self.new.1 }
+        ensures leave { LeaveTried self.old.2 result self.new.2 }
         ensures cleanup { self.new.0 ≡ self.old.0 }
     {
         let asked = Snapshot::of(&event);
@@ -368,6 +356,7 @@ impl<T: Drop, H: History<T>> State<T, H> {
         ensures made { IsKept H.words pass.old pass.new event (replied event result) }
         ensures clear { IsWait result → ⊥ }
         ensures step { Tells self.old.1 event (only self.new.1 result) }
+        ensures waiters { self.new.2 ≡ self.old.2 }
         ensures cleanup { self.new.0 ≡ self.old.0 }
     {
         let asked = Snapshot::of(&event);
@@ -377,7 +366,15 @@ impl<T: Drop, H: History<T>> State<T, H> {
         reply
     }
 
-    /// Starts the wait of a call that must, with the seat. It settles nobody.
+    /// Starts the wait of a call that must, with the seat. It settles nobody. The wait has to be counted out.
+    ///
+    /// # Examples
+    /// ```text
+    /// match locked.state.wait(board, &mut pass, Event::Recv, seat) {
+    ///     WaitStart::Waits(counted) => ..,
+    ///     WaitStart::Refused(reply, seat) => ..,
+    /// }
+    /// ```
     #[inline]
     pub fn wait(
         &mut self,
@@ -385,48 +382,60 @@ impl<T: Drop, H: History<T>> State<T, H> {
         pass: &mut H::Pass,
         event: Event<T>,
         seat: Seat<T, H>,
-    ) -> (Reply<T>, Kept<Seat<T, H>>)
+    ) -> WaitStart<T, H>
         requires waits { may_wait event ≡ true }
         requires must { MustWait self.old.1 event }
-        ensures made { IsKept H.words pass.old pass.new event (replied event result.0) }
-        ensures kept { Keeps result.0 result.1 }
-        ensures step { Tells self.old.1 event (only self.new.1 result.0) }
+        ensures started { HasStarted H.words pass.old pass.new event result }
+        ensures step { Tells self.old.1 event (only self.new.1 (reply_at result)) }
+        ensures joins { Joins self.old.2 event seat result self.new.2 }
         ensures cleanup { self.new.0 ≡ self.old.0 }
     {
         let asked = Snapshot::of(&event);
         let (reply, kept) = steps::wait(&mut self.core, event, seat);
         let lacks = reply.is_no_memory();
         note::<T, Reply<T>, OfReply, H>(&mut self.history, board, pass, &asked, &reply, lacks);
-        (reply, kept)
+        match kept {
+            Kept::Ticket(ticket) => WaitStart::Waits(CountedWait::new(ticket)),
+            Kept::Back(seat) => WaitStart::Refused(reply, seat),
+        }
     }
 
-    /// Takes the wait with this ticket back, if it waits; where it doesn't, nothing changes.
+    /// Takes this wait back, if it still waits; where it doesn't, nothing changes, and it is still to be counted
+    /// out.
     ///
     /// # Examples
     /// ```text
-    /// locked.state.withdraw(board, &mut pass, ticket)   answers  None   where its wait was settled
+    /// locked.state.withdraw(board, &mut pass, counted)   answers  Err(counted)   where its wait was settled
     /// ```
     pub fn withdraw(
         &mut self,
         board: &H::Board,
         pass: &mut H::Pass,
-        ticket: Ticket,
-    ) -> Option<Waiter<T, Seat<T, H>>>
-        ensures made { IfSome result (λ w. H.words.makes pass.old pass.new
-            (withdrawal (number_of ticket) w.message)) }
-        ensures told { IfSome result (λ w. IsTold (withdrawal (number_of ticket) w.message)) }
-        ensures refused { IfNone result (pass.new ≡ pass.old) }
-        ensures step { IfSome result (λ w. Tells self.old.1 (Event.Withdraw (number_of ticket))
-            (withdrawn self.new.1 w.message)) }
-        ensures same { IfNone result (self.new.1 ≡ self.old.1) }
+        counted: CountedWait,
+    ) -> Result<Waiter<T, Seat<T, H>>, CountedWait>
+        ensures made { IfOk result (λ w. H.words.makes pass.old pass.new
+            (withdrawal (number_of (ticket_of counted)) w.message)) }
+        ensures told { IfOk result (λ w. IsTold
+            (withdrawal (number_of (ticket_of counted)) w.message)) }
+        ensures refused { IfErr result (λ back. (back ≡ counted) × (pass.new ≡ pass.old)) }
+        ensures step { IfOk result (λ w. Tells self.old.1
+            (Event.Withdraw (number_of (ticket_of counted))) (withdrawn self.new.1 w.message)) }
+        ensures waiter { IfOk result (λ w. waiter_of (ticket_of counted) self.old.2 ≡ Some w) }
+        ensures others { IfOk result (λ _. self.new.2 ≡ without (ticket_of counted) self.old.2) }
+        ensures same { IfErr result (λ _. self.new ≡ self.old) }
         ensures cleanup { self.new.0 ≡ self.old.0 }
     {
-        let waiter = steps::withdraw(&mut self.core, ticket)?;
+        let ticket = counted.ticket();
+        let Some(waiter) = steps::withdraw(&mut self.core, ticket) else {
+            return Err(counted);
+        };
+        let before = Snapshot::of(pass);
         let history = &mut self.history;
         history.append::<Ticket, Waiter<T, Seat<T, H>>, OfWithdrawal>(
             board, pass, &ticket, &waiter,
         );
-        Some(waiter)
+        counted.withdrawn::<T, Seat<T, H>, H>(&before, pass, &waiter);
+        Ok(waiter)
     }
 
     /// Moves the whole line to the vector's end.
@@ -448,6 +457,7 @@ impl<T: Drop, H: History<T>> State<T, H> {
         ensures no_growth { is_drained result ≡ false
             → vec_capacity into.new ≡ vec_capacity into.old }
         ensures step { Tells self.old.1 Event.Drain (told_of self.new.1 result) }
+        ensures leave { Leave self.old.2 (gone_of result) self.new.2 }
         ensures cleanup { self.new.0 ≡ self.old.0 }
     {
         let asked = Snapshot::of(&Event::Drain);
@@ -487,6 +497,8 @@ impl<T: Drop, H: History<T>> State<T, H> {
     /// ```
     pub fn renew(&mut self, ticket: Ticket, spare: &mut Option<Waker>) -> bool
         ensures line { self.new.1 ≡ self.old.1 }
+        ensures waits { (result ≡ true) ↔ IsSome (waiter_of ticket self.old.2) }
+        ensures renewed { Renews ticket spare.old self.old.2 self.new.2 spare.new }
         ensures cleanup { self.new.0 ≡ self.old.0 }
     {
         renew(&mut self.core, ticket, spare)

@@ -4,13 +4,14 @@
 //! other end, and a take after the step that brought the slot.
 ghost use Rattle.std.specs.Prelude.{◌≡◌, ◌↔◌, ◌∷◌, [], true, false, Some, None, if◌then◌else◌, IfOk, IsSome};
 ghost use Rattle.kanal_cell.specs.CellRule.{fresh, after_poll, after_sleep, after_leave, after_settle, HasNotLeft, HasNotSettled, MaySleep};
-ghost use Rattle.kanal_cell.specs.CellEnds.{AreOfOneCell, FindsOutcome, GoesOn, StaysAtCell, wait_view, settle_view, kept_waker};
+ghost use Rattle.kanal_cell.specs.CellEnds.{AreOfOneCell, FindsOutcome, GoesOn, HasSettled, StaysAtCell, wait_view, settle_view, kept_waker};
 ghost use Rattle.kanal_cell.specs.declared.signal.rule.Role.TheVariants.{Waiter, Settler};
 
 use super::rule::{
     CellTable, ENDED, EndSeat, LEFT, Leaves, Parts, Polls, SLEEPING, SettlerBegins, Settles,
     Signal, Sleeper, Sleeps, WaiterBegins,
 };
+use super::settlement::Settlement;
 use super::waking::{Waking, take_out};
 use super::{SettleEnd, WaitEnd};
 use crate::error::NoMemory;
@@ -19,6 +20,7 @@ use atomic_table::Table;
 use crossbeam_utils::sync::Unparker;
 use futures::task::Waker;
 use std::alloc::Global;
+use std::snapshot::Snapshot;
 use std::sync::{Arc, Wait};
 use std::time::Duration;
 
@@ -254,9 +256,29 @@ impl<P: Drop> SettleEnd<P> {
             ≡ (if (settle_view self.new).found.left then Some outcome else None) }
         ensures waker { kept_waker self.new ≡ None }
     {
-        let (waking, back) = self.end(outcome);
-        waking.wake(&self.signal.table.shared);
+        let (settlement, back) = self.hand_over(outcome);
+        drop(settlement);
         back
+    }
+
+    /// The same, with what shows that this cell was settled with this outcome.
+    ///
+    /// ```
+    /// let (settlement, back) = settle.hand_over(5);
+    /// assert!(back == None);
+    /// ```
+    pub fn hand_over(&mut self, outcome: P) -> (Settlement<P>, Option<P>)
+        requires unspent { HasNotSettled (settle_view self.old) }
+        ensures shown { HasSettled result.0 self.old outcome }
+        ensures step { GoesOn after_settle (settle_view self.old) (settle_view self.new) }
+        ensures answer { result.1
+            ≡ (if (settle_view self.new).found.left then Some outcome else None) }
+        ensures waker { kept_waker self.new ≡ None }
+    {
+        let shown = Snapshot::of(&outcome);
+        let (waking, back) = self.end(outcome);
+        let woken = waking.wake(&self.signal.table.shared);
+        (Settlement::new(self, shown, woken), back)
     }
 
     /// Whether the waiter has left, by one load. What it answers is no part of the rule: a waiter
@@ -302,6 +324,7 @@ impl<P: Drop> SettleEnd<P> {
         ensures back { result.1
             ≡ (if (settle_view self.new).found.left then Some outcome else None) }
         ensures kept { kept_waker self.new ≡ None }
+        ensures cell { StaysAtCell self.old self.new }
     {
         pointer::put_outcome(&self.signal.table.shared, &mut self.seat, outcome);
         let found = self

@@ -49,9 +49,13 @@ impl Drop for Waking {
     }
 }
 
+/// That whom a settle had to wake was woken. `Waking::wake` alone makes one.
+#[derive(Drop)]
+pub(super) struct Woken(());
+
 impl Waking {
     /// Wakes the sleeper and the waker, at the cell that was settled.
-    pub(super) fn wake<P>(self, cell: &Slots<P>)
+    pub(super) fn wake<P>(self, cell: &Slots<P>) -> Woken
         requires word { 0 < cell.now.table_id.words }
     {
         let Waking {
@@ -67,5 +71,6 @@ impl Waking {
         if let Some(waker) = waker {
             waker.wake();
         }
+        Woken(())
     }
 }

@@ -2,24 +2,19 @@
 //!
 //! Stands on the lock, the state and the notices. Whoever gets the lock has all notices applied before its
 //! own step. A call that may wait for the lock then releases it where they took something out, tells that,
-//! and waits for the lock anew; one that may not makes its step at once. The way out releases the lock, tells
-//! what the notices took out and who has to be told of the step, and looks for new notices. No other module
-//! releases the lock.
+//! and waits for the lock anew; one that may not makes its step at once. No other module takes the lock or
+//! the notices.
 ghost use Rattle.std.specs.Prelude.{◌≡◌, false, IfSome};
 ghost use Rattle.kanal_channel.specs.Locks.{IsQuiet, is_held, takes_nothing};
 
 use super::Shared;
 use kanal_history::History;
-use kanal_state::{Gone, Leavers, State, emptied};
+use kanal_state::{Gone, Leavers, ReceiveSide, Released, SendSide, State};
 use kanal_waits::pause;
 use std::snapshot::Snapshot;
-use std::sync::atomic::Ordering::SeqCst;
 use std::sync::{MutexGuard, Wait};
 use std::thread::Parker;
 use std::time::Duration;
-
-/// How often a call looks for notices after it released the lock.
-const LOOKS: u32 = 64;
 
 /// The first pause before a lock that is held is tried again, as a power of two of spins.
 const FIRST_PAUSE: u32 = 6;
@@ -48,10 +43,10 @@ pub struct Locked<'a, T, H: History<T>> {
 }
 
 /// What applying the notices took out of the core. It has to be told.
-struct Taken<T, H: History<T>> {
-    gone: Option<Leavers<T, H>>,
-    senders: Option<Gone<T, H>>,
-    receivers: Option<Gone<T, H>>,
+pub(super) struct Taken<T, H: History<T>> {
+    pub(super) gone: Option<Leavers<T, H>>,
+    pub(super) senders: Option<Gone<T, H>>,
+    pub(super) receivers: Option<Gone<T, H>>,
 }
 
 /// What the notices took out under a lock that one try got, if there were some. It goes back with
@@ -77,7 +72,7 @@ impl<T: Drop, H: History<T>> Left<T, H> {
     ///
     /// # Examples
     /// ```text
-    /// shared.tell_left(Left::nothing())   tells nobody
+    /// shared.tell_left(Left::nothing(), &released)   tells nobody
     /// ```
     pub fn nothing() -> Self
         ensures nobody { takes_nothing result }
@@ -90,7 +85,7 @@ impl<T: Drop, H: History<T>> Drop for Locked<'_, T, H> {
     fn drop(self)
         requires given_back { is_held self ≡ false }
     {
-        self.release_after();
+        drop(self.release_after());
     }
 }
 
@@ -107,29 +102,31 @@ impl<T: Drop, H: History<T>> Locked<'_, T, H> {
         requires quiet { IsQuiet self }
     {
         let shared = self.shared;
-        self.release();
+        drop(self.release());
         if !shared.is_quiet() {
             shared.look();
         }
     }
 
-    /// Releases the lock after a call of a caller's pass: no call of nobody's was made.
+    /// Releases the lock after a call of a caller's pass: no call of nobody's was made. What was settled may be
+    /// told then, by the answer.
     ///
     /// # Examples
     /// ```text
-    /// locked.release();
+    /// let released = locked.release();
+    /// shared.tell_left(left, &released);
     /// shared.look();
     /// ```
     #[inline]
-    pub fn release(self)
+    pub fn release(self) -> Released
         requires quiet { IsQuiet self }
     {
-        self.release_after();
+        self.release_after()
     }
 
     /// Releases the lock after a call of nobody's.
     #[inline]
-    pub(crate) fn release_after(self) {
+    pub(super) fn release_after(self) -> Released {
         let Locked {
             shared: _,
             state,
@@ -137,19 +134,12 @@ impl<T: Drop, H: History<T>> Locked<'_, T, H> {
             held: _,
         } = self;
         drop(cleanup);
-        drop(state);
+        Released::by(state)
     }
 
     /// Applies the notices under a lock that one try got. What they take out goes back with the lock.
-    ///
-    /// # Examples
-    /// ```text
-    /// let left = locked.take_left();
-    /// locked.release();
-    /// shared.tell_left(left);
-    /// ```
     #[cold]
-    pub fn take_left(&mut self) -> Left<T, H>
+    fn take_left(&mut self) -> Left<T, H>
         ensures quiet { IsQuiet self.new }
     {
         let taken = self.shared.apply(&mut self.state);
@@ -214,8 +204,8 @@ impl<T: Drop, H: History<T>> Shared<T, H> {
         let Some(taken) = self.apply(&mut state) else {
             return Some(state);
         };
-        drop(state);
-        self.tell_taken(taken);
+        let released = Released::by(state);
+        self.tell_taken(taken, &released);
         None
     }
 
@@ -252,8 +242,8 @@ impl<T: Drop, H: History<T>> Shared<T, H> {
     /// # Examples
     /// ```text
     /// let (mut locked, left) = shared.try_hold()?;
-    /// locked.release();
-    /// shared.tell_left(left);
+    /// let released = locked.release();
+    /// shared.tell_left(left, &released);
     /// ```
     pub fn try_hold(&self) -> Option<(Locked<'_, T, H>, Left<T, H>)>
         ensures quiet { IfSome result (λ held. IsQuiet held.0) }
@@ -265,6 +255,28 @@ impl<T: Drop, H: History<T>> Shared<T, H> {
             locked.take_left()
         };
         Some((locked, left))
+    }
+
+    /// Applies the notices under a lock that one try got. Where they take something out, the lock is released,
+    /// that is told, and the lock is tried once more; `None` where another has it then.
+    ///
+    /// # Examples
+    /// ```text
+    /// let locked = shared.catch_up_once(shared.try_lock()?)?;
+    /// ```
+    #[cold]
+    pub fn catch_up_once<'a>(&'a self, locked: Locked<'a, T, H>) -> Option<Locked<'a, T, H>>
+        ensures quiet { IfSome result IsQuiet }
+    {
+        let mut locked = locked;
+        match locked.take_left().into_taken() {
+            None => Some(locked),
+            Some(taken) => {
+                let released = locked.release();
+                self.tell_taken(taken, &released);
+                self.try_lock()
+            },
+        }
     }
 
     /// Waits for a lock that was held: with pauses between the tries, then with naps, and then asleep.
@@ -297,15 +309,17 @@ impl<T: Drop, H: History<T>> Shared<T, H> {
     /// there are some is forgotten before they are read: one that comes later is found later.
     #[cold]
     fn apply(&self, state: &mut State<T, H>) -> Option<Taken<T, H>> {
-        emptied(&self.notices);
-        let gone = match self.left.take() {
+        self.notices.read();
+        let gone = match self.notices.take_waits() {
             Some(waits) => Some(state.withdraw_left(&self.board, self.alloc, waits)),
             None => None,
         };
-        let (senders, rest) = state.drop_senders(&self.board, self.senders.take());
-        self.senders.put_back(rest);
-        let (receivers, rest) = state.drop_receivers(&self.board, self.receivers.take());
-        self.receivers.put_back(rest);
+        let senders = self.notices.take_handles::<SendSide>();
+        let (senders, rest) = state.drop_handles(&self.board, senders);
+        self.notices.put_back(rest);
+        let receivers = self.notices.take_handles::<ReceiveSide>();
+        let (receivers, rest) = state.drop_handles(&self.board, receivers);
+        self.notices.put_back(rest);
         match (gone, senders, receivers) {
             (None, None, None) => None,
             (gone, senders, receivers) => Some(Taken {
@@ -313,40 +327,6 @@ impl<T: Drop, H: History<T>> Shared<T, H> {
                 senders,
                 receivers,
             }),
-        }
-    }
-
-    /// Lets go of what left, and tells those whose waits ended. The lock is released.
-    ///
-    /// # Examples
-    /// ```text
-    /// shared.tell_left(left);   after `locked.release()`
-    /// ```
-    #[inline]
-    pub fn tell_left(&self, left: Left<T, H>) {
-        if let Some(taken) = left.into_taken() {
-            self.tell_taken(taken);
-        }
-    }
-
-    /// The same, where the notices took something out.
-    #[cold]
-    fn tell_taken(&self, taken: Taken<T, H>) {
-        let Taken {
-            gone,
-            senders,
-            receivers,
-        } = taken;
-        drop(gone);
-        self.tell(senders);
-        self.tell(receivers);
-    }
-
-    /// Tells those whose waits the drop of a last handle ended. The lock is released.
-    pub(crate) fn tell(&self, gone: Option<Gone<T, H>>) {
-        if let Some(gone) = gone {
-            let (made, prefix) = gone.into_parts();
-            let _reply = self.hand_out(prefix, made);
         }
     }
 
@@ -358,35 +338,14 @@ impl<T: Drop, H: History<T>> Shared<T, H> {
     /// ```
     #[inline]
     pub fn is_quiet(&self) -> bool {
-        self.notices.load(SeqCst) == 0
-    }
-
-    /// Applies notices while there are some and the lock is free, and looks at most 64 times.
-    ///
-    /// # Examples
-    /// ```text
-    /// locked.release();
-    /// shared.look();
-    /// ```
-    #[cold]
-    pub fn look(&self) {
-        for _ in 0..LOOKS {
-            if self.is_quiet() {
-                return;
-            }
-            let Some((locked, left)) = self.try_hold() else {
-                return;
-            };
-            locked.release();
-            self.tell_left(left);
-        }
+        self.notices.is_quiet()
     }
 }
 
 impl<T: Drop, H: History<T>> Left<T, H> {
     /// What the notices took out, if they did.
     #[inline]
-    fn into_taken(self) -> Option<Taken<T, H>> {
+    pub(super) fn into_taken(self) -> Option<Taken<T, H>> {
         let Left { taken } = self;
         taken
     }

@@ -52,11 +52,11 @@ fn withdraw<T: Drop>(core: &mut Core<T>, tickets: &[Ticket], number: u64) -> Mad
 {
     let Some(ticket) = tickets.get(number as usize) else {
         core.holds();
-        return Made::One(Reply::Refused(Refusal::NotWaiting, None), None);
+        return Made::replied(Reply::Refused(Refusal::NotWaiting, None));
     };
     match steps::withdraw(core, *ticket) {
-        Some(waiter) => Made::One(Reply::Withdrawn(waiter.message), None),
-        None => Made::One(Reply::Refused(Refusal::NotWaiting, None), None),
+        Some(waiter) => Made::replied(Reply::Withdrawn(waiter.message)),
+        None => Made::replied(Reply::Refused(Refusal::NotWaiting, None)),
     }
 }
 
@@ -176,6 +176,6 @@ pub(crate) fn answer<T: Drop>(
     if handles.serve(&event) {
         make(core, tickets, handles, drained, event)
     } else {
-        Made::One(event.refused(Refusal::NoHandle), None)
+        Made::replied(event.refused(Refusal::NoHandle))
     }
 }

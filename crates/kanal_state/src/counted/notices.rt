@@ -1,77 +1,51 @@
-//! The notices of handles that went away, and of waits that were left, while the lock was held.
+//! The notices of a channel: of handles that went away, and of waits that were left, while the lock was held.
 //!
-//! Stands on the tokens of `counted`. A notice counts a token out; who takes the notices has the tokens again,
-//! one after the other, and has to count each out by a call, or puts it back. Of waits alone it is kept
-//! that they are sought.
-ghost use Rattle.std.specs.Prelude.{◌≡◌, ◌<◌, true, IfNone, IfSome};
-ghost use Rattle.kanal_state.specs.Counts.{are_sought, gone_receivers, gone_senders};
+//! Stands on the tokens of `counted`. A notice counts a token out; who takes the handles' notices has the
+//! tokens again, one after the other, and has to count each out by a call, or puts it back. Of waits alone it is
+//! kept that they are sought. Notices go with their channel alone, so none is added where nobody looks.
+ghost use Rattle.std.specs.Prelude.{◌≡◌, ◌<◌, false, true, IfNone, IfSome};
+ghost use Rattle.kanal_state.specs.Counts.{are_sought, gone_handles, has_channel};
 
-use super::{CountedReceiver, CountedSender, CountedWait};
+use super::{Counted, CountedWait, Stands, stands};
+use crate::side::OfSide;
+use kanal_events::event::Side;
+use std::marker::PhantomData;
 use std::sync::atomic::AtomicU64;
 use std::sync::atomic::Ordering::SeqCst;
 
-/// Senders that went away while the lock was held: each has to be counted out.
-pub struct GoneSenders {
+/// Handles of a side that went away while the lock was held: each has to be counted out.
+pub struct GoneHandles<S> {
     count: u64,
+    side: PhantomData<S>,
 }
 
-impl Drop for GoneSenders {
+impl<S> Drop for GoneHandles<S> {
     fn drop(self)
-        requires none { gone_senders self ≡ 0 }
+        requires none { gone_handles self ≡ 0 }
     {
-        let GoneSenders { count: _count } = self;
+        let GoneHandles {
+            count: _count,
+            side: _,
+        } = self;
     }
 }
 
-impl GoneSenders {
+impl<S> GoneHandles<S> {
     /// The next of them, if there is one.
-    pub(crate) fn next(&mut self) -> Option<CountedSender>
-        ensures none { IfNone result (gone_senders self.new ≡ 0) }
-        ensures fewer { IfSome result (λ _. gone_senders self.new < gone_senders self.old) }
+    pub(crate) fn next(&mut self) -> Option<Counted<S>>
+        ensures none { IfNone result (gone_handles self.new ≡ 0) }
+        ensures fewer { IfSome result (λ _. gone_handles self.new < gone_handles self.old) }
     {
         if self.count == 0 {
             return None;
         }
         self.count -= 1;
-        Some(CountedSender::new())
+        Some(Counted::new())
     }
 
     /// How many there are.
     fn into_count(self) -> u64 {
-        let GoneSenders { count } = self;
-        count
-    }
-}
-
-/// Receivers that went away while the lock was held: each has to be counted out.
-pub struct GoneReceivers {
-    count: u64,
-}
-
-impl Drop for GoneReceivers {
-    fn drop(self)
-        requires none { gone_receivers self ≡ 0 }
-    {
-        let GoneReceivers { count: _count } = self;
-    }
-}
-
-impl GoneReceivers {
-    /// The next of them, if there is one.
-    pub(crate) fn next(&mut self) -> Option<CountedReceiver>
-        ensures none { IfNone result (gone_receivers self.new ≡ 0) }
-        ensures fewer { IfSome result (λ _. gone_receivers self.new < gone_receivers self.old) }
-    {
-        if self.count == 0 {
-            return None;
-        }
-        self.count -= 1;
-        Some(CountedReceiver::new())
-    }
-
-    /// How many there are.
-    fn into_count(self) -> u64 {
-        let GoneReceivers { count } = self;
+        let GoneHandles { count, side: _ } = self;
         count
     }
 }
@@ -100,118 +74,116 @@ impl GoneWaits {
     }
 }
 
-/// How many waits were left while the lock was held.
-#[derive(Drop)]
-pub struct WaitNotices {
-    count: AtomicU64,
+/// The notices of a channel: how many senders and receivers went away, and how many waits were left, while
+/// the lock was held; and whether there are some. The prover refuses to let them go without their channel.
+pub struct Notices {
+    some: AtomicU64,
+    waits: AtomicU64,
+    senders: AtomicU64,
+    receivers: AtomicU64,
+    stands: Stands,
 }
 
-impl WaitNotices {
-    /// None.
-    ///
-    /// # Examples
-    /// ```text
-    /// WaitNotices::new().count()   answers  0
-    /// ```
-    pub fn new() -> Self {
-        WaitNotices {
-            count: AtomicU64::new(0),
-        }
-    }
-
-    /// Counts the wait out into the notices.
-    ///
-    /// # Examples
-    /// ```text
-    /// notices.add(counted);
-    /// ```
-    pub fn add(&self, counted: CountedWait) {
-        counted.notice();
-        self.count.fetch_add(1, SeqCst);
-    }
-
-    /// How many there are.
-    ///
-    /// # Examples
-    /// ```text
-    /// notices.count()   answers  1   after `add`
-    /// ```
-    pub fn count(&self) -> u64 {
-        self.count.load(SeqCst)
-    }
-
-    /// Takes all of them, if there are some.
-    ///
-    /// # Examples
-    /// ```text
-    /// notices.take()   answers  None   where nothing was added
-    /// ```
-    pub fn take(&self) -> Option<GoneWaits> {
-        if emptied(&self.count) == 0 {
-            return None;
-        }
-        Some(GoneWaits { are_sought: false })
+impl Drop for Notices {
+    fn drop(self)
+        requires ended { has_channel self ≡ false }
+    {
+        self.end();
     }
 }
 
-/// How many senders went away while the lock was held.
-#[derive(Drop)]
-pub struct SenderNotices {
-    count: AtomicU64,
-}
-
-/// How many receivers went away while the lock was held.
-#[derive(Drop)]
-pub struct ReceiverNotices {
-    count: AtomicU64,
-}
-
-/// Empties the counter, which is only written where it is not empty.
-///
-/// # Examples
-/// ```text
-/// emptied(&counter)   answers  what it held, which is 0 from then on
-/// ```
-pub fn emptied(counter: &AtomicU64) -> u64 {
+/// Empties the counter, which is only written where it is not empty, and answers what it held.
+fn emptied(counter: &AtomicU64) -> u64 {
     if counter.load(SeqCst) == 0 {
         return 0;
     }
     counter.swap(0, SeqCst)
 }
 
-impl SenderNotices {
-    /// None.
+impl Notices {
+    /// None, for a new channel.
     ///
     /// # Examples
     /// ```text
-    /// let notices = SenderNotices::new();
+    /// Notices::new().is_quiet()   answers  true
     /// ```
     pub fn new() -> Self {
-        SenderNotices {
-            count: AtomicU64::new(0),
+        Notices {
+            some: AtomicU64::new(0),
+            waits: AtomicU64::new(0),
+            senders: AtomicU64::new(0),
+            receivers: AtomicU64::new(0),
+            stands: stands(),
         }
     }
 
-    /// Counts the sender out into the notices.
-    ///
-    /// # Examples
-    /// ```text
-    /// notices.add(counted);
-    /// ```
-    pub fn add(&self, counted: CountedSender) {
-        counted.notice();
-        self.count.fetch_add(1, SeqCst);
+    /// They go, since their channel does. The state alone calls this.
+    pub(crate) fn end(self) {
+        let Notices {
+            some,
+            waits,
+            senders,
+            receivers,
+            stands,
+        } = self;
+        drop(some);
+        drop(waits);
+        drop(senders);
+        drop(receivers);
+        drop(stands);
     }
 
-    /// Takes all of them.
+    /// Whether there are none.
     ///
     /// # Examples
     /// ```text
-    /// let (ended, rest) = state.drop_senders(board, notices.take());
+    /// notices.is_quiet()   answers  false   after a handle was added
     /// ```
-    pub fn take(&self) -> GoneSenders {
-        GoneSenders {
-            count: emptied(&self.count),
+    #[inline]
+    pub fn is_quiet(&self) -> bool {
+        self.some.load(SeqCst) == 0
+    }
+
+    /// Forgets that there are some. Who then takes them finds all that were added before.
+    ///
+    /// # Examples
+    /// ```text
+    /// notices.read()   comes before the notices are taken
+    /// ```
+    pub fn read(&self) {
+        emptied(&self.some);
+    }
+
+    /// The counter of a side.
+    fn counter(&self, side: Side) -> &AtomicU64 {
+        match side {
+            Side::Tx => &self.senders,
+            Side::Rx => &self.receivers,
+        }
+    }
+
+    /// Counts a handle out into the notices of its side.
+    ///
+    /// # Examples
+    /// ```text
+    /// notices.add_handle(counted);
+    /// ```
+    pub fn add_handle<S: OfSide>(&self, counted: Counted<S>) {
+        counted.notice();
+        self.counter(S::side()).fetch_add(1, SeqCst);
+        self.some.fetch_add(1, SeqCst);
+    }
+
+    /// Takes all handles of a side.
+    ///
+    /// # Examples
+    /// ```text
+    /// let (ended, rest) = state.drop_handles::<SendSide>(board, notices.take_handles());
+    /// ```
+    pub fn take_handles<S: OfSide>(&self) -> GoneHandles<S> {
+        GoneHandles {
+            count: emptied(self.counter(S::side())),
+            side: PhantomData,
         }
     }
 
@@ -221,60 +193,45 @@ impl SenderNotices {
     /// ```text
     /// notices.put_back(rest);
     /// ```
-    pub fn put_back(&self, gone: GoneSenders) {
+    pub fn put_back<S: OfSide>(&self, gone: GoneHandles<S>) {
         let count = gone.into_count();
         if count > 0 {
-            self.count.fetch_add(count, SeqCst);
-        }
-    }
-}
-
-impl ReceiverNotices {
-    /// None.
-    ///
-    /// # Examples
-    /// ```text
-    /// let notices = ReceiverNotices::new();
-    /// ```
-    pub fn new() -> Self {
-        ReceiverNotices {
-            count: AtomicU64::new(0),
+            self.counter(S::side()).fetch_add(count, SeqCst);
         }
     }
 
-    /// Counts the receiver out into the notices.
+    /// Counts a wait out into the notices.
     ///
     /// # Examples
     /// ```text
-    /// notices.add(counted);
+    /// notices.add_wait(counted);
     /// ```
-    pub fn add(&self, counted: CountedReceiver) {
+    pub fn add_wait(&self, counted: CountedWait) {
         counted.notice();
-        self.count.fetch_add(1, SeqCst);
+        self.waits.fetch_add(1, SeqCst);
+        self.some.fetch_add(1, SeqCst);
     }
 
-    /// Takes all of them.
+    /// How many waits were left.
     ///
     /// # Examples
     /// ```text
-    /// let (ended, rest) = state.drop_receivers(board, notices.take());
+    /// notices.waits()   answers  1   after `add_wait`
     /// ```
-    pub fn take(&self) -> GoneReceivers {
-        GoneReceivers {
-            count: emptied(&self.count),
-        }
+    pub fn waits(&self) -> u64 {
+        self.waits.load(SeqCst)
     }
 
-    /// Puts back those that were not counted out.
+    /// Takes all waits, if there are some.
     ///
     /// # Examples
     /// ```text
-    /// notices.put_back(rest);
+    /// notices.take_waits()   answers  None   where no wait was added
     /// ```
-    pub fn put_back(&self, gone: GoneReceivers) {
-        let count = gone.into_count();
-        if count > 0 {
-            self.count.fetch_add(count, SeqCst);
+    pub fn take_waits(&self) -> Option<GoneWaits> {
+        if emptied(&self.waits) == 0 {
+            return None;
         }
+        Some(GoneWaits { are_sought: false })
     }
 }

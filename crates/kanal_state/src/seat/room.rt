@@ -6,12 +6,22 @@ ghost use Rattle.std.specs.Prelude.{◌≡◌, length};
 use crate::delivered::Settler;
 use kanal_history::History;
 use std::collections::LinkedList;
+use std::marker::Model;
 
-/// Who left by notice: the end of its cell, and the message of its entry.
+/// Who left by notice: the end of its cell, and the message of its entry. Contracts see which cell that is.
 #[derive(Drop)]
 pub struct Leaver<T, H: History<T>> {
     pub(super) settler: Settler<T, H>,
     pub(super) message: Option<T>,
+}
+
+impl<T, H: History<T>> Model for Leaver<T, H> {
+    ghost use Rattle.kanal_cell.specs.CellEnds.{settle_cell};
+    ghost use Rattle.kanal_state.specs.Seats.{Left};
+
+    ghost Value = { Left T };
+
+    ghost view = { λ l. record { cell = settle_cell l.settler.end; message = l.message } };
 }
 
 /// Those who left by notice, the last of them first, each in the room that it brought.

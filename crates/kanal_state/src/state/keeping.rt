@@ -12,7 +12,7 @@ ghost use Rattle.kanal_history.specs.Makes.{IsKept, IsNoted};
 use kanal_board::EntryOf;
 use kanal_core::internal::{Ticket, Waiter};
 use kanal_events::event::{Event, Reply};
-use kanal_events::made::{Answered, Made, Owed};
+use kanal_events::made::{Answered, Made};
 use kanal_history::{Call, History};
 use std::snapshot::Snapshot;
 
@@ -45,24 +45,6 @@ impl<T> EntryOf<Asked<T>, Reply<T>, Call<T>> for OfReply {
     ghost use Rattle.kanal_history.specs.Entries.{replied};
 
     ghost entry = { λ event reply. replied event.value reply };
-}
-
-/// The entry of a send that entered or was handed over, by its message and who is owed it.
-pub(super) struct OfHandOver;
-
-impl<T, W> EntryOf<Snapshot<T>, Option<Owed<T, W>>, Call<T>> for OfHandOver {
-    ghost use Rattle.kanal_history.specs.Entries.{handed_entry};
-
-    ghost entry = { λ message owed. handed_entry message.value owed };
-}
-
-/// The entry of a receive that got a message, by the message and who is owed that.
-pub(super) struct OfFetch;
-
-impl<T, W> EntryOf<T, Option<Owed<T, W>>, Call<T>> for OfFetch {
-    ghost use Rattle.kanal_history.specs.Entries.{fetched_receipt};
-
-    ghost entry = { λ message owed. fetched_receipt message owed };
 }
 
 /// The entry of a send that entered and settled nobody, by its message.

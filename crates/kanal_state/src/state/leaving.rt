@@ -2,21 +2,24 @@
 //!
 //! Stands on the state and on the tokens of `counted`. They are made here alone: what a handle's drop or a
 //! notice counts out, it counts out by such a call.
-ghost use Rattle.std.specs.Prelude.{◌≡◌, IfNone, IfSome};
+ghost use Rattle.std.specs.Prelude.{◌≡◌, IfNone, IfSome, Some};
 ghost use Rattle.kanal_core.specs.Channel.{line_of};
 ghost use Rattle.kanal_core.specs.Tickets.{number_of};
+ghost use Rattle.kanal_core.specs.Waiters.{waiter_of, with_w, without};
+ghost use Rattle.kanal_events.specs.Leaving.{Leave, gone_of};
 ghost use Rattle.kanal_events.specs.Steps.{Tells};
 ghost use Rattle.kanal_events.specs.Made.{settled_of, told_of, withdrawn};
 ghost use Rattle.kanal_history.specs.Calls.{IsDrop};
 ghost use Rattle.kanal_history.specs.Entries.{call_from};
 ghost use Rattle.kanal_history.specs.Words.{HaveShown};
+ghost use Rattle.kanal_state.specs.Counts.{one_less, ticket_of};
 
 use super::State;
+use super::counting::one_less;
 use super::keeping::{Asked, OfCall, OfWithdrawal};
-use crate::counted::{
-    CountedReceiver, CountedSender, CountedWait, GoneReceivers, GoneSenders, GoneWaits,
-};
+use crate::counted::{Counted, CountedWait, GoneHandles, GoneWaits};
 use crate::seat::{Core, Leavers, Room, Seat};
+use crate::side::OfSide;
 use kanal_core::internal::{Ticket, Waiter};
 use kanal_events::event::Event;
 use kanal_events::made::Made;
@@ -30,19 +33,22 @@ use std::snapshot::Snapshot;
 /// How many waits that were left are withdrawn at most at once: more are never there.
 const MOST: u64 = 1 << 62;
 
-/// What the drop of a last handle ended, with what was seen of it. It has to be told.
+/// What the drop of a last handle ended, with what was seen of it. It has to be told. Contracts see what the
+/// step told.
 pub struct Gone<T, H: History<T>> {
     made: Made<T, Seat<T, H>>,
     prefix: H::Prefix,
 }
 
 impl<T, H: History<T>> Model for Gone<T, H> {
+    ghost use Rattle.kanal_events.specs.declared.made.Made.{Made};
     ghost use Rattle.kanal_events.specs.Made.{settled_of};
     ghost use Rattle.kanal_history.specs.Words.{HaveShown};
+    ghost use Rattle.kanal_state.specs.Renewing.{Brought};
 
-    ghost Value = { Unit {0} };
+    ghost Value = { Made T Brought };
 
-    ghost view = { λ _. tt };
+    ghost view = { λ g. g.made };
 
     ghost invariant = { λ g. HaveShown H.shows g.prefix (settled_of g.made) };
 }
@@ -55,6 +61,7 @@ impl<T: Drop, H: History<T>> Gone<T, H> {
     /// let (made, prefix) = gone.into_parts();
     /// ```
     pub fn into_parts(self) -> (Made<T, Seat<T, H>>, H::Prefix)
+        ensures made { result.0 ≡ self }
         ensures seen { HaveShown H.shows result.1 (settled_of result.0) }
     {
         let Gone { made, prefix } = self;
@@ -75,6 +82,7 @@ impl<T: Drop, H: History<T>> State<T, H> {
         requires drops { IsDrop event }
         ensures made { H.cleans.makes self.old.0 self.new.0 (call_from event result.0) }
         ensures told { Tells self.old.1 event (told_of self.new.1 result.0) }
+        ensures leave { Leave self.old.2 (gone_of result.0) self.new.2 }
         ensures seen { HaveShown H.shows result.1 (settled_of result.0) }
     {
         let asked = Snapshot::of(&event);
@@ -98,6 +106,8 @@ impl<T: Drop, H: History<T>> State<T, H> {
     ) -> Option<Waiter<T, Seat<T, H>>>
         ensures step { IfSome result (λ w. Tells self.old.1 (Event.Withdraw (number_of ticket))
             (withdrawn self.new.1 w.message)) }
+        ensures waiter { result ≡ waiter_of ticket self.old.2 }
+        ensures others { self.new.2 ≡ without ticket self.old.2 }
         ensures same { IfNone result (self.new ≡ self.old) }
     {
         let waiter = steps::withdraw(&mut self.core, ticket)?;
@@ -117,11 +127,13 @@ impl<T: Drop, H: History<T>> State<T, H> {
     /// ```text
     /// locked.state.leave(board, counted)   answers  None   where its wait was settled
     /// ```
-    pub fn leave(
-        &mut self,
-        board: &H::Board,
-        counted: CountedWait,
-    ) -> Option<Waiter<T, Seat<T, H>>> {
+    pub fn leave(&mut self, board: &H::Board, counted: CountedWait) -> Option<Waiter<T, Seat<T, H>>>
+        ensures step { IfSome result (λ w. Tells self.old.1
+            (Event.Withdraw (number_of (ticket_of counted))) (withdrawn self.new.1 w.message)) }
+        ensures waiter { result ≡ waiter_of (ticket_of counted) self.old.2 }
+        ensures others { self.new.2 ≡ without (ticket_of counted) self.old.2 }
+        ensures same { IfNone result (self.new ≡ self.old) }
+    {
         let ticket = counted.ticket();
         let Some(waiter) = steps::withdraw(&mut self.core, ticket) else {
             counted.missing::<T, H>(&self.core);
@@ -139,55 +151,33 @@ impl<T: Drop, H: History<T>> State<T, H> {
         Some(waiter)
     }
 
-    /// Makes the drop of this sender as a call of nobody's, and answers what was seen then.
-    fn sender_out(
+    /// Makes the drop of this handle as a call of nobody's, and answers what was seen then.
+    fn handle_out<S: OfSide>(
         &mut self,
         board: &H::Board,
-        counted: CountedSender,
+        counted: Counted<S>,
     ) -> (Made<T, Seat<T, H>>, H::Prefix)
-        ensures told { Tells self.old.1 Event.DropTx (told_of self.new.1 result.0) }
+        ensures told { Tells self.old.1 (one_less S.side) (told_of self.new.1 result.0) }
+        ensures leave { Leave self.old.2 (gone_of result.0) self.new.2 }
         ensures seen { HaveShown H.shows result.1 (settled_of result.0) }
     {
         let before = Snapshot::of(&self.cleanup);
-        let (made, prefix) = self.by_nobody(board, Event::DropTx);
+        let (made, prefix) = self.by_nobody(board, one_less(S::side()));
         counted.count_out::<T, Seat<T, H>, H>(&before, &self.cleanup, &made);
         (made, prefix)
     }
 
-    /// Makes the drop of this receiver as a call of nobody's, and answers what was seen then.
-    fn receiver_out(
-        &mut self,
-        board: &H::Board,
-        counted: CountedReceiver,
-    ) -> (Made<T, Seat<T, H>>, H::Prefix)
-        ensures told { Tells self.old.1 Event.DropRx (told_of self.new.1 result.0) }
-        ensures seen { HaveShown H.shows result.1 (settled_of result.0) }
+    /// Makes the drop of this handle; what that ended, with what was seen of it.
+    ///
+    /// # Examples
+    /// ```text
+    /// let gone = locked.state.drop_handle(board, counted);
+    /// ```
+    pub fn drop_handle<S: OfSide>(&mut self, board: &H::Board, counted: Counted<S>) -> Gone<T, H>
+        ensures told { Tells self.old.1 (one_less S.side) (told_of self.new.1 result) }
+        ensures leave { Leave self.old.2 (gone_of result) self.new.2 }
     {
-        let before = Snapshot::of(&self.cleanup);
-        let (made, prefix) = self.by_nobody(board, Event::DropRx);
-        counted.count_out::<T, Seat<T, H>, H>(&before, &self.cleanup, &made);
-        (made, prefix)
-    }
-
-    /// Makes the drop of this sender; what that ended, with what was seen of it.
-    ///
-    /// # Examples
-    /// ```text
-    /// let gone = locked.state.drop_sender(board, counted);
-    /// ```
-    pub fn drop_sender(&mut self, board: &H::Board, counted: CountedSender) -> Gone<T, H> {
-        let (made, prefix) = self.sender_out(board, counted);
-        Gone { made, prefix }
-    }
-
-    /// Makes the drop of this receiver; what that ended, with what was seen of it.
-    ///
-    /// # Examples
-    /// ```text
-    /// let gone = locked.state.drop_receiver(board, counted);
-    /// ```
-    pub fn drop_receiver(&mut self, board: &H::Board, counted: CountedReceiver) -> Gone<T, H> {
-        let (made, prefix) = self.receiver_out(board, counted);
+        let (made, prefix) = self.handle_out(board, counted);
         Gone { made, prefix }
     }
 
@@ -203,46 +193,25 @@ impl<T: Drop, H: History<T>> State<T, H> {
         Snapshot::of(&self.cleanup)
     }
 
-    /// Makes the drops of these senders until the last one's; what that ended, with what was seen of it, and
-    /// those that are left.
+    /// Makes the drops of these handles until the last one's of their side; what that ended, with what was seen
+    /// of it, and those that are left.
     ///
     /// # Examples
     /// ```text
-    /// let (ended, rest) = locked.state.drop_senders(board, notices.take());
+    /// let (ended, rest) = locked.state.drop_handles::<SendSide>(board, notices.take_handles());
     /// ```
-    pub fn drop_senders(
+    pub fn drop_handles<S: OfSide>(
         &mut self,
         board: &H::Board,
-        gone: GoneSenders,
-    ) -> (Option<Gone<T, H>>, GoneSenders) {
+        gone: GoneHandles<S>,
+    ) -> (Option<Gone<T, H>>, GoneHandles<S>)
+        ensures ended { IfSome result.0 (λ ended. Leave self.old.2 (gone_of ended) self.new.2) }
+        ensures none { IfNone result.0 (self.new.2 ≡ self.old.2) }
+    {
         let mut gone = gone;
         while let Some(counted) = gone.next() {
-            let is_last = self.core.sender_count() == 1;
-            let (made, prefix) = self.sender_out(board, counted);
-            if is_last {
-                return (Some(Gone { made, prefix }), gone);
-            }
-            drop(made);
-        }
-        (None, gone)
-    }
-
-    /// Makes the drops of these receivers until the last one's; what that ended, with what was seen of it, and
-    /// those that are left.
-    ///
-    /// # Examples
-    /// ```text
-    /// let (ended, rest) = locked.state.drop_receivers(board, notices.take());
-    /// ```
-    pub fn drop_receivers(
-        &mut self,
-        board: &H::Board,
-        gone: GoneReceivers,
-    ) -> (Option<Gone<T, H>>, GoneReceivers) {
-        let mut gone = gone;
-        while let Some(counted) = gone.next() {
-            let is_last = self.core.receiver_count() == 1;
-            let (made, prefix) = self.receiver_out(board, counted);
+            let is_last = self.count_of(S::side()) == 1;
+            let (made, prefix) = self.handle_out(board, counted);
             if is_last {
                 return (Some(Gone { made, prefix }), gone);
             }

@@ -7,4 +7,4 @@ returns-in-Some g c =
 
 pub returns-in-None : goal.returns-in-None
 returns-in-None g c =
-    record { received = received_from g.H.History.words c.args.pass.now c.pop.new.pass c.fetch-in-None.new.pass c.fetch-in-None.result c.in-None.ensures.refused c.fetch-in-None.ensures.received }
+    record { received = received_from g.H.History.words c.args.pass.now c.pop.new.pass c.recv_waiting-in-None.new.pass c.recv_waiting-in-None.result c.in-None.ensures.refused c.recv_waiting-in-None.ensures.received }

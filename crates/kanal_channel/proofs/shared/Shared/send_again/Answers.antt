@@ -8,4 +8,4 @@ returns-in-Ok g c =
 pub returns-in-Err : goal.returns-in-Err
 returns-in-Err g c =
     let refused = c.in-Err.ensures.refused in
-    record { sent = sent_from g.H.History.words c.args.pass.now c.push.new.pass c.hand_over-in-Err.new.pass c.args.message c.in-Err.message c.hand_over-in-Err.result refused.0 refused.1 c.hand_over-in-Err.ensures.sent }
+    record { sent = sent_from g.H.History.words c.args.pass.now c.push.new.pass c.send_waiting-in-Err.new.pass c.args.message c.in-Err.message c.send_waiting-in-Err.result refused.0 refused.1 c.send_waiting-in-Err.ensures.sent }

@@ -2,6 +2,7 @@ use Rattle.std.proofs.Common.{◌∙◌, ap}
 use Rattle.kanal_events.specs.Made.{told_of}
 use Rattle.kanal_history.specs.Results.{counted_by}
 use Rattle.kanal_state.proofs.Counting.{more_counted, more_settles}
+use Rattle.kanal_state.proofs.Leaving.{nobody_leaves}
 use Rattle.kanal_state.proofs.state.State.count_in.Goals as goal
 
 pub into_parts-reply-requires : goal.into_parts-reply-requires
@@ -12,3 +13,8 @@ pub returns-clause-counted : goal.returns-clause-counted
 returns-clause-counted g c =
     more_counted g.H.History.words c.args.pass.now c.make-made.new.pass c.args.side c.one_more.result c.make-made.result c.counted_by.result c.one_more.ensures c.make-made.ensures.noted
     (c.counted_by.ensures ∙ ap counted_by c.into_parts-reply.ensures.reply)
+
+pub returns-clause-waiters : goal.returns-clause-waiters
+returns-clause-waiters g c =
+    let nobody = more_settles c.args.self.now.1 c.args.side c.one_more.result (told_of c.make-made.new.self.1 c.make-made.result) c.one_more.ensures c.make-made.ensures.step in
+    nobody_leaves c.args.self.now.2 c.make-made.new.self.2 c.make-made.result nobody c.make-made.ensures.leave

@@ -1,0 +1,31 @@
+//! What shows that a cell was settled, and with which outcome.
+//!
+//! It stands on what shows that the sleeper was woken, and has no bytes. A settle alone makes one, after its
+//! step and after it woke whom it had to.
+ghost use Rattle.std.specs.Prelude.{◌≡◌, true};
+ghost use Rattle.kanal_cell.specs.CellEnds.{HasSettled, settle_view};
+
+use super::SettleEnd;
+use super::waking::Woken;
+use std::snapshot::Snapshot;
+
+/// That a settler has settled its cell with an outcome, and has woken whom it had to. It has no bytes.
+#[derive(Drop)]
+pub struct Settlement<P> {
+    end: Snapshot<SettleEnd<P>>,
+    outcome: Snapshot<P>,
+}
+
+impl<P> Settlement<P> {
+    /// Of the settler that has made its step, and of the outcome that it had.
+    pub(super) fn new(end: &SettleEnd<P>, outcome: Snapshot<P>, woken: Woken) -> Self
+        requires ended { (settle_view end.now).set.ended ≡ true }
+        ensures { HasSettled result end.now outcome.value }
+    {
+        drop(woken);
+        Settlement {
+            end: Snapshot::of(end),
+            outcome,
+        }
+    }
+}

@@ -1,0 +1,59 @@
+-- Who leaves the list of those that wait, by what the core says of each call.
+use Rattle.std.proofs.Common.{◌≡◌, ℕ, ◌-◌, Bool, true, false, ◌==◌, List, [], ◌∷◌, map, Option, None, Some, cond, refl, ap, sym, subst, ◌∙◌}
+use Rattle.kanal_core.specs.declared.internal.outcome.Reason.{Reason}
+use Rattle.kanal_core.specs.declared.internal.outcome.Settled.{Settled}
+use Rattle.kanal_core.specs.declared.internal.outcome.Waiter.{Waiter}
+use Rattle.kanal_core.specs.Calls.{OldestLeft}
+use Rattle.kanal_core.specs.Channel.{Channel, after_drain, closed, ended_by, receiver_dropped, sealed, sender_dropped, taken_by}
+use Rattle.kanal_core.specs.Waiters.{receiver_first, sender_first}
+use Rattle.kanal_events.specs.Leaving.{Leave, at_most_one}
+
+module _ {T W : Type 0} where
+  -- at most the oldest leaves
+  pub oldest_leaves : (old new : List (Waiter T W)) (s : Option (Settled T W)) → OldestLeft old s new → Leave old (at_most_one s) new
+  oldest_leaves old new None is = is
+  oldest_leaves old new (Some s) left = subst (λ ws. Leave ws (s ∷ []) new) (sym left.1) (left.2, left.3, refl)
+
+  all-ended : (reason : Reason) (old : List (Waiter T W)) → Leave old (map (ended_by reason) old) []
+  all-ended reason [] = refl
+  all-ended reason (x ∷ old) = (refl, refl, all-ended reason old)
+
+  all-taken : (old : List (Waiter T W)) → Leave old (map taken_by old) []
+  all-taken [] = refl
+  all-taken (x ∷ old) = (refl, refl, all-taken old)
+
+  ended-if : (all : Bool) (reason : Reason) (old : List (Waiter T W)) → Leave old (cond all (map (ended_by reason) old) []) (cond all [] old)
+  ended-if true reason old = all-ended reason old
+  ended-if false reason old = refl
+
+  taken-if : (all : Bool) (old : List (Waiter T W)) → Leave old (cond all (map taken_by old) []) (cond all [] old)
+  taken-if true old = all-taken old
+  taken-if false old = refl
+
+  moved : (old : List (Waiter T W)) (gone is : List (Settled T W)) (new now : List (Waiter T W)) → is ≡ gone → now ≡ new → Leave old gone new → Leave old is now
+  moved old gone is new now e f l = subst (λ ws. Leave old is ws) (sym f) (subst (λ ss. Leave old ss new) (sym e) l)
+
+  -- with the last sender all leave, and otherwise nobody
+  pub sender_leaves : (old new : Channel T W) (reason : Reason) (ended : List (Settled T W))
+      → new ≡ sender_dropped old → ended ≡ cond (old.senders == 1) (map (ended_by reason) old.waiters) [] → Leave old.waiters ended new.waiters
+  sender_leaves old new reason ended after is = moved old.waiters _ ended _ new.waiters is (ap (λ (c : Channel T W). c.waiters) after) (ended-if (old.senders == 1) reason old.waiters)
+
+  -- so with the last receiver
+  pub receiver_leaves : (old new : Channel T W) (reason : Reason) (ended : List (Settled T W))
+      → new ≡ receiver_dropped old → ended ≡ cond (old.receivers == 1) (map (ended_by reason) old.waiters) [] → Leave old.waiters ended new.waiters
+  receiver_leaves old new reason ended after is = moved old.waiters _ ended _ new.waiters is (ap (λ (c : Channel T W). c.waiters) after) (ended-if (old.receivers == 1) reason old.waiters)
+
+  -- by a seal the receivers leave that wait
+  pub sealed_leaves : (old new : Channel T W) (reason : Reason) (ended : List (Settled T W))
+      → new ≡ sealed old → ended ≡ cond (receiver_first old.waiters) (map (ended_by reason) old.waiters) [] → Leave old.waiters ended new.waiters
+  sealed_leaves old new reason ended after is = moved old.waiters _ ended _ new.waiters is (ap (λ (c : Channel T W). c.waiters) after) (ended-if (receiver_first old.waiters) reason old.waiters)
+
+  -- by a close all leave
+  pub closed_leaves : (old new : Channel T W) (reason : Reason) (ended : List (Settled T W))
+      → new ≡ closed old → ended ≡ map (ended_by reason) old.waiters → Leave old.waiters ended new.waiters
+  closed_leaves old new reason ended after is = moved old.waiters _ ended _ new.waiters is (ap (λ (c : Channel T W). c.waiters) after) (all-ended reason old.waiters)
+
+  -- by a drain the senders leave that wait
+  pub drained_leaves : (old new : Channel T W) (ended : List (Settled T W))
+      → new ≡ after_drain old → ended ≡ cond (sender_first old.waiters) (map taken_by old.waiters) [] → Leave old.waiters ended new.waiters
+  drained_leaves old new ended after is = moved old.waiters _ ended _ new.waiters is (ap (λ (c : Channel T W). c.waiters) after) (taken-if (sender_first old.waiters) old.waiters)

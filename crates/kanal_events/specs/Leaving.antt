@@ -1,0 +1,47 @@
+-- Who leaves the list of those that wait at a step, and who stays there.
+use Rattle.std.specs.Prelude.{◌≡◌, List, [], ◌∷◌, ◌++◌, Option, None, Some}
+use Rattle.kanal_core.specs.declared.internal.outcome.Settled.{Settled}
+use Rattle.kanal_core.specs.declared.internal.outcome.Waiter.{Waiter}
+use Rattle.kanal_events.specs.declared.event.Event.{Event}
+use Rattle.kanal_events.specs.declared.made.Leaving.{Leaving}
+use Rattle.kanal_events.specs.declared.made.Leaving.TheVariants.{One, All, Shut, Drained}
+use Rattle.kanal_events.specs.declared.made.Made.{Made}
+use Rattle.kanal_events.specs.declared.made.Kept.{Kept}
+use Rattle.kanal_events.specs.declared.made.Kept.TheVariants.{Ticket as Waiting, Back}
+use Rattle.kanal_events.specs.declared.made.Tried.{Tried}
+use Rattle.kanal_events.specs.declared.made.Tried.TheVariants.{Told as WasTold, MustWait as HasToWait}
+use Rattle.kanal_events.specs.Made.{made_of}
+use Rattle.kanal_events.specs.Steps.{message_of}
+
+module _ {T W : Type 0} where
+  -- at most one who was settled, as a list
+  abbrev pub at_most_one : Option (Settled T W) → List (Settled T W)
+  at_most_one None = []
+  at_most_one (Some s) = s ∷ []
+
+  -- those whose waits were settled, with what they brought, of what left the core
+  abbrev pub gone_of_left : Leaving T W → List (Settled T W)
+  gone_of_left (One reply settled) = at_most_one settled
+  gone_of_left (All reply ended) = ended
+  gone_of_left (Shut closing) = closing.ended
+  gone_of_left (Drained count ended moved) = ended
+
+  -- those whose waits a step settled, with what they brought
+  abbrev pub gone_of : Made T W → List (Settled T W)
+  gone_of made = gone_of_left made.leaving
+
+  -- these were the oldest that waited, each with its ticket and what it brought; the others stay as they were
+  abbrev pub Leave : List (Waiter T W) → List (Settled T W) → List (Waiter T W) → Type 0
+  Leave old [] new = new ≡ old
+  Leave [] (s ∷ gone) new = ⊥
+  Leave (x ∷ old) (s ∷ gone) new = (s.ticket ≡ x.ticket) × (s.w ≡ x.w) × Leave old gone new
+
+  -- the same of a call that waits where it must; where it must nobody left
+  abbrev pub LeaveTried : List (Waiter T W) → Tried T W → List (Waiter T W) → Type 0
+  LeaveTried old (WasTold answered) new = Leave old (gone_of (made_of answered)) new
+  LeaveTried old (HasToWait back) new = new ≡ old
+
+  -- behind those that waited stands the call, with its message and what it brought; or nobody came, and that is back
+  abbrev pub Comes : List (Waiter T W) → Event T → W → Kept W → List (Waiter T W) → Type 0
+  Comes old event w (Waiting ticket) new = new ≡ old ++ record { ticket = ticket; message = message_of event; w = w } ∷ []
+  Comes old event w (Back back) new = (back ≡ w) × (new ≡ old)

@@ -1,0 +1,25 @@
+-- That who waits was told, and that who left is kept.
+use Rattle.std.specs.Prelude.{◌≡◌, ℕ, List, ◌∷◌, Option, Some}
+use Rattle.kanal_cell.specs.CellEnds.{CellName, settle_cell}
+use Rattle.kanal_cell.specs.declared.signal.settlement.Settlement.{Settlement}
+use Rattle.kanal_core.specs.declared.internal.outcome.Outcome.{Outcome}
+use Rattle.kanal_core.specs.declared.internal.outcome.Waiter.{Waiter}
+use Rattle.kanal_state.specs.Renewing.{Brought}
+
+-- who left by notice: the cell of its wait, and the message of its entry
+pub record Left (T : Type 0) : Type 0 where
+  pub cell : CellName
+  pub message : Option T
+
+module _ {T : Type 0} where
+  -- the cell of the seat was settled with this outcome of this ticket
+  abbrev pub IsTold : Settlement (ℕ × Outcome T) → Brought → ℕ × Outcome T → Type 0
+  IsTold settlement seat pair = (settle_cell settlement.end.value ≡ seat.cell) × (settlement.outcome.value ≡ pair)
+
+  -- the entry that left, as it is kept
+  abbrev pub left_of : Waiter T Brought → Left T
+  left_of w = record { cell = w.w.cell; message = w.message }
+
+  -- it is kept in front of those that left before
+  abbrev pub IsKept : Waiter T Brought → List (Option (Left T)) → List (Option (Left T)) → Type 0
+  IsKept w before kept = kept ≡ Some (left_of w) ∷ before

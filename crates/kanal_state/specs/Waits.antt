@@ -1,0 +1,30 @@
+-- What the start of a wait came to.
+use Rattle.std.specs.Prelude.{◌≡◌, List, [], ◌∷◌, ◌++◌}
+use Rattle.kanal_core.specs.declared.internal.outcome.Waiter.{Waiter}
+use Rattle.kanal_core.specs.Tickets.{number_of}
+use Rattle.kanal_events.specs.declared.event.Event.{Event}
+use Rattle.kanal_events.specs.declared.event.Reply.{Reply}
+use Rattle.kanal_events.specs.declared.event.Reply.TheVariants.{Waits as HasToWait}
+use Rattle.kanal_events.specs.Steps.{message_of}
+use Rattle.kanal_history.specs.Makes.{HasReplied, IsReplied}
+use Rattle.kanal_history.specs.Words.{Words}
+use Rattle.kanal_state.specs.declared.state.WaitStart.{WaitStart}
+use Rattle.kanal_state.specs.declared.state.WaitStart.TheVariants.{Waits, Refused}
+use Rattle.kanal_state.specs.Counts.{ticket_of}
+use Rattle.kanal_state.specs.Renewing.{Brought}
+
+module _ {T H P B S C : Type 0} where
+  -- the reply: the call waits under its ticket, or it was refused
+  abbrev pub reply_at : WaitStart T H P B S C → Reply T
+  reply_at (Waits counted) = HasToWait (number_of (ticket_of counted))
+  reply_at (Refused reply seat) = reply
+
+  -- the pass made the call, which waits; or it was refused, or there was no memory for it
+  abbrev pub HasStarted : Words T P → P → P → Event T → WaitStart T H P B S C → Type 0
+  HasStarted w old new event (Waits counted) = IsReplied w old new event (λ reply. reply) (HasToWait (number_of (ticket_of counted)))
+  HasStarted w old new event (Refused reply seat) = HasReplied w old new event reply
+
+  -- behind those that waited stands the call, with its message and its seat; or nobody came, and the seat is back
+  abbrev pub Joins : List (Waiter T Brought) → Event T → Brought → WaitStart T H P B S C → List (Waiter T Brought) → Type 0
+  Joins old event seat (Waits counted) new = new ≡ old ++ record { ticket = ticket_of counted; message = message_of event; w = seat } ∷ []
+  Joins old event seat (Refused reply back) new = (back ≡ seat) × (new ≡ old)

@@ -276,7 +276,7 @@ impl<'a, T: Drop, H: History<T>> Receiving<'a, T, H> {
         ensures kept { Keeps cx.old cx.new }
         ensures source { receive_source self.new ≡ receive_source self.old }
     {
-        match self.shared.catch_up_once(locked) {
+        match locked.catch_up() {
             Some(locked) => self.begin_held(locked, pass, cx),
             None => self.retry(pass, cx),
         }

@@ -238,7 +238,7 @@ impl<'a, T: Drop, H: History<T>> Sending<'a, T, H> {
         ensures kept { Keeps cx.old cx.new }
         ensures source { send_source self.new ≡ send_source self.old }
     {
-        match self.shared.catch_up_once(locked) {
+        match locked.catch_up() {
             Some(locked) => self.begin_held(locked, pass, message, cx),
             None => self.retry(pass, message, cx),
         }

@@ -137,6 +137,29 @@ impl<T: Drop, H: History<T>> Locked<'_, T, H> {
         Released::by(state)
     }
 
+    /// Applies the notices under a lock that one try got. Where they take something out, the lock is released,
+    /// that is told, and the lock is tried once more; `None` where another has it then.
+    ///
+    /// # Examples
+    /// ```text
+    /// let locked = shared.try_lock()?.catch_up()?;
+    /// ```
+    #[cold]
+    pub fn catch_up(self) -> Option<Self>
+        ensures quiet { IfSome result IsQuiet }
+    {
+        let shared = self.shared;
+        let mut locked = self;
+        match locked.take_left().into_taken() {
+            None => Some(locked),
+            Some(taken) => {
+                let released = locked.release();
+                shared.tell_taken(taken, &released);
+                shared.try_lock()
+            },
+        }
+    }
+
     /// Applies the notices under a lock that one try got. What they take out goes back with the lock.
     #[cold]
     fn take_left(&mut self) -> Left<T, H>
@@ -255,28 +278,6 @@ impl<T: Drop, H: History<T>> Shared<T, H> {
             locked.take_left()
         };
         Some((locked, left))
-    }
-
-    /// Applies the notices under a lock that one try got. Where they take something out, the lock is released,
-    /// that is told, and the lock is tried once more; `None` where another has it then.
-    ///
-    /// # Examples
-    /// ```text
-    /// let locked = shared.catch_up_once(shared.try_lock()?)?;
-    /// ```
-    #[cold]
-    pub fn catch_up_once<'a>(&'a self, locked: Locked<'a, T, H>) -> Option<Locked<'a, T, H>>
-        ensures quiet { IfSome result IsQuiet }
-    {
-        let mut locked = locked;
-        match locked.take_left().into_taken() {
-            None => Some(locked),
-            Some(taken) => {
-                let released = locked.release();
-                self.tell_taken(taken, &released);
-                self.try_lock()
-            },
-        }
     }
 
     /// Waits for a lock that was held: with pauses between the tries, then with naps, and then asleep.

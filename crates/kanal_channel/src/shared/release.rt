@@ -134,7 +134,12 @@ impl<T: Drop, H: History<T>> Shared<T, H> {
     /// let reply = shared.settle(&mut pass, made, &released);
     /// shared.look();
     /// ```
-    pub fn settle(&self, pass: &mut H::Pass, made: Made<T, Seat<T, H>>, released: &Released) -> Reply<T>
+    pub fn settle(
+        &self,
+        pass: &mut H::Pass,
+        made: Made<T, Seat<T, H>>,
+        released: &Released,
+    ) -> Reply<T>
         requires seen { HaveSettled H.words pass.old (settled_of made) }
         ensures reply { result ≡ reply_of made }
         ensures same { pass.new ≡ pass.old }

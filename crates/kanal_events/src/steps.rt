@@ -71,7 +71,10 @@ fn try_send<T: Drop, W: Drop>(core: &mut ChannelInternal<T, W>, message: T) -> M
         Offer::Handed(settled) => Made::one(Reply::Yes, Some(settled)),
         Offer::Full(back) => Made::replied(Reply::No(back)),
         Offer::Closed(back) => Made::replied(Reply::Refused(Refusal::Closed, Some(back))),
-        Offer::ReceiveClosed(back) => Made::replied(Reply::Refused(Refusal::ReceiveClosed, Some(back))),
+        Offer::ReceiveClosed(back) => Made::replied(Reply::Refused(
+            Refusal::ReceiveClosed,
+            Some(back),
+        )),
         Offer::Sealed(back) => Made::replied(Reply::Refused(Refusal::Sealed, Some(back))),
         Offer::NoMemory(back) => Made::replied(Reply::Refused(Refusal::NoMemory, Some(back))),
     }

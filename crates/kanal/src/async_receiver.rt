@@ -9,7 +9,7 @@ ghost use Rattle.std.specs.Vec.{vec_capacity, vec_len};
 ghost use Rattle.kanal.specs.Handles.{ClonesReceiver, receiver_for_tasks, viewed_receiver};
 ghost use Rattle.kanal_events.specs.declared.event.Ask.{Ask};
 ghost use Rattle.kanal_events.specs.declared.event.Side.{Side};
-ghost use Rattle.kanal_futures.specs.Plain.{receive_is_over};
+ghost use Rattle.kanal_futures.specs.Plain.{is_over};
 ghost use Rattle.kanal_futures.specs.Streams.{stream_is_over, stream_pass};
 ghost use Rattle.kanal_history.specs.Handles.{Asks, AsksForTheEnd, Closes, Drains, Seals, TriesToReceive, TriesToReceiveNow};
 ghost use Rattle.kanal_history.specs.Makes.{HasTooLittleRoom};
@@ -375,7 +375,7 @@ impl<T: Drop, H: History<T, Pass = ()>> AsyncReceiver<T, H> {
     /// block_on(&rt, receiver.recv())   gives  Err(ReceiveError::SendClosed)    after the last sender's drop
     /// ```
     pub fn recv(&self) -> ReceiveFuture<'_, T, H>
-        ensures fresh { receive_is_over result ≡ false }
+        ensures fresh { is_over result ≡ false }
     {
         receive_future(&self.shared)
     }

@@ -1,4 +1,5 @@
 pub mod Tasks
+pub mod Answers
 pub mod Futures
 pub mod Plain
 pub mod Streams

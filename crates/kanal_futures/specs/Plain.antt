@@ -1,9 +1,8 @@
 -- Where a future is that answers without its pass.
 use Rattle.std.specs.Prelude.{ℕ, Bool, Option, Some, None, MatchOption}
 use Rattle.std.specs.Option.{is_none}
-use Rattle.kanal_futures.specs.declared.receive.ReceiveFuture.{ReceiveFuture}
-use Rattle.kanal_futures.specs.declared.send.SendFuture.{SendFuture}
-use Rattle.kanal_futures.specs.Futures.{receive_begun, receive_kept, receive_source, send_begun, send_kept, send_source}
+use Rattle.kanal_futures.specs.declared.plain.PlainFuture.{PlainFuture}
+use Rattle.kanal_futures.specs.Futures.{call_begun, call_kept, call_source}
 
 -- the message of what a send began with
 abbrev pub message_of : {T P : Type 0} → Option (P × T) → Option T
@@ -14,39 +13,23 @@ message_of (Some begun) = Some begun.1
 abbrev pub HasAnswered : {P : Type 0} → Option P → (P → Type 0) → Type 0
 HasAnswered left says = MatchOption left ⊥ says
 
-module _ {T H P B S C : Type 0} where
-  -- a receive that has answered
-  abbrev pub receive_is_over : ReceiveFuture T H P B S C → Bool
-  receive_is_over f = is_none (receive_begun f.receiving)
+module _ {T H M A P B S C O : Type 0} where
+  -- what the pass was at first, and what is asked, of a future that has not answered
+  abbrev pub call_of : PlainFuture T H M A P B S C O → Option (P × M)
+  call_of f = call_begun f.call
 
-  -- what the pass of a receive was at first, if it has not answered
-  abbrev pub receive_pass : ReceiveFuture T H P B S C → Option P
-  receive_pass f = receive_begun f.receiving
+  -- a future that has answered
+  abbrev pub is_over : PlainFuture T H M A P B S C O → Bool
+  is_over f = is_none (call_begun f.call)
 
-  -- the pass of a receive that has answered
-  abbrev pub receive_left : ReceiveFuture T H P B S C → Option P
-  receive_left f = receive_kept f.receiving
-
-  -- the name of what a receive waits for
-  abbrev pub receive_future_source : ReceiveFuture T H P B S C → ℕ
-  receive_future_source f = receive_source f.receiving
-
-  -- a send that has answered
-  abbrev pub send_is_over : SendFuture T H P B S C → Bool
-  send_is_over f = is_none (send_begun f.sending)
-
-  -- what the pass of a send was at first, and its message, if it has not answered
-  abbrev pub send_call : SendFuture T H P B S C → Option (P × T)
-  send_call f = send_begun f.sending
-
-  -- the pass of a send that has answered
-  abbrev pub send_left : SendFuture T H P B S C → Option P
-  send_left f = send_kept f.sending
+  -- the pass of a future that has answered
+  abbrev pub left_of : PlainFuture T H M A P B S C O → Option P
+  left_of f = call_kept f.call
 
   -- the message of a send that has not answered
-  abbrev pub message_in : SendFuture T H P B S C → Option T
-  message_in f = message_of (send_begun f.sending)
+  abbrev pub message_in : PlainFuture T H M A P B S C O → Option M
+  message_in f = message_of (call_begun f.call)
 
-  -- the name of what a send waits for
-  abbrev pub send_future_source : SendFuture T H P B S C → ℕ
-  send_future_source f = send_source f.sending
+  -- the name of what a future waits for
+  abbrev pub future_source : PlainFuture T H M A P B S C O → ℕ
+  future_source f = call_source f.call

@@ -4,7 +4,8 @@ use Rattle.kanal_core.specs.declared.error.ReceiveError.{ReceiveError}
 use Rattle.kanal_history.specs.Handles.{Receives}
 use Rattle.kanal_history.specs.Words.{Words}
 use Rattle.kanal_futures.specs.declared.stream.ReceiveStream.{ReceiveStream}
-use Rattle.kanal_futures.specs.Futures.{receive_begun, receive_source, receive_waits}
+use Rattle.kanal_futures.specs.Futures.{call_begun, call_source, call_waits}
+use Rattle.kanal_futures.specs.Tasks.{passes}
 
 module _ {T H P B S C : Type 0} where
   -- a stream that has answered that there is no more
@@ -17,15 +18,15 @@ module _ {T H P B S C : Type 0} where
 
   -- a stream with a wait of its own that was not polled to its end
   abbrev pub stream_waits : ReceiveStream T H P B S C → Bool
-  stream_waits s = receive_waits s.receiving
+  stream_waits s = call_waits s.receiving
 
   -- the name of what a stream waits for
   abbrev pub stream_source : ReceiveStream T H P B S C → ℕ
-  stream_source s = receive_source s.receiving
+  stream_source s = call_source s.receiving
 
   -- the pass of a stream's next receive, as it was before that
   abbrev pub stream_pass : ReceiveStream T H P B S C → Option P
-  stream_pass s = receive_begun s.receiving
+  stream_pass s = passes (call_begun s.receiving)
 
 module _ {T P : Type 0} where
   -- a receive by the pass that was there before has this answer, and the pass that is there after made it

@@ -21,39 +21,39 @@ passes (Some begun) = Some begun.0
 abbrev pub source_of : Wakers → ℕ
 source_of wakers = wakers.source.id
 
-module _ {T H M A P B S C : Type 0} where
+module _ {T H M A P B S C O : Type 0} where
   -- what the pass was at first, and what was asked, of a call that has not answered
-  abbrev pub begun_by : Progress T H M A P B S C → Option (P × M)
+  abbrev pub begun_by : Progress T H M A P B S C O → Option (P × M)
   begun_by (Zero pass asked) = Some (pass, asked)
   begun_by (Waiting started) = Some started
   begun_by (Done kept) = None
 
   -- there is a wait that has to be counted out
-  abbrev pub is_waiting : Progress T H M A P B S C → Bool
+  abbrev pub is_waiting : Progress T H M A P B S C O → Bool
   is_waiting (Zero pass asked) = false
   is_waiting (Waiting started) = true
   is_waiting (Done kept) = false
 
   -- there is a call that was not made yet
-  abbrev pub is_fresh : Progress T H M A P B S C → Bool
+  abbrev pub is_fresh : Progress T H M A P B S C O → Bool
   is_fresh (Zero pass asked) = true
   is_fresh (Waiting started) = false
   is_fresh (Done kept) = false
 
   -- the pass of a call that has answered, where it is kept
-  abbrev pub answered_by : Progress T H M A P B S C → Option P
+  abbrev pub answered_by : Progress T H M A P B S C O → Option P
   answered_by (Zero pass asked) = None
   answered_by (Waiting started) = None
   answered_by (Done kept) = kept
 
   -- what a call began with of whose poll this is left, beside where its future is
-  abbrev pub begun_with : Rest T H M P B S C → Progress T H M A P B S C → Option (P × M)
+  abbrev pub begun_with : Rest T H M P B S C → Progress T H M A P B S C O → Option (P × M)
   begun_with (Held locked pass asked) state = Some (pass, asked)
   begun_with (Refused pass asked) state = Some (pass, asked)
   begun_with Begun state = begun_by state
 
   -- a call that was taken out is in the rest alone, and one that was not taken out was made
-  abbrev pub Fits : Rest T H M P B S C → Progress T H M A P B S C → Type 0
+  abbrev pub Fits : Rest T H M P B S C → Progress T H M A P B S C O → Type 0
   Fits (Held locked pass asked) state = (begun_by state ≡ None) × IsQuiet locked
   Fits (Refused pass asked) state = begun_by state ≡ None
   Fits Begun state = is_fresh state ≡ false

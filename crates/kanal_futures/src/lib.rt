@@ -5,28 +5,27 @@
 //! under the lock.
 //!
 //! `Receiving` and `Sending` carry a pass between their polls, and answer with it: `into_parts` says in the
-//! history's own words which call the pass made. `ReceiveFuture` and `SendFuture` do so with the pass of no
-//! content, for handles that have none. `ReceiveStream` is one receive after the other, by a pass that it
-//! carries. What both directions have in common stands once: the wait of a task in `started`, where a future
-//! is in `progress`, a task's wakers in `wakers`. `Caller` is who makes a call that may wait, of a stream or of
-//! a handle above.
+//! history's own words which call the pass made. They are one future, in `call`. `ReceiveFuture` and
+//! `SendFuture` answer without the pass, which has no content, for handles that have none. They are one, too,
+//! in `plain`. What a send and a receive differ in is said by `asks`. `ReceiveStream` is one receive after the
+//! other, by a pass that it carries. `Caller` is who makes a call that may wait, of a stream or of a handle
+//! above.
 #![tactic(auto)]
 
+mod answer;
 mod asks;
+mod call;
 mod caller;
 mod earlier;
+mod plain;
 mod progress;
-mod receive;
 mod receiving;
-mod send;
 mod sending;
 mod started;
 mod stream;
 mod wakers;
 
 pub use caller::Caller;
-pub use receive::{ReceiveFuture, receive_future};
-pub use receiving::{Received, Receiving, recv_in_task};
-pub use send::{SendFuture, send_future};
-pub use sending::{Sending, Sent, send_in_task};
+pub use receiving::{ReceiveFuture, Received, Receiving, receive_future, recv_in_task};
+pub use sending::{SendFuture, Sending, Sent, send_future, send_in_task};
 pub use stream::{ReceiveStream, receive_stream};

@@ -7,7 +7,7 @@ ghost use Rattle.futures.specs.Task.{Covers, Keeps};
 ghost use Rattle.futures.specs.Poll.{IfReady, OnPending};
 ghost use Rattle.futures.specs.Runs.{After, Within};
 ghost use Rattle.kanal_history.specs.Handles.{AsksForTheEnd, Receives};
-ghost use Rattle.kanal_futures.specs.Futures.{receive_begun};
+ghost use Rattle.kanal_futures.specs.Futures.{call_begun};
 ghost use Rattle.kanal_futures.specs.Plain.{HasAnswered};
 ghost use Rattle.kanal_futures.specs.Streams.{HasEnded, HasReceived, stream_fault, stream_is_over, stream_pass, stream_source, stream_waits};
 
@@ -82,17 +82,17 @@ impl<T: Drop, H: History<T>> ReceiveStream<'_, T, H> {
 
     /// Takes an answer: the next receive begins by its pass, and a refusal ends the stream.
     fn take(&mut self, received: Received<T, H>) -> Option<T>
-        requires over { receive_begun self.old.receiving ≡ None }
-        ensures received { IfSome result (λ m. Receives H.words received.0 received.1 (Ok m)) }
+        requires over { call_begun self.old.receiving ≡ None }
+        ensures received { IfSome result (λ m. Receives H.words received.0 received.2 (Ok m)) }
         ensures refused { IfNone result (HasAnswered (stream_fault self.new) (λ error.
-            Receives H.words received.0 received.1 (Err error))) }
-        ensures pass { stream_pass self.new ≡ Some received.1 }
+            Receives H.words received.0 received.2 (Err error))) }
+        ensures pass { stream_pass self.new ≡ Some received.2 }
         ensures ends { IfNone result (stream_is_over self.new ≡ true) }
         ensures goes_on { IfSome result (λ _. stream_fault self.new ≡ stream_fault self.old) }
         ensures source { stream_source self.new ≡ stream_source self.old }
     {
         let (pass, answer) = received.into_parts();
-        self.receiving.restart(pass);
+        self.receiving.restart(pass, ());
         match answer {
             Ok(message) => Some(message),
             Err(error) => {

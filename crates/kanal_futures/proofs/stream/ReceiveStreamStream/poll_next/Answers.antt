@@ -1,6 +1,8 @@
-use Rattle.std.proofs.Common.{◌≡◌, Some, subst}
+use Rattle.std.proofs.Common.{◌≡◌, Some, ap, subst}
 use Rattle.std.specs.Option.{IfSome}
+use Rattle.kanal_futures.specs.Futures.{call_begun}
 use Rattle.kanal_futures.specs.Streams.{stream_pass}
+use Rattle.kanal_futures.specs.Tasks.{passes}
 use Rattle.kanal_futures.proofs.Answering.{received_on}
 use Rattle.kanal_futures.proofs.stream.ReceiveStreamStream.poll_next.Goals as goal
 
@@ -10,5 +12,6 @@ returns-in-Ready-Some-clause-received g c =
     let got = polled.received in
     let took = c.take.ensures in
     let before = stream_pass c.args.self.now in
-    let from : before ≡ Some got.0 = subst (λ r. IfSome r (λ x. before ≡ Some x.0)) polled.field-0-is polled.ensures.begun in
-    received_on g.H.History.words got.0 got.1 before (stream_pass c.take.new.self) c.take.result from took.pass took.received
+    let began = call_begun c.args.self.now.receiving in
+    let from : before ≡ Some got.0 = ap passes (subst (λ r. IfSome r (λ x. began ≡ Some (x.0, x.1))) polled.field-0-is polled.ensures.begun) in
+    received_on g.H.History.words got.0 got.2 before (stream_pass c.take.new.self) c.take.result from took.pass took.received

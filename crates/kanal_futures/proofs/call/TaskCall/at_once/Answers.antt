@@ -1,0 +1,13 @@
+use Rattle.std.proofs.Common.{subst, sym}
+use Rattle.kanal_futures.specs.Answers.{Answers}
+use Rattle.kanal_futures.proofs.call.TaskCall.at_once.Goals as goal
+
+pub new-requires : goal.new-requires
+new-requires g c =
+    let w = g.H.History.words in
+    let a = g.A.Asks in
+    let pass = c.at_once.new.pass in
+    let answer = c.in-Ok.answer in
+    let opening = c.of-opening in
+    let here = subst (λ begun. Answers w (a.event c.in-Some.asked) a.read a.ended begun pass answer) (sym opening.ensures.pass) c.in-Ok.ensures.made in
+    record { made = subst (λ asked. Answers w (a.event asked) a.read a.ended opening.result.pass.value pass answer) (sym opening.ensures.asked) here }

@@ -1,0 +1,9 @@
+use Rattle.std.proofs.Common.{subst}
+use Rattle.kanal_futures.specs.Answers.{Answers}
+use Rattle.kanal_futures.proofs.plain.PlainFuture.keep.Goals as goal
+
+pub returns-clause-made : goal.returns-clause-made
+returns-clause-made g c =
+    let a = g.A.Asks in
+    let parts = c.apart-pass in
+    subst (λ new. Answers g.H.History.words (a.event c.args.answered.1) a.read a.ended c.args.answered.0 new parts.result.1) parts.ensures.pass parts.ensures.made

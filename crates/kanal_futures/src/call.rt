@@ -1,0 +1,355 @@
+//! A call in a task by a pass: a future that carries the pass between its polls, and answers with it.
+//!
+//! Stands on the wait of a task, and on what is asked. A call is made at once where it goes by itself; only
+//! where it doesn't the longer ways are gone. `Sending` and `Receiving` are its two cases.
+ghost use Rattle.std.specs.Prelude.{◌≡◌, ⊤, IfErr, IfNone, IfOk, IfSome, MatchOption, None, Option, Some, false, true};
+ghost use Rattle.std.specs.Option.{is_none};
+ghost use Rattle.futures.specs.Task.{Covers, Keeps};
+ghost use Rattle.futures.specs.Poll.{IfReady, OnPending};
+ghost use Rattle.kanal_channel.specs.Locks.{IsQuiet};
+ghost use Rattle.kanal_futures.specs.Tasks.{Fits, begun_with, is_fresh, passes};
+ghost use Rattle.kanal_futures.specs.Futures.{call_begun, call_kept, call_source, call_waits};
+
+use crate::answer::Answered;
+use crate::asks::{Asks, Opening};
+use crate::progress::{Progress, Rest};
+use crate::started::Started;
+use crate::wakers::Wakers;
+use futures::Future;
+use futures::task::{Context, Poll};
+use kanal_channel::{Locked, Shared};
+use kanal_history::History;
+use kanal_waits::Pauses;
+
+/// A call in a task, by the pass that it carries. `Sending` and `Receiving` say what a poll and a drop do.
+pub struct TaskCall<'a, T, H: History<T>, M, A: Asks<T, M>> {
+    shared: &'a Shared<T, H>,
+    state: Progress<T, H, M, A>,
+    wakers: Wakers,
+    pauses: Pauses,
+}
+
+impl<T: Drop, H: History<T>, M: Drop, A: Asks<T, M>> Drop for TaskCall<'_, T, H, M, A> {
+    fn drop(self) {
+        let TaskCall {
+            shared,
+            state,
+            wakers,
+            pauses: _,
+        } = self;
+        if let Some(started) = state.into_wait() {
+            started.leave(shared);
+        }
+        if let Some(spare) = wakers.into_spare() {
+            drop(spare);
+        }
+    }
+}
+
+impl<'a, T: Drop, H: History<T>, M: Drop, A: Asks<T, M>> TaskCall<'a, T, H, M, A> {
+    /// A call that asks this by this pass. It does nothing before its first poll.
+    pub(crate) fn new(shared: &'a Shared<T, H>, pass: H::Pass, asked: M) -> Self
+        ensures fresh { call_begun result ≡ Some (pass, asked) }
+    {
+        TaskCall {
+            shared,
+            state: Progress::Zero(pass, asked),
+            wakers: Wakers::new(),
+            pauses: Pauses::new(),
+        }
+    }
+
+    /// The channel of the call.
+    pub(crate) fn shared(&self) -> &'a Shared<T, H> {
+        self.shared
+    }
+
+    /// Whether its wait was started, and not polled to its end.
+    pub(crate) fn is_waiting(&self) -> bool
+        ensures { result ≡ call_waits self.now }
+    {
+        matches!(self.state, Progress::Waiting(_))
+    }
+
+    /// The pass, where no wait was started that was not polled to its end and it has not answered; a started
+    /// wait is withdrawn. It waits for nobody.
+    ///
+    /// # Examples
+    /// ```text
+    /// recv_in_task(&shared, pass).into_pass()   answers  Some(pass)   without a poll
+    /// ```
+    pub fn into_pass(self) -> Option<H::Pass>
+        ensures pass { call_waits self.entry ≡ false → result ≡ passes (call_begun self.entry) }
+    {
+        let TaskCall {
+            shared,
+            state,
+            wakers,
+            pauses: _,
+        } = self;
+        drop(wakers);
+        state.into_pass(shared)
+    }
+
+    /// Keeps the pass of its answer.
+    #[inline]
+    pub(crate) fn keep(&mut self, pass: H::Pass)
+        requires over { call_begun self.old ≡ None }
+        ensures kept { call_kept self.new ≡ Some pass }
+        ensures over { call_begun self.new ≡ None }
+        ensures source { call_source self.new ≡ call_source self.old }
+    {
+        self.state.keep(pass);
+    }
+
+    /// Asks this by this pass, of a future that has answered. The spare waker stays.
+    pub(crate) fn restart(&mut self, pass: H::Pass, asked: M)
+        requires over { call_begun self.old ≡ None }
+        ensures fresh { call_begun self.new ≡ Some (pass, asked) }
+        ensures source { call_source self.new ≡ call_source self.old }
+    {
+        self.state = Progress::Zero(pass, asked);
+        self.pauses = Pauses::new();
+    }
+
+    /// Makes the call where it goes by itself: it was not made yet, the lock is free, and there is no notice.
+    #[inline]
+    pub(crate) fn at_once(&mut self) -> Result<Answered<T, H, M, A>, Rest<'a, T, H, M>>
+        ensures begun { IfOk result (λ x. call_begun self.old ≡ Some (x.0, x.1)) }
+        ensures ends { IfOk result (λ _. call_begun self.new ≡ None) }
+        ensures rest { IfErr result (λ rest. begun_with rest self.new.state ≡ call_begun self.old) }
+        ensures fits { IfErr result (λ rest. Fits rest self.new.state) }
+        ensures idle { IfErr result (λ _. call_begun self.old ≡ None → self.new.state ≡ self.old.state) }
+        ensures source { call_source self.new ≡ call_source self.old }
+    {
+        let Some((pass, asked)) = self.state.take() else {
+            return Err(Rest::Begun);
+        };
+        let Some(mut locked) = self.shared.try_lock() else {
+            return Err(Rest::Refused(pass, asked));
+        };
+        if !self.shared.is_quiet() {
+            return Err(Rest::Held(locked, pass, asked));
+        }
+        let opening = Opening::of(&pass, &asked);
+        let mut pass = pass;
+        match A::at_once(&mut locked, self.shared.board(), &mut pass, asked) {
+            Ok(answer) => {
+                locked.give_back_quiet();
+                Ok(Answered::new(opening, pass, answer))
+            },
+            Err(asked) => Err(Rest::Held(locked, pass, asked)),
+        }
+    }
+
+    /// Makes the call later, since another holds the lock.
+    fn retry(&mut self, pass: H::Pass, asked: M, cx: &mut Context<'_>) -> Poll<Answered<T, H, M, A>>
+        requires over { call_begun self.old ≡ None }
+        ensures pending { result ≡ Poll.Pending }
+        ensures goes_on { call_begun self.new ≡ Some (pass, asked) }
+        ensures registered { Covers cx.new (λ s. s ≡ call_source self.new) }
+        ensures kept { Keeps cx.old cx.new }
+        ensures source { call_source self.new ≡ call_source self.old }
+    {
+        self.state = Progress::Zero(pass, asked);
+        if self.shared.has_buffer() {
+            self.pauses.pause();
+        }
+        cx.yield_now()
+    }
+
+    /// Goes on with the call, with the lock held.
+    fn begin(
+        &mut self,
+        locked: Locked<'_, T, H>,
+        pass: H::Pass,
+        asked: M,
+        cx: &mut Context<'_>,
+    ) -> Poll<Answered<T, H, M, A>>
+        requires over { call_begun self.old ≡ None }
+        requires quiet { IsQuiet locked }
+        ensures begun { IfReady result (λ x. (x.0 ≡ pass) × (x.1 ≡ asked)) }
+        ensures ends { IfReady result (λ _. call_begun self.new ≡ None) }
+        ensures goes_on { OnPending result (call_begun self.new ≡ Some (pass, asked)) }
+        ensures registered { OnPending result (Covers cx.new (λ s. s ≡ call_source self.new)) }
+        ensures kept { Keeps cx.old cx.new }
+        ensures source { call_source self.new ≡ call_source self.old }
+    {
+        if self.shared.is_quiet() {
+            return self.begin_held(locked, pass, asked, cx);
+        }
+        self.begin_noticed(locked, pass, asked, cx)
+    }
+
+    /// The same, where there are notices: they are applied before the call. Where they took something out, that
+    /// is told first, and where another has the lock then, another poll is asked for.
+    #[cold]
+    fn begin_noticed(
+        &mut self,
+        locked: Locked<'_, T, H>,
+        pass: H::Pass,
+        asked: M,
+        cx: &mut Context<'_>,
+    ) -> Poll<Answered<T, H, M, A>>
+        requires over { call_begun self.old ≡ None }
+        ensures begun { IfReady result (λ x. (x.0 ≡ pass) × (x.1 ≡ asked)) }
+        ensures ends { IfReady result (λ _. call_begun self.new ≡ None) }
+        ensures goes_on { OnPending result (call_begun self.new ≡ Some (pass, asked)) }
+        ensures registered { OnPending result (Covers cx.new (λ s. s ≡ call_source self.new)) }
+        ensures kept { Keeps cx.old cx.new }
+        ensures source { call_source self.new ≡ call_source self.old }
+    {
+        match locked.catch_up() {
+            Some(locked) => self.begin_held(locked, pass, asked, cx),
+            None => self.retry(pass, asked, cx),
+        }
+    }
+
+    /// Makes the call, with the lock held and the notices applied; where it must wait, the wait is started.
+    fn begin_held(
+        &mut self,
+        locked: Locked<'_, T, H>,
+        pass: H::Pass,
+        asked: M,
+        cx: &mut Context<'_>,
+    ) -> Poll<Answered<T, H, M, A>>
+        requires over { call_begun self.old ≡ None }
+        requires quiet { IsQuiet locked }
+        ensures begun { IfReady result (λ x. (x.0 ≡ pass) × (x.1 ≡ asked)) }
+        ensures ends { IfReady result (λ _. call_begun self.new ≡ None) }
+        ensures goes_on { OnPending result (call_begun self.new ≡ Some (pass, asked)) }
+        ensures registered { OnPending result (Covers cx.new (λ s. s ≡ call_source self.new)) }
+        ensures kept { Keeps cx.old cx.new }
+        ensures source { call_source self.new ≡ call_source self.old }
+    {
+        let begun = self.wakers.begin(self.shared, locked, pass, asked, cx);
+        match begun {
+            Ok((opening, pass, reply)) => {
+                Poll::Ready(Answered::new(opening, pass, A::by(reply)))
+            },
+            Err(started) => {
+                self.state = Progress::Waiting(started);
+                Poll::Pending
+            },
+        }
+    }
+
+    /// Looks for the end of the wait.
+    #[tactic(auto, using(crate::proofs::Answering::answered_settled))]
+    fn wait(
+        &mut self,
+        started: Started<T, H, M, A>,
+        cx: &mut Context<'_>,
+    ) -> Poll<Answered<T, H, M, A>>
+        requires over { call_begun self.old ≡ None }
+        ensures begun { IfReady result (λ x. (x.0 ≡ started.0) × (x.1 ≡ started.1)) }
+        ensures ends { IfReady result (λ _. call_begun self.new ≡ None) }
+        ensures goes_on { OnPending result (call_begun self.new ≡ Some (started.0, started.1)) }
+        ensures registered { OnPending result (Covers cx.new (λ s. s ≡ call_source self.new)) }
+        ensures kept { Keeps cx.old cx.new }
+        ensures source { call_source self.new ≡ call_source self.old }
+    {
+        match started.look(&mut self.wakers, self.shared, cx) {
+            Ok((opening, pass, outcome)) => {
+                Poll::Ready(Answered::new(opening, pass, A::after(outcome)))
+            },
+            Err(waiting) => {
+                self.state = Progress::Waiting(waiting);
+                Poll::Pending
+            },
+        }
+    }
+
+    /// Goes on with a poll that did not answer at once.
+    #[cold]
+    pub(crate) fn go_on(
+        &mut self,
+        rest: Rest<'a, T, H, M>,
+        cx: &mut Context<'_>,
+    ) -> Poll<Option<Answered<T, H, M, A>>>
+        requires fits { Fits rest self.old.state }
+        ensures begun { IfReady result (λ r. IfSome r (λ x. begun_with rest.entry self.old.state
+            ≡ Some (x.0, x.1))) }
+        ensures answered { IfReady result (λ r. IfNone r (begun_with rest.entry self.old.state ≡ None)) }
+        ensures ends { IfReady result (λ _. call_begun self.new ≡ None) }
+        ensures goes_on { OnPending result (call_begun self.new
+            ≡ begun_with rest.entry self.old.state) }
+        ensures over { is_none (begun_with rest.entry self.old.state) ≡ true → (result ≡ Poll.Ready None)
+            × (self.new.state ≡ self.old.state) }
+        ensures registered { OnPending result (Covers cx.new (λ s. s ≡ call_source self.new)) }
+        ensures kept { Keeps cx.old cx.new }
+        ensures source { call_source self.new ≡ call_source self.old }
+    {
+        let answer = match rest {
+            Rest::Held(locked, pass, asked) => self.begin(locked, pass, asked, cx),
+            Rest::Refused(pass, asked) => self.retry(pass, asked, cx),
+            Rest::Begun => return self.look(cx),
+        };
+        match answer {
+            Poll::Ready(answered) => Poll::Ready(Some(answered)),
+            Poll::Pending => Poll::Pending,
+        }
+    }
+
+    /// Goes on with a call that was made.
+    fn look(&mut self, cx: &mut Context<'_>) -> Poll<Option<Answered<T, H, M, A>>>
+        requires made { is_fresh self.old.state ≡ false }
+        ensures begun { IfReady result (λ r. IfSome r (λ x. call_begun self.old ≡ Some (x.0, x.1))) }
+        ensures answered { IfReady result (λ r. IfNone r (call_begun self.old ≡ None)) }
+        ensures ends { IfReady result (λ _. call_begun self.new ≡ None) }
+        ensures goes_on { OnPending result (call_begun self.new ≡ call_begun self.old) }
+        ensures over { is_none (call_begun self.old) ≡ true → (result ≡ Poll.Ready None)
+            × (self.new.state ≡ self.old.state) }
+        ensures registered { OnPending result (Covers cx.new (λ s. s ≡ call_source self.new)) }
+        ensures kept { Keeps cx.old cx.new }
+        ensures source { call_source self.new ≡ call_source self.old }
+    {
+        let Some(started) = self.state.take_wait() else {
+            return Poll::Ready(None);
+        };
+        match self.wait(started, cx) {
+            Poll::Ready(answered) => Poll::Ready(Some(answered)),
+            Poll::Pending => Poll::Pending,
+        }
+    }
+}
+
+impl<T: Drop, H: History<T>, M: Drop, A: Asks<T, M>> Future for TaskCall<'_, T, H, M, A> {
+    type Output = Option<Answered<T, H, M, A>>;
+
+    ghost use Rattle.std.specs.Prelude.{MatchOption};
+
+    ghost needs = { λ f s. s ≡ call_source f };
+
+    ghost gives = { λ f r. MatchOption r (call_begun f ≡ None)
+        (λ x. call_begun f ≡ Some (x.0, x.1)) };
+
+    /// Polls the call. It answers once, and `None` after that. It waits for nobody.
+    ///
+    /// # Examples
+    /// ```text
+    /// let mut sending = send_in_task(&shared, pass, 7);
+    /// task.poll(&mut sending)   answers  Ready(Some(sent))   in a channel with a place
+    /// task.poll(&mut sending)   answers  Ready(None)         after that
+    /// ```
+    fn poll(&mut self, cx: &mut Context<'_>) -> Poll<Option<Answered<T, H, M, A>>>
+        ensures value { IfReady result (λ r. MatchOption r (call_begun self.old ≡ None)
+            (λ x. call_begun self.old ≡ Some (x.0, x.1))) }
+        ensures again { OnPending result ⊤ }
+        ensures same { OnPending result ((x : Option (H.Pass × M × H.Pass × A.Answer))
+            → MatchOption x (call_begun self.new ≡ None) (λ y. call_begun self.new ≡ Some (y.0, y.1))
+            → MatchOption x (call_begun self.old ≡ None) (λ y. call_begun self.old ≡ Some (y.0, y.1))) }
+        ensures registered { OnPending result (Covers cx.new (λ s. s ≡ call_source self.new)) }
+        ensures kept { Keeps cx.old cx.new }
+        ensures begun { IfReady result (λ r. IfSome r (λ x. call_begun self.old ≡ Some (x.0, x.1))) }
+        ensures answered { IfReady result (λ r. IfNone r (call_begun self.old ≡ None)) }
+        ensures ends { IfReady result (λ _. call_begun self.new ≡ None) }
+        ensures goes_on { OnPending result (call_begun self.new ≡ call_begun self.old) }
+        ensures over { is_none (call_begun self.old) ≡ true → result ≡ Poll.Ready None }
+    {
+        match self.at_once() {
+            Ok(answered) => Poll::Ready(Some(answered)),
+            Err(rest) => self.go_on(rest, cx),
+        }
+    }
+}

@@ -1,0 +1,114 @@
+//! A call in a task, with an answer and no pass.
+//!
+//! Stands on the call that carries its pass. The future keeps the pass when it has answered, so that each poll
+//! shows in it. `SendFuture` and `ReceiveFuture` are its two cases.
+ghost use Rattle.std.specs.Prelude.{◌≡◌, ⊤, true, false, IfSome, Some};
+ghost use Rattle.std.specs.Option.{is_none};
+ghost use Rattle.futures.specs.Task.{Covers, Keeps};
+ghost use Rattle.futures.specs.Poll.{IfReady, OnPending};
+ghost use Rattle.kanal_futures.specs.Answers.{Answers};
+ghost use Rattle.kanal_futures.specs.Futures.{call_begun};
+ghost use Rattle.kanal_futures.specs.Plain.{HasAnswered, call_of, future_source, is_over, left_of};
+ghost use Rattle.kanal_futures.specs.Tasks.{Fits, begun_with};
+
+use crate::answer::Answered;
+use crate::asks::Asks;
+use crate::call::TaskCall;
+use crate::progress::Rest;
+use futures::Future;
+use futures::task::{Context, Poll};
+use kanal_channel::Shared;
+use kanal_history::History;
+
+/// A call in a task that answers without its pass. `SendFuture` and `ReceiveFuture` say what a poll and a drop
+/// do.
+#[derive(Drop)]
+pub struct PlainFuture<'a, T, H: History<T>, M, A: Asks<T, M>> {
+    call: TaskCall<'a, T, H, M, A>,
+}
+
+impl<'a, T: Drop, H: History<T>, M: Drop, A: Asks<T, M>> PlainFuture<'a, T, H, M, A> {
+    /// A call that asks this by this pass. It does nothing before its first poll.
+    pub(crate) fn new(shared: &'a Shared<T, H>, pass: H::Pass, asked: M) -> Self
+        ensures fresh { call_of result ≡ Some (pass, asked) }
+    {
+        PlainFuture {
+            call: TaskCall::new(shared, pass, asked),
+        }
+    }
+
+    /// Keeps the pass of an answer.
+    #[inline]
+    fn keep(&mut self, answered: Answered<T, H, M, A>) -> A::Answer
+        requires over { is_over self.old ≡ true }
+        ensures made { Answers H.words (A.event answered.1) A.read A.ended answered.0 answered.2 result }
+        ensures left { left_of self.new ≡ Some answered.2 }
+        ensures ends { is_over self.new ≡ true }
+        ensures source { future_source self.new ≡ future_source self.old }
+    {
+        let (pass, answer) = answered.apart();
+        self.call.keep(pass);
+        answer
+    }
+
+    /// Goes on with a poll that did not answer at once.
+    #[cold]
+    fn go_on(&mut self, rest: Rest<'a, T, H, M>, cx: &mut Context<'_>) -> Poll<A::Answer>
+        requires fits { Fits rest self.old.call.state }
+        ensures made { IfReady result (λ r. IfSome (begun_with rest.entry self.old.call.state) (λ begun.
+            HasAnswered (left_of self.new) (λ new.
+            Answers H.words (A.event begun.1) A.read A.ended begun.0 new r))) }
+        ensures stays { OnPending result (call_of self.new ≡ begun_with rest.entry self.old.call.state) }
+        ensures over { is_none (begun_with rest.entry self.old.call.state) ≡ true
+            → (result ≡ Poll.Ready A.finished)
+            × (is_over self.new ≡ true) × (left_of self.new ≡ left_of self.old) }
+        ensures ends { IfReady result (λ _. is_over self.new ≡ true) }
+        ensures goes_on { OnPending result (is_over self.new ≡ false) }
+        ensures registered { OnPending result (Covers cx.new (λ s. s ≡ future_source self.new)) }
+        ensures kept { Keeps cx.old cx.new }
+    {
+        match self.call.go_on(rest, cx) {
+            Poll::Ready(Some(answered)) => Poll::Ready(self.keep(answered)),
+            Poll::Ready(None) => Poll::Ready(A::again()),
+            Poll::Pending => Poll::Pending,
+        }
+    }
+}
+
+impl<T: Drop, H: History<T>, M: Drop, A: Asks<T, M>> Future for PlainFuture<'_, T, H, M, A> {
+    type Output = A::Answer;
+
+    ghost needs = { λ f s. s ≡ future_source f };
+
+    /// Polls the call. It waits for nobody.
+    ///
+    /// # Errors
+    /// Those that `SendFuture` and `ReceiveFuture` list, and `Finished` after the first answer.
+    ///
+    /// # Examples
+    /// ```text
+    /// let mut sending = sender.send(7);
+    /// task.poll(&mut sending)   answers  Ready(Ok(()))                     in a channel with a place
+    /// task.poll(&mut sending)   answers  Ready(Err(SendError::Finished))   after that
+    /// ```
+    fn poll(&mut self, cx: &mut Context<'_>) -> Poll<A::Answer>
+        ensures value { IfReady result (λ _. ⊤) }
+        ensures again { OnPending result ⊤ }
+        ensures same { OnPending result ((x : A.Answer) → ⊤ → ⊤) }
+        ensures registered { OnPending result (Covers cx.new (λ s. s ≡ future_source self.new)) }
+        ensures kept { Keeps cx.old cx.new }
+        ensures made { IfReady result (λ r. IfSome (call_of self.old) (λ call.
+            HasAnswered (left_of self.new) (λ new.
+            Answers H.words (A.event call.1) A.read A.ended call.0 new r))) }
+        ensures stays { OnPending result (call_of self.new ≡ call_of self.old) }
+        ensures over { is_over self.old ≡ true → (result ≡ Poll.Ready A.finished)
+            × (is_over self.new ≡ true) × (left_of self.new ≡ left_of self.old) }
+        ensures ends { IfReady result (λ _. is_over self.new ≡ true) }
+        ensures goes_on { OnPending result (is_over self.new ≡ false) }
+    {
+        match self.call.at_once() {
+            Ok(answered) => Poll::Ready(self.keep(answered)),
+            Err(rest) => self.go_on(rest, cx),
+        }
+    }
+}

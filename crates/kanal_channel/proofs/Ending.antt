@@ -19,16 +19,19 @@ module _ {T P : Type 0} (w : Words T P) where
       → IsLate answered deadline → IsReplied w old mid event (λ reply. reply) (Waits ticket) → HasEnded w mid new ticket came → HasPassed w answered deadline old new event came
   ended_passed answered deadline old mid new event ticket (Settled outcome) late waits e = has_waited w old mid new event ticket outcome waits e.0 e.1
   ended_passed answered deadline old mid new event ticket (Withdrawn back) late waits e =
-      record {
-        come = late;
-        withdrawn = record {
-          ticket = ticket;
-          mid = mid;
-          back = back;
-          waits = waits;
-          withdraws = record { call = _; made = e.0; asked = refl; reads = refl; told = e.1 };
-        };
-      }
+      (
+        record {
+          come = late;
+          withdrawn = record {
+            ticket = ticket;
+            mid = mid;
+            back = back;
+            waits = waits;
+            withdraws = record { call = _; made = e.0; asked = refl; reads = refl; told = e.1 };
+          };
+        },
+        refl
+      )
   ended_passed answered deadline old mid new event ticket (Replied reply) late waits e = absurd e
   ended_passed answered deadline old mid new event ticket (Lacking back) late waits e = absurd e
 
@@ -40,5 +43,5 @@ module _ {T P : Type 0} (w : Words T P) (answered : ℕ → Type 0) (deadline : 
   finishes_by old new event answers (Replied reply) answer c none is =
       inl (finishes_replied w old new event answers.by_reply answers.by_outcome answers.no_memory answer reply c none is)
   finishes_by old new event answers (Settled outcome) answer c none is = inl (inr (inl (outcome, c, is)))
-  finishes_by old new event answers (Withdrawn back) answer c none is = inr (c, is)
+  finishes_by old new event answers (Withdrawn back) answer c none is = inr (c.0, is)
   finishes_by old new event answers (Lacking back) answer c none is = inl (inr (inr (c.1, is)))

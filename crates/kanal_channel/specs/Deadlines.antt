@@ -1,5 +1,5 @@
 -- What a call with a deadline came to.
-use Rattle.std.specs.Prelude.{ℕ, Option}
+use Rattle.std.specs.Prelude.{◌≡◌, ℕ, Option}
 use Rattle.kanal_events.specs.declared.event.Event.{Event}
 use Rattle.kanal_history.specs.Calls.{IsTold}
 use Rattle.kanal_history.specs.Entries.{withdrawal}
@@ -34,6 +34,10 @@ module _ {T P : Type 0} where
   HasEnded w old new ticket (Replied reply) = ⊥
   HasEnded w old new ticket (Lacking back) = ⊥
 
+  -- the clock answered a moment that is not before the deadline, and the pass took the wait back, with this message
+  abbrev pub TakesBack : Words T P → (ℕ → Type 0) → ℕ → P → P → Event T → Option T → Type 0
+  TakesBack w answered deadline old new event back = (late : IsTooLate w answered deadline old new event) × (late.withdrawn.back ≡ back)
+
   -- what a call with this deadline came to
   abbrev pub HasPassed : Words T P → (ℕ → Type 0) → ℕ → P → P → Event T → Came T → Type 0
-  HasPassed w answered deadline old new event came = HasCome w (IsTooLate w answered deadline old new event) old new event came
+  HasPassed w answered deadline old new event came = HasCome w (TakesBack w answered deadline old new event) old new event came

@@ -9,7 +9,7 @@ ghost use Rattle.kanal_events.specs.Made.{MustWait, is_plain, may_wait};
 ghost use Rattle.kanal_history.specs.Makes.{HasReplied, IsAnswered, SeesWait};
 ghost use Rattle.kanal_state.specs.Counts.{counts_handle, ticket_of};
 ghost use Rattle.kanal_channel.specs.Locks.{IsQuiet, line_under};
-ghost use Rattle.kanal_channel.specs.Starts.{HasBegun, HasCome};
+ghost use Rattle.kanal_channel.specs.Starts.{HasBegun, HasCome, never_late};
 
 use crate::shared::{Locked, Shared};
 use kanal_core::internal::Outcome;
@@ -83,7 +83,7 @@ impl<T: Drop, H: History<T>> Shared<T, H> {
     ) -> Came<T>
         requires waits { may_wait event ≡ true }
         requires quiet { IsQuiet locked }
-        ensures come { HasCome H.words ⊥ pass.old pass.new event result }
+        ensures come { HasCome H.words never_late pass.old pass.new event result }
     {
         match self.begin_held(locked, pass, event) {
             Begun::Replied(reply) => Came::Replied(reply),

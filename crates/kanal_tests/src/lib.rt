@@ -1,5 +1,4 @@
-//! Tests that cross crates: a script's way from its bytes to the printed answer, whole histories, and
-//! histories that can't be drawn.
+//! Tests that cross crates: a script's way from its bytes to the printed answer, and whole histories.
 #![tactic(auto)]
 
 #[cfg(test)]

@@ -3,5 +3,4 @@ mod devices;
 mod faults;
 mod journals;
 mod rows;
-mod undrawn;
 mod unreadable;

@@ -17,16 +17,6 @@ pub enum Mark {
     Close,
 }
 
-/// The mark of an entry.
-fn mark_of(entry: &Entry<u64>) -> Mark {
-    match (entry.event, entry.reply) {
-        (_, Reply::Refused(_, _) | Reply::No(_) | Reply::Nothing) => Mark::Refused,
-        (Event::Seal, _) => Mark::Seal,
-        (Event::Close, _) => Mark::Close,
-        _ => Mark::Plain,
-    }
-}
-
 /// One entry, with the words of its call and its answer, and the line after it.
 #[derive(Drop)]
 pub struct Row<'a> {
@@ -49,9 +39,15 @@ impl<'a> History<'a> {
     pub fn of(alloc: Global, reading: Reading<'a>) -> Result<History<'a>, Fault> {
         let calls = reading.calls;
         let journal = play(alloc, reading.capacity, calls.as_slice(), reading.events)?;
+        let ways = Ways {
+            capacity: journal.capacity,
+            line: Vec::new(alloc),
+            arrows: Vec::new(alloc),
+            waits: Vec::new(alloc),
+        };
         let mut follower = Follower {
             alloc,
-            ways: Ways::new(alloc, journal.capacity),
+            ways,
             settled: journal.settled.as_slice(),
             drained: journal.drained.as_slice(),
             cleared: journal.cleared.as_slice(),
@@ -110,11 +106,17 @@ impl<'j> Follower<'j> {
         let own = Spot { row, party, slot };
         let is_handed = self.settle(own)?;
         self.step(own, entry, is_handed)?;
+        let mark = match (entry.event, entry.reply) {
+            (_, Reply::Refused(_, _) | Reply::No(_) | Reply::Nothing) => Mark::Refused,
+            (Event::Seal, _) => Mark::Seal,
+            (Event::Close, _) => Mark::Close,
+            _ => Mark::Plain,
+        };
         Ok(Row {
             party,
             call: call.words,
             answer: self.answer(&entry.reply)?,
-            mark: mark_of(entry),
+            mark,
             line: self.ways.words(self.alloc)?,
         })
     }

@@ -45,16 +45,6 @@ pub struct Ways {
 }
 
 impl Ways {
-    /// An empty line, before the first wait.
-    pub fn new(alloc: Global, capacity: Option<usize>) -> Ways {
-        Ways {
-            capacity,
-            line: Vec::new(alloc),
-            arrows: Vec::new(alloc),
-            waits: Vec::new(alloc),
-        }
-    }
-
     /// So many messages go to this receive or drain.
     pub fn take(&mut self, count: usize, to: Spot) -> Result<(), AllocFailed<Arrow>> {
         for _ in 0..count {

@@ -1,5 +1,6 @@
 //! Histories of which nothing is drawn, each with what is told of it.
-use kanal_drawing::{Fault, draw};
+use crate::draw;
+use crate::fault::Fault;
 use std::alloc::Global;
 use std::test::Fail;
 

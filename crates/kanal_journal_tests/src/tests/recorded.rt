@@ -1,8 +1,7 @@
-//! The tests of the recorded channel, and what they share.
+//! Tests of the recorded channel: each call of a pass, threads, the lock, and the end of a channel.
 mod calls;
 mod ends;
 mod four;
-mod given;
 mod lock;
 mod mismatches;
 mod parties;

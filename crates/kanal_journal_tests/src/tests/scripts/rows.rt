@@ -187,14 +187,6 @@ fn differing(alloc: Global, script: &[u8], answer: &[u8], wanted: u8) -> &'stati
     }
 }
 
-/// All bytes but the last.
-fn without_last(bytes: &[u8]) -> &[u8] {
-    match bytes.split_last() {
-        Some((_, front)) => front,
-        None => bytes,
-    }
-}
-
 /// The same of a row, with the last line feed or without it.
 fn differing_row(
     alloc: Global,
@@ -207,8 +199,8 @@ fn differing_row(
     if has_last_feed {
         Ok(differing(alloc, input.as_bytes(), answer.as_bytes(), wanted))
     } else {
-        let bytes = without_last(input.as_bytes());
-        Ok(differing(alloc, bytes, answer.as_bytes(), wanted))
+        let (_, front) = input.as_bytes().split_last().unwrap_or((&0, b""));
+        Ok(differing(alloc, front, answer.as_bytes(), wanted))
     }
 }
 

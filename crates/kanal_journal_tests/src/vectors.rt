@@ -18,14 +18,6 @@ pub struct Tally {
 }
 
 impl Tally {
-    fn new() -> Tally {
-        Tally {
-            scripts: 0,
-            differing: 0,
-            first: None,
-        }
-    }
-
     /// Counts one more script.
     fn add(&mut self, number: u64, is_same: bool) {
         self.scripts = self.scripts.saturating_add(1);
@@ -92,7 +84,11 @@ impl Case {
 ///
 /// The number of a script is 0 where it can't be read. Lines after the last `end` are no script.
 pub fn compare(alloc: Global, text: &str) -> Result<Tally, AllocError> {
-    let mut tally = Tally::new();
+    let mut tally = Tally {
+        scripts: 0,
+        differing: 0,
+        first: None,
+    };
     let mut case = Case::new(alloc, 0);
     for line in text.lines() {
         if let Some(number) = line.strip_prefix("script ") {

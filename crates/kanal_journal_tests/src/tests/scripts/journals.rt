@@ -23,19 +23,15 @@ fn are_replies(replies: &[Reply<String>]) -> bool {
     }
 }
 
-/// Whether the one text is this one.
-fn is_alone(texts: &[String], text: &str) -> bool {
-    match texts {
-        [only] => only.as_str() == text,
-        _ => false,
-    }
-}
-
 #[test]
 fn texts_as_messages(rt: HostRuntime) -> Result<(), Fail> {
     let report = run(rt.alloc(), Some(2), events(rt.alloc())?)?;
     assert!(rt; are_replies(report.replies.as_slice()));
-    assert!(rt; is_alone(report.left.as_slice(), "two"));
+    let is_left = match report.left.as_slice() {
+        [only] => only.as_str() == "two",
+        _ => false,
+    };
+    assert!(rt; is_left);
     assert!(rt; report.cleared.is_empty());
     assert!(rt; report.drained.is_empty());
     assert!(rt; report.settled.is_empty());

@@ -1,10 +1,9 @@
 //! Each call of a pass with ample memory, what a pass keeps of its calls, and how passes are numbered.
 use crate::tests::given::{equal, holds};
-use crate::tests::parties::{channel, pass};
-use crate::tests::rows::{Row, ends_with, played};
+use crate::tests::recorded::parties::{channel, pass};
+use crate::tests::recorded::rows::{Row, ends_with, played};
 use kanal_journal::journal::Event::*;
 use kanal_journal::journal::{Ask, Refusal, Reply, Side};
-use kanal_recorded::Note;
 
 #[test]
 fn nine_parties(rt: HostRuntime) {
@@ -13,19 +12,6 @@ fn nine_parties(rt: HostRuntime) {
         equal(&rt, pass(&rt, &channel).party(), number);
     }
     drop(channel);
-}
-
-/// Whether the call stands at this place, and its pass had seen so much.
-fn is_at(note: &Note<u64>, place: usize, seen: usize) -> bool {
-    note.place == place && note.seen == seen
-}
-
-/// Whether there are two notes, of the journal's first call and of its third.
-fn are_first_and_third(notes: &[Note<u64>]) -> bool {
-    match notes {
-        [first, third] => is_at(first, 0, 0) && is_at(third, 2, 1),
-        _ => false,
-    }
 }
 
 /// A message that the second party finds at its second try.
@@ -38,7 +24,11 @@ const FOUND: &[Row] = &[
 #[test]
 fn what_a_pass_keeps(rt: HostRuntime) {
     let parties = played(&rt, Some(1), FOUND);
-    holds(&rt, are_first_and_third(parties.b.notes()));
+    let are_first_and_third = match parties.b.notes() {
+        [first, third] => (first.place, first.seen, third.place, third.seen) == (0, 0, 2, 1),
+        _ => false,
+    };
+    holds(&rt, are_first_and_third);
     drop(parties);
 }
 

@@ -1,8 +1,8 @@
 //! Lists that don't agree with the journal.
 use crate::tests::given::{equal, holds};
-use crate::tests::parties::{Parties, add, both, channel, finish, pass};
-use crate::tests::rows::{Row, played};
-use kanal_journal::journal::{Ask, Event, Journal, Reply, Side};
+use crate::tests::recorded::parties::{Parties, add, both, channel, finish, pass};
+use crate::tests::recorded::rows::{Row, played};
+use kanal_journal::journal::{Ask, Event, Reply, Side};
 use kanal_recorded::{Mismatch, Pass, Recorded};
 use std::alloc::AllocGlobal;
 use std::process::Abort;
@@ -41,14 +41,6 @@ fn hand_over<R: Abort + Wait + AllocGlobal>(rt: &R) -> Parties {
     played(rt, Some(1), HAND_OVER)
 }
 
-/// Whether the two entries have these parties, in order.
-fn have_parties(journal: &Journal<u64>, parties: (u32, u32)) -> bool {
-    match journal.entries.as_slice() {
-        [first, second] => first.party == parties.0 && second.party == parties.1,
-        _ => false,
-    }
-}
-
 /// The channel and its pass, back from an end at which the other pass is missing.
 fn come_back(
     rt: &(impl Abort + AllocGlobal),
@@ -61,18 +53,18 @@ fn come_back(
     (channel, back)
 }
 
-/// The journal, once the other pass has come before the one that was alone.
-fn end_late(rt: &(impl Abort + AllocGlobal), parties: Parties) -> Journal<u64> {
-    let Parties { channel, a, b } = parties;
-    let (channel, mut passes) = come_back(rt, channel, a);
-    passes.insert(0, b).expect(rt, "memory for a pass");
-    finish(rt, channel, passes)
-}
-
+/// The other pass comes later, before the one that was alone.
 #[test]
 fn a_missing_pass(rt: HostRuntime) {
-    let journal = end_late(&rt, hand_over(&rt));
-    holds(&rt, have_parties(&journal, (0, 1)));
+    let Parties { channel, a, b } = hand_over(&rt);
+    let (channel, mut passes) = come_back(&rt, channel, a);
+    passes.insert(0, b).expect(&rt, "memory for a pass");
+    let journal = finish(&rt, channel, passes);
+    let are_of_both = match journal.entries.as_slice() {
+        [first, second] => first.party == 0 && second.party == 1,
+        _ => false,
+    };
+    holds(&rt, are_of_both);
     drop(journal);
 }
 
@@ -97,21 +89,15 @@ fn ask_of_none<R: Abort + Wait>(rt: &R, channel: &Recorded<u64>, pass: &mut Pass
     equal(rt, messages, Reply::Number(0));
 }
 
-/// A pass of the second channel that was told of a call of the first.
-fn told<R: Abort + Wait>(rt: &R, first: &Recorded<u64>, second: &Recorded<u64>) -> Pass<u64> {
-    let mut a = pass(rt, first);
-    let mut b = pass(rt, second);
-    ask_of_none(rt, first, &mut a);
-    b.hear(a.tell());
-    ask_of_none(rt, second, &mut b);
-    b
-}
-
 #[test]
 fn told_of_another_channel(rt: HostRuntime) {
     let first = channel(&rt, Some(1));
     let second = channel(&rt, Some(1));
-    let b = told(&rt, &first, &second);
+    let mut a = pass(&rt, &first);
+    let mut b = pass(&rt, &second);
+    ask_of_none(&rt, &first, &mut a);
+    b.hear(a.tell());
+    ask_of_none(&rt, &second, &mut b);
     equal(&rt, told_of(&rt, second, alone(&rt, b)), Mismatch);
     drop(first);
 }

@@ -1,8 +1,6 @@
 //! The lock: one try while it is held and while it is free.
 use crate::tests::given::equal;
 use kanal_core::mutex::Mutex;
-use std::process::Abort;
-use std::sync::Wait;
 
 /// What one try of the lock reads.
 fn read(shared: &Mutex<u64>) -> Option<u64> {
@@ -10,17 +8,13 @@ fn read(shared: &Mutex<u64>) -> Option<u64> {
     Some(*guard)
 }
 
-/// Writes while the lock is held, which one try doesn't read.
-fn write<R: Abort + Wait>(rt: &R, shared: &Mutex<u64>) {
-    let mut guard = shared.lock(rt);
-    *guard = 8;
-    equal(rt, read(shared), None);
-}
-
 #[test]
 fn one_try(rt: HostRuntime) {
     let shared = Mutex::new(7u64);
-    write(&rt, &shared);
+    let mut guard = shared.lock(&rt);
+    *guard = 8;
+    equal(&rt, read(&shared), None);
+    drop(guard);
     equal(&rt, read(&shared), Some(8));
     equal(&rt, shared.into_inner(), 8);
 }

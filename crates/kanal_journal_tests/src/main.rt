@@ -1,7 +1,11 @@
 //! Runs stored scripts, whose answers are known, through `serve`, and prints a line a file: how many
 //! scripts it has, how many are answered otherwise, and the first of these.
+//!
+//! Its tests are those of scripts, of journals and of recorded channels.
 #![tactic(auto)]
 
+#[cfg(test)]
+mod tests;
 mod vectors;
 
 use anyhow::{Context, Result};

@@ -1,5 +1,5 @@
 //! Devices that fail.
-use crate::tests::devices::{BrokenReader, BrokenWriter};
+use crate::tests::scripts::devices::{BrokenReader, BrokenWriter};
 use kanal_script::serve;
 use std::alloc::Global;
 use std::io::Read;

@@ -1,11 +1,10 @@
 //! Two threads on one recorded channel.
 use crate::tests::given::equal;
-use crate::tests::parties::{Parties, recorded};
+use crate::tests::recorded::parties::{Parties, recorded};
 use kanal_journal::journal::Reply;
 use kanal_recorded::{Pass, Recorded};
 use std::sync::Wait;
 use std::thread;
-use std::thread::Threads;
 
 const TURNS: u32 = 1_000_000;
 
@@ -19,19 +18,15 @@ fn until_got<R: Wait>(rt: &R, channel: &Recorded<u64>, mut pass: Pass<u64>) -> O
     None
 }
 
-fn hand_over<R: Threads + Wait + Sync>(rt: &R, parties: Parties) -> (Reply<u64>, Option<u64>) {
-    let Parties { channel, mut a, b } = parties;
-    let channel = &channel;
-    thread::join(
-        rt,
-        move || a.try_send(rt, channel, 7),
-        move || until_got(rt, channel, b),
-    )
-}
-
 #[test]
 fn a_message_between_threads(rt: HostRuntime) {
-    let (sent, got) = hand_over(&rt, recorded(&rt, Some(1)));
+    let Parties { channel, mut a, b } = recorded(&rt, Some(1));
+    let channel = &channel;
+    let (sent, got) = thread::join(
+        &rt,
+        move || a.try_send(&rt, channel, 7),
+        move || until_got(&rt, channel, b),
+    );
     equal(&rt, sent, Reply::Yes);
     equal(&rt, got, Some(7));
 }

@@ -1,5 +1,8 @@
 //! Tests of the pool: its rows, its gate, its refusals, and the texts of its error.
-#![tactic(auto)]
-
-#[cfg(test)]
-mod tests;
+mod gates;
+mod given;
+mod refusals;
+mod rows;
+mod tally;
+mod texts;
+mod watching;

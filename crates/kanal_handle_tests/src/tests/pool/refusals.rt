@@ -1,5 +1,6 @@
 //! A refused pool has no worker that goes on.
-use super::given::{Starved, equal, refuses};
+use super::given::{Starved, refuses};
+use crate::tests::given::equal;
 use kanal_pool::{Gate, PoolError, map_jobs};
 use std::alloc::AllocGlobal;
 use std::sync::atomic::AtomicU64;

@@ -1,5 +1,6 @@
 //! Jobs that wait for each other at their gate: fewer threads can't do them, in any order.
-use super::given::{equal, gives, squares};
+use super::given::{gives, squares};
+use crate::tests::given::equal;
 use kanal_pool::{Gate, map_jobs};
 use std::alloc::AllocGlobal;
 use std::process::Abort;
@@ -36,18 +37,13 @@ impl Meeting {
             missed: AtomicU64::new(0),
         }
     }
-
-    /// Whether so many are inside, or were so once.
-    fn has_met(&self) -> bool {
-        self.met.load(SeqCst) > 0 || self.inside.load(SeqCst) == self.wanted
-    }
 }
 
 impl Gate for Meeting {
     fn enter(&self, _job: usize) {
         self.inside.fetch_add(1, SeqCst);
         for _ in 0..self.turns {
-            if self.has_met() {
+            if self.met.load(SeqCst) > 0 || self.inside.load(SeqCst) == self.wanted {
                 self.met.fetch_add(1, SeqCst);
                 return;
             }

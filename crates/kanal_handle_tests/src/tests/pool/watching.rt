@@ -4,12 +4,13 @@ ghost use Rattle.std.proofs.Common.{ap, rules};
 ghost use Rattle.std.proofs.lemmas.Bool.{eqb-true};
 ghost use Rattle.std.specs.Cmp.Rules.{comparing};
 
-use super::given::equal;
 use super::tally::Tally;
+use crate::tests::given::equal;
 use kanal_pool::{Gate, Job, NoMemory, map_jobs};
 use std::alloc::AllocGlobal;
 use std::process::Abort;
 use std::sync::Wait;
+use std::sync::atomic::Ordering::SeqCst;
 use std::thread::Threads;
 
 /// How many jobs there are.
@@ -32,14 +33,14 @@ impl Gate for Counter<'_> {
     fn enter(&self, job: usize) {
         let jobs = self.jobs;
         if let Some(watched) = jobs.get(job) {
-            watched.tally.enter();
+            watched.tally.entered.fetch_add(1, SeqCst);
         }
     }
 
     fn leave(&self, job: usize) {
         let jobs = self.jobs;
         if let Some(watched) = jobs.get(job) {
-            watched.tally.leave();
+            watched.tally.left.fetch_add(1, SeqCst);
         }
     }
 }

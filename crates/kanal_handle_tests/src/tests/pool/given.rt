@@ -1,10 +1,9 @@
-//! What the tests share: jobs, and the comparison of an answer with the expected one.
+//! What the tests of the pool share: jobs, and the comparison of an answer with the expected one.
 ghost use Rattle.std.specs.Prelude.{◌*◌, ◌≡◌, true};
 ghost use Rattle.std.proofs.Common.{rules};
 
 use kanal_pool::{Job, NoMemory, PoolError};
 use std::alloc::AllocGlobal;
-use std::fmt::Debug;
 use std::process::Abort;
 
 /// The square of a number.
@@ -47,11 +46,6 @@ pub fn squares(rt: &(impl Abort + AllocGlobal), end: u32) -> Vec<Square> {
         jobs.push(Square(number)).expect(rt, "memory for a job");
     }
     jobs
-}
-
-/// Ends the test, and shows both values, unless the answer is the expected one.
-pub fn equal<A: PartialEq + Debug + Drop>(rt: &impl Abort, answer: A, expected: A) {
-    assert_eq!(rt; answer, expected);
 }
 
 /// Ends the test unless these are the answers.

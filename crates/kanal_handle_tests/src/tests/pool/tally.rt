@@ -6,10 +6,10 @@ use std::sync::atomic::Ordering::SeqCst;
 /// How often a job was entered, was worked on between enter and leave, was worked on otherwise, and was left.
 #[derive(Drop)]
 pub struct Tally {
-    entered: AtomicU64,
+    pub entered: AtomicU64,
     worked: AtomicU64,
     worked_outside: AtomicU64,
-    left: AtomicU64,
+    pub left: AtomicU64,
 }
 
 impl Model for Tally {
@@ -27,16 +27,6 @@ impl Tally {
             worked_outside: AtomicU64::new(0),
             left: AtomicU64::new(0),
         }
-    }
-
-    /// The job is entered.
-    pub fn enter(&self) {
-        self.entered.fetch_add(1, SeqCst);
-    }
-
-    /// The job is left.
-    pub fn leave(&self) {
-        self.left.fetch_add(1, SeqCst);
     }
 
     /// The job is worked on.

@@ -1,9 +1,28 @@
-//! Draws a history from standard input as a picture on standard output; nothing is written before all is read and drawn.
+//! Draws the calls of several parties on one channel, read from standard input, as an SVG picture on standard
+//! output; nothing is written before all is read and drawn.
 #![tactic(auto)]
 
-use kanal_drawing::{Fault, draw};
+mod fault;
+mod history;
+mod reading;
+mod svg;
+#[cfg(test)]
+mod undrawn;
+mod ways;
+
+use fault::Fault;
+use history::History;
+use std::alloc::Global;
 use std::io::{Read, Write};
 use std::process::ExitCode;
+
+/// Reads a history from bytes, and draws it.
+///
+/// The error tells which line can't be read and why, or that memory was refused.
+fn draw(alloc: Global, bytes: &[u8]) -> Result<String, Fault> {
+    let history = History::of(alloc, reading::read(alloc, bytes)?)?;
+    Ok(svg::draw(alloc, &history)?)
+}
 
 /// Reads a history and draws it.
 fn run(rt: &HostRuntime) -> Result<(), Fault> {

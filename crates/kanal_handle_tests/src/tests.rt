@@ -1,4 +1,4 @@
-//! The tests of the handles by what they show, and what they share.
+//! The tests of the handles by what they show, those of the pool, and what they share.
 mod asked;
 mod calls;
 mod conversions;
@@ -6,6 +6,7 @@ mod counted;
 mod drops;
 mod given;
 mod limits;
+mod pool;
 mod states;
 mod tasks;
 mod texts;

@@ -2,7 +2,9 @@
 //!
 //! What else a call answers is its clause, and the lists of `kanal_interleaving_tests` compare it.
 use crate::tests::given::{ends, equal};
-use crate::tests::tasks::given::{ends as task_ends, next_in_task, receive_in_task, send_in_task};
+use crate::tests::tasks::given::{ends as task_ends, receive_in_task, send_in_task};
+use futures::StreamExt;
+use futures::executor::block_on;
 use kanal::error::CloseError;
 use kanal::{Receiver, Sender, TestClock, unbounded, unbounded_async};
 use std::alloc::AllocGlobal;
@@ -162,7 +164,8 @@ fn a_receiver_for_tasks(rt: HostRuntime) {
     takes!(&rt, receiver);
     fill(&rt, &sender, 5..7);
     equal(&rt, receive_in_task(&rt, &receiver), Ok(5));
-    equal(&rt, next_in_task(&rt, &mut receiver.stream()), Some(6));
+    let next = block_on(&rt, receiver.stream().next()).expect(&rt, "a task");
+    equal(&rt, next, Some(6));
     equal(&rt, receiver.seal(&rt), Ok(()));
     closes!(&rt, receiver);
 }

@@ -35,11 +35,6 @@ pub fn counter(rt: &(impl Abort + AllocGlobal)) -> Arc<AtomicU64, Global> {
     Arc::new(rt.alloc(), AtomicU64::new(0)).expect(rt, "memory for a counter")
 }
 
-/// The same counter once more.
-pub fn shared(rt: &impl Abort, counter: &Arc<AtomicU64, Global>) -> Arc<AtomicU64, Global> {
-    Arc::try_clone(counter).expect(rt, "a count of the counter")
-}
-
 /// Waits until so many calls have begun; ends the test where that takes too many turns.
 pub fn wait_until(rt: &impl Abort, begun: &AtomicU64, calls: u64) {
     for _ in 0..TURNS {

@@ -1,6 +1,6 @@
 //! The messages of the tests: boxes, a message that counts its drop, values with padding, and a
 //! message of size 0.
-use super::given::{equal, shared};
+use super::given::equal;
 use std::alloc::{AllocGlobal, Global};
 use std::process::Abort;
 use std::sync::Arc;
@@ -26,7 +26,7 @@ impl DropTester {
     /// A message for this counter.
     pub fn new(rt: &impl Abort, drops: &Arc<AtomicU64, Global>) -> Self {
         DropTester {
-            drops: shared(rt, drops),
+            drops: Arc::try_clone(drops).expect(rt, "a count of the counter"),
         }
     }
 }

@@ -64,13 +64,6 @@ impl Waiting {
         self.end.poll().is_some()
     }
 
-    /// Looks twice, and leaves.
-    fn poll_and_leave(mut self) -> bool {
-        let first = self.poll();
-        let second = self.poll();
-        self.leave() || first || second
-    }
-
     fn leave(self) -> bool {
         let Waiting { mut end } = self;
         end.leave().is_some()
@@ -91,7 +84,11 @@ impl Waiting {
 /// Whether the waiter got its outcome.
 fn wait_one<R: Wait + Abort>(rt: &R, parker: &Parker, fresh: Fresh) -> bool {
     match fresh.way {
-        Way::Polls => fresh.waiting().poll_and_leave(),
+        Way::Polls => {
+            let mut waiting = fresh.waiting();
+            let (first, second) = (waiting.poll(), waiting.poll());
+            waiting.leave() || first || second
+        }
         Way::Sleeps => {
             let (waiting, had) = fresh.sleep(unparker_of(rt, parker));
             had || waiting.park(rt, parker)
@@ -128,24 +125,19 @@ fn settle_all(ends: Vec<Settling>) -> u64 {
     back
 }
 
-/// The ways, in turn.
-fn way_of(number: u64) -> Way {
-    match number % 5 {
-        0 => Way::Polls,
-        1 => Way::Sleeps,
-        2 => Way::Leaves,
-        3 => Way::SleepsAndLeaves,
-        _ => Way::NeverLooks,
-    }
-}
-
-/// Fresh cells, each with an item that counts its drop.
+/// Fresh cells, each with an item that counts its drop. The ways take turns.
 fn cells(rt: &(impl Abort + AllocGlobal), drops: &Drops) -> (Vec<Fresh>, Vec<Settling>) {
     let mut waits = Vec::new(rt.alloc());
     let mut settles = Vec::new(rt.alloc());
     for number in 0..MESSAGES {
         let (wait, settle) = cell(rt);
-        let way = way_of(number);
+        let way = match number % 5 {
+            0 => Way::Polls,
+            1 => Way::Sleeps,
+            2 => Way::Leaves,
+            3 => Way::SleepsAndLeaves,
+            _ => Way::NeverLooks,
+        };
         let item = drops.message().expect(rt, "a message");
         waits
             .push(Fresh { end: wait, way })

@@ -194,12 +194,6 @@ struct Entry {
     ghost unspent: { HasNotSettled (settle_view end) },
 }
 
-impl Entry {
-    fn keep(&mut self, waker: Waker) -> Option<Waker> {
-        self.end.set_waker(waker)
-    }
-}
-
 #[derive(Drop)]
 struct Line {
     source: Source,
@@ -234,7 +228,7 @@ impl Future for Receive {
             return cx.yield_now();
         };
         if let Some(waker) = self.spare.take() {
-            self.spare = entry.keep(waker);
+            self.spare = entry.end.set_waker(waker);
         }
         polled
     }

@@ -16,18 +16,13 @@ fn enter_numbers(rt: &impl Abort, core: &mut Core, numbers: Range<u64>) {
     }
 }
 
-/// Whether the next message is this one, and nobody is let in.
-fn is_next(core: &mut Core, number: u64) -> bool {
-    match core.take() {
-        Take::Got(got, None) => got == number,
-        _ => false,
-    }
-}
-
-/// The numbers are taken, in order, and then none is left.
+/// The numbers are taken, in order, and nobody is let in; then none is left.
 fn take_numbers(rt: &impl Abort, core: &mut Core, numbers: Range<u64>) {
     for number in numbers {
-        holds(rt, is_next(core, number));
+        holds(
+            rt,
+            matches!(core.take(), Take::Got(got, None) if got == number),
+        );
     }
     holds(rt, core.is_empty());
 }
@@ -43,18 +38,13 @@ fn hundreds_of_messages_and_a_large_capacity(rt: HostRuntime) {
     take_numbers(&rt, &mut core, 0..100_000);
 }
 
-/// A channel with 7 places that has gone round: the numbers from 5 to 11 fill it.
-fn gone_round(rt: &(impl Abort + AllocGlobal)) -> Core {
-    let mut core: Core = core_of(rt, 7);
-    enter_numbers(rt, &mut core, 0..5);
-    take_numbers(rt, &mut core, 0..5);
-    enter_numbers(rt, &mut core, 5..12);
-    core
-}
-
+/// The numbers from 5 to 11 fill a core with 7 places.
 #[test]
 fn a_ring_that_has_gone_round(rt: HostRuntime) {
-    let mut core = gone_round(&rt);
+    let mut core: Core = core_of(&rt, 7);
+    enter_numbers(&rt, &mut core, 0..5);
+    take_numbers(&rt, &mut core, 0..5);
+    enter_numbers(&rt, &mut core, 5..12);
     holds(&rt, matches!(core.offer(12), Offer::Full(12)));
     let mut messages = Vec::new(rt.alloc());
     let drained = core.drain_into(&mut messages).expect(&rt, "a drain");

@@ -99,11 +99,3 @@ pub fn receive_in_task<R: Abort + Wait + RandomSource + AllocGlobal>(
 ) -> Result<u64, ReceiveError> {
     block_on(rt, receiver.recv()).expect(rt, "a task")
 }
-
-/// Receives the stream's next message in a task that runs to its end.
-pub fn next_in_task<R: Abort + Wait + RandomSource + AllocGlobal>(
-    rt: &R,
-    stream: &mut ReceiveStream<'_, u64>,
-) -> Option<u64> {
-    block_on(rt, stream.next()).expect(rt, "a task")
-}

@@ -30,38 +30,21 @@ fn send_notes<R: Wait>(rt: &R, sender: &Sender<Note>, from: Party) -> Sent {
     Ok(())
 }
 
-/// How many notes came from each party, where each party's came in its own order.
-#[derive(Drop)]
-struct Counts {
-    left: u64,
-    right: u64,
-}
-
-impl Counts {
-    /// Counts one note, if it is the next of its party.
-    fn add(&mut self, note: Note) -> bool {
-        let next = match note.from {
-            Party::Left => &mut self.left,
-            Party::Right => &mut self.right,
-        };
-        if *next != note.number {
-            return false;
-        }
-        *next = next.wrapping_add(1);
-        true
-    }
-}
-
 /// Receives all notes; how many came from each party, and `None` where one is missing or comes too early.
 fn receive_notes<R: Wait>(rt: &R, receiver: &Receiver<Note>) -> Option<(u64, u64)> {
-    let mut counts = Counts { left: 0, right: 0 };
+    let (mut left, mut right) = (0u64, 0u64);
     for _ in 0..2 * NOTES {
         let note = receiver.recv(rt).ok()?;
-        if !counts.add(note) {
+        let next = match note.from {
+            Party::Left => &mut left,
+            Party::Right => &mut right,
+        };
+        if *next != note.number {
             return None;
         }
+        *next = next.wrapping_add(1);
     }
-    Some((counts.left, counts.right))
+    Some((left, right))
 }
 
 /// Two threads send through the one sender, and this one receives.

@@ -11,13 +11,6 @@ const LOOKS: u32 = 20_000;
 /// How often in a row the thread is to be found asleep, so that no short wait for the lock counts.
 const IN_A_ROW: u32 = 100;
 
-/// Where the system tells of this thread.
-fn own_file<R: Files + AllocGlobal + Abort>(rt: &R) -> String {
-    let link = fs::read_link(rt, "/proc/thread-self").expect(rt, "a folder of this thread");
-    let name = link.to_str().expect(rt, "a name that can be read");
-    format!(in rt.alloc(); "/proc/{name}/stat").expect(rt, "memory for a name")
-}
-
 /// Whether the thread of this file falls asleep and stays so.
 fn falls_asleep<R: Files + AllocGlobal + Abort>(rt: &R, file: &str) -> bool {
     let mut row = 0u32;
@@ -36,12 +29,16 @@ fn falls_asleep<R: Files + AllocGlobal + Abort>(rt: &R, file: &str) -> bool {
     false
 }
 
+/// The other thread tells first where the system tells of it.
 #[test]
 fn a_receive_that_waits_sleeps(rt: HostRuntime) {
     let (sender, receiver) = ends::<u64>(&rt, 0);
     let (files, told) = ends::<String>(&rt, 1);
     let thread = thread::spawn(&rt, move || {
-        equal(&rt, files.send(&rt, own_file(&rt)), Ok(()));
+        let link = fs::read_link(&rt, "/proc/thread-self").expect(&rt, "a folder of this thread");
+        let name = link.to_str().expect(&rt, "a name that can be read");
+        let file = format!(in rt.alloc(); "/proc/{name}/stat").expect(&rt, "memory for a name");
+        equal(&rt, files.send(&rt, file), Ok(()));
         receiver.recv(&rt)
     });
     let thread = thread.expect(&rt, "a thread");

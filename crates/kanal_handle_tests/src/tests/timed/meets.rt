@@ -18,24 +18,20 @@ const ROUNDS: u64 = 10_000;
 /// How often the receiver looks for a message at most.
 const TURNS: u64 = 1_000_000_000;
 
-/// How often the clock of a round is read before it crosses the deadline. In the first round nobody
-/// receives yet, so it times out; the clock of the second never crosses, so it is received.
-fn reads_of(round: u64) -> u64 {
-    match round {
-        0 => 1,
-        1 => u64::MAX,
-        _ => 1 + round % 97,
-    }
-}
-
-/// Sends the messages, each by a deadline; answers how many were given up.
+/// Sends the messages, each by a deadline; answers how many were given up. In the first round nobody receives
+/// yet, so it times out; the clock of the second never crosses its deadline, so it is received.
 fn send_all<R: Wait + time::Clock>(rt: &R, sender: &Sender<Counted>, drops: &Drops) -> u64 {
     let mut given_up = 0u64;
     for round in 0..ROUNDS {
         let Ok(message) = drops.message() else {
             return given_up;
         };
-        let clock = Turning::new(0, reads_of(round), 1);
+        let reads = match round {
+            0 => 1,
+            1 => u64::MAX,
+            _ => 1 + round % 97,
+        };
+        let clock = Turning::new(0, reads, 1);
         let sent = sender.send_timeout(rt, message, Duration::from_nanos(1), &clock);
         if sent == Err(SendErrorTimeout::Timeout) {
             given_up = given_up.wrapping_add(1);

@@ -1,7 +1,6 @@
 //! Timed receives: which moments end them, and that no clock is read under the lock.
 use super::clocks::{Looking, Turning};
 use crate::tests::given::{ends, equal, holds};
-use kanal::Sender;
 use kanal::error::ReceiveErrorTimeout;
 use kanal::error::ReceiveErrorTimeout::{Closed, DeadlineOutOfRange, SendClosed, Timeout};
 use std::alloc::AllocGlobal;
@@ -55,12 +54,6 @@ const ROWS: &[Row] = &[
     (Channel::Empty, HOUR, (0, 100, HOUR), Err(Timeout)),
 ];
 
-/// Drops the sender.
-fn gone(sender: Sender<u64>) -> Option<Sender<u64>> {
-    drop(sender);
-    None
-}
-
 /// What a receive answers on such a channel for so many nanoseconds by this clock.
 fn answer<R: Abort + Wait + time::Clock + AllocGlobal>(
     rt: &R,
@@ -69,17 +62,17 @@ fn answer<R: Abort + Wait + time::Clock + AllocGlobal>(
     clock: &Turning,
 ) -> Result<u64, ReceiveErrorTimeout> {
     let (sender, receiver) = ends(rt, 1);
+    match channel {
+        Channel::Empty | Channel::Alone => {},
+        Channel::Last => equal(rt, sender.send(rt, 4), Ok(())),
+        Channel::Shut => equal(rt, sender.close(rt), Ok(())),
+    }
     let _kept = match channel {
         Channel::Empty => Some(sender),
-        Channel::Alone => gone(sender),
-        Channel::Last => {
-            equal(rt, sender.send(rt, 4), Ok(()));
-            gone(sender)
-        }
-        Channel::Shut => {
-            equal(rt, sender.close(rt), Ok(()));
-            gone(sender)
-        }
+        Channel::Alone | Channel::Last | Channel::Shut => {
+            drop(sender);
+            None
+        },
     };
     receiver.recv_timeout(rt, Duration::from_nanos(nanoseconds), clock)
 }

@@ -10,7 +10,6 @@ use std::sync::atomic::AtomicU64;
 use std::sync::atomic::Ordering::SeqCst;
 use std::sync::{Arc, Wait};
 use std::thread;
-use std::thread::Threads;
 
 /// The counter that the messages share.
 type Drops = Arc<AtomicU64, Global>;
@@ -33,26 +32,22 @@ fn receive_any<T: Drop, R: Wait + Abort>(rt: &R, rx: &Receiver<T>) {
 }
 
 /// Several threads send such messages to as many.
-fn pass_testers<R: Threads + Wait + Abort + AllocGlobal + Sync>(rt: &R, drops: &Drops) {
-    let (sender, receiver) = new(rt, Some(1));
-    let (tx, rx) = (&sender, &receiver);
+#[test]
+fn drop_test(rt: HostRuntime) {
+    let drops = counter(&rt);
+    let (sender, receiver) = new(&rt, Some(1));
+    let (rt, tx, rx, told) = (&rt, &sender, &receiver, &drops);
     thread::scope(thread::scope_env(), rt, |scope| {
         for _ in 0..THREADS {
             scope
-                .spawn(move || send_testers(rt, tx, drops))
+                .spawn(move || send_testers(rt, tx, told))
                 .expect(rt, "a thread");
             scope
                 .spawn(move || receive_any(rt, rx))
                 .expect(rt, "a thread");
         }
     });
-}
-
-#[test]
-fn drop_test(rt: HostRuntime) {
-    let drops = counter(&rt);
-    pass_testers(&rt, &drops);
-    dropped(&rt, &drops, MESSAGES);
+    dropped(rt, &drops, MESSAGES);
 }
 
 /// Sends vectors.
@@ -63,9 +58,10 @@ fn send_vectors<R: Wait + Abort + AllocGlobal>(rt: &R, tx: &Sender<Vec<u64>>) {
 }
 
 /// Several threads send vectors to as many.
-fn pass_vectors<R: Threads + Wait + Abort + AllocGlobal + Sync>(rt: &R) {
-    let (sender, receiver) = new(rt, Some(1));
-    let (tx, rx) = (&sender, &receiver);
+#[test]
+fn vec_test(rt: HostRuntime) {
+    let (sender, receiver) = new(&rt, Some(1));
+    let (rt, tx, rx) = (&rt, &sender, &receiver);
     thread::scope(thread::scope_env(), rt, |scope| {
         for _ in 0..THREADS {
             scope
@@ -76,11 +72,6 @@ fn pass_vectors<R: Threads + Wait + Abort + AllocGlobal + Sync>(rt: &R) {
                 .expect(rt, "a thread");
         }
     });
-}
-
-#[test]
-fn vec_test(rt: HostRuntime) {
-    pass_vectors(&rt);
 }
 
 /// Sends ten messages, of which each is answered so.
@@ -136,25 +127,20 @@ fn send_and_tell<R: Wait + Abort>(
 }
 
 /// Ten threads send, each through a clone of its own, and once all have begun the channel is closed.
-fn close_upon_ten<R: Threads + Wait + Abort + AllocGlobal + Sync>(rt: &R, drops: &Drops) {
-    let (sender, receiver) = new(rt, Some(0));
-    let begun = counter(rt);
-    let told = &begun;
+#[test]
+fn drop_test_in_signal(rt: HostRuntime) {
+    let (drops, begun) = (counter(&rt), counter(&rt));
+    let (sender, receiver) = new(&rt, Some(0));
+    let (rt, told, count) = (&rt, &begun, &drops);
     thread::scope(thread::scope_env(), rt, |scope| {
         for _ in 0..10 {
             let theirs = sender.clone(rt).expect(rt, "a clone");
             scope
-                .spawn(move || send_and_tell(rt, &theirs, drops, told))
+                .spawn(move || send_and_tell(rt, &theirs, count, told))
                 .expect(rt, "a thread");
         }
         wait_until(rt, told, 10);
         equal(rt, receiver.close(rt), Ok(()));
     });
-}
-
-#[test]
-fn drop_test_in_signal(rt: HostRuntime) {
-    let drops = counter(&rt);
-    close_upon_ten(&rt, &drops);
-    dropped(&rt, &drops, 10);
+    dropped(rt, &drops, 10);
 }

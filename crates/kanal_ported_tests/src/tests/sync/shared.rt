@@ -7,7 +7,6 @@ use std::sync::Wait;
 use std::sync::atomic::AtomicU64;
 use std::sync::atomic::Ordering::SeqCst;
 use std::thread;
-use std::thread::Threads;
 
 /// Sends 0 to 99.
 fn send_hundred<R: Wait + Abort>(rt: &R, s: &Sender<u64>) {
@@ -25,12 +24,11 @@ fn add_received<R: Wait + Abort>(rt: &R, r: &Receiver<u64>, sum: &AtomicU64) {
 }
 
 /// Four threads send through the one sender, two receive through the one receiver.
-fn exchange<R: Threads + Wait + Abort + Sync>(
-    rt: &R,
-    s: &Sender<u64>,
-    r: &Receiver<u64>,
-    sum: &AtomicU64,
-) {
+#[test]
+fn shared_handles(rt: HostRuntime) {
+    let (sender, receiver) = new::<u64>(&rt, Some(1));
+    let all = AtomicU64::new(0);
+    let (rt, s, r, sum) = (&rt, &sender, &receiver, &all);
     thread::scope(thread::scope_env(), rt, |scope| {
         for _ in 0..4 {
             scope
@@ -43,12 +41,5 @@ fn exchange<R: Threads + Wait + Abort + Sync>(
                 .expect(rt, "a thread");
         }
     });
-}
-
-#[test]
-fn shared_handles(rt: HostRuntime) {
-    let (s, r) = new::<u64>(&rt, Some(1));
-    let sum = AtomicU64::new(0);
-    exchange(&rt, &s, &r, &sum);
-    equal(&rt, sum.load(SeqCst), 19800);
+    equal(rt, sum.load(SeqCst), 19800);
 }

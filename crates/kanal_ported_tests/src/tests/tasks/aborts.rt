@@ -7,21 +7,8 @@ use kanal::{AsyncReceiver, AsyncSender, ReceiveFuture, SendFuture};
 use std::alloc::{AllocGlobal, Global};
 use std::process::Abort;
 use std::random::RandomSource;
+use std::sync::Arc;
 use std::sync::atomic::AtomicU64;
-use std::sync::{Arc, Wait};
-
-/// Ten clones of the receiver, one for each task.
-fn ten_receivers<R: Wait + Abort + AllocGlobal>(
-    rt: &R,
-    rx: &AsyncReceiver<DropTester>,
-) -> Vec<AsyncReceiver<DropTester>> {
-    let mut clones = Vec::new(rt.alloc());
-    for _ in 0..10 {
-        let theirs = rx.clone(rt).expect(rt, "a clone");
-        clones.push(theirs).expect(rt, "memory for a clone");
-    }
-    clones
-}
 
 /// A receive that waits by each of these receivers: none has answered.
 fn waiting_receives<'a, R: Abort + RandomSource + AllocGlobal>(
@@ -38,27 +25,19 @@ fn waiting_receives<'a, R: Abort + RandomSource + AllocGlobal>(
     list
 }
 
+/// Ten clones of the receiver, one for each task.
 #[test]
 fn recv_abort_test(rt: HostRuntime) {
     let (_tx, rx) = new::<DropTester>(&rt, Some(10));
-    let clones = ten_receivers(&rt, &rx);
+    let mut clones = Vec::new(rt.alloc());
+    for _ in 0..10 {
+        let theirs = rx.clone(&rt).expect(&rt, "a clone");
+        clones.push(theirs).expect(&rt, "memory for a clone");
+    }
     let list = waiting_receives(&rt, clones.as_slice());
     drop(list);
     drop(clones);
     equal(&rt, rx.close(&rt), Ok(()));
-}
-
-/// Ten clones of the sender, one for each task.
-fn ten_senders<R: Wait + Abort + AllocGlobal>(
-    rt: &R,
-    tx: &AsyncSender<DropTester>,
-) -> Vec<AsyncSender<DropTester>> {
-    let mut clones = Vec::new(rt.alloc());
-    for _ in 0..10 {
-        let theirs = tx.clone(rt).expect(rt, "a clone");
-        clones.push(theirs).expect(rt, "memory for a clone");
-    }
-    clones
 }
 
 /// A send that waits by each of these senders: none has answered.
@@ -77,11 +56,16 @@ fn waiting_sends<'a, R: Abort + RandomSource + AllocGlobal>(
     list
 }
 
+/// Ten clones of the sender, one for each task.
 #[test]
 fn send_abort_test(rt: HostRuntime) {
     let drops = counter(&rt);
     let (tx, rx) = new::<DropTester>(&rt, Some(0));
-    let clones = ten_senders(&rt, &tx);
+    let mut clones = Vec::new(rt.alloc());
+    for _ in 0..10 {
+        let theirs = tx.clone(&rt).expect(&rt, "a clone");
+        clones.push(theirs).expect(&rt, "memory for a clone");
+    }
     let list = waiting_sends(&rt, clones.as_slice(), &drops);
     dropped(&rt, &drops, 0);
     drop(list);

@@ -40,16 +40,16 @@ fn receive_any<T: Drop, R: Wait + Abort + RandomSource + AllocGlobal>(
 }
 
 /// Several tasks send such messages to as many, each through a clone of its own.
-fn pass_testers<R>(rt: &R, drops: &Drops)
-where
-    R: Threads + Wait + Abort + RandomSource + AllocGlobal + Sync,
-{
-    let (tx, rx) = new(rt, Some(1));
+#[test]
+fn drop_test(rt: HostRuntime) {
+    let drops = counter(&rt);
+    let (tx, rx) = new(&rt, Some(1));
+    let (rt, told) = (&rt, &drops);
     thread::scope(thread::scope_env(), rt, |scope| {
         for _ in 0..THREADS {
             let theirs = tx.clone(rt).expect(rt, "a clone");
             scope
-                .spawn(move || send_testers(rt, &theirs, drops))
+                .spawn(move || send_testers(rt, &theirs, told))
                 .expect(rt, "a thread");
             let theirs = rx.clone(rt).expect(rt, "a clone");
             scope
@@ -57,13 +57,7 @@ where
                 .expect(rt, "a thread");
         }
     });
-}
-
-#[test]
-fn drop_test(rt: HostRuntime) {
-    let drops = counter(&rt);
-    pass_testers(&rt, &drops);
-    dropped(&rt, &drops, MESSAGES);
+    dropped(rt, &drops, MESSAGES);
 }
 
 /// Sends vectors.
@@ -74,11 +68,10 @@ fn send_vectors<R: Wait + Abort + RandomSource + AllocGlobal>(rt: &R, tx: &Async
 }
 
 /// Several tasks send vectors to as many, each through a clone of its own.
-fn pass_vectors<R>(rt: &R)
-where
-    R: Threads + Wait + Abort + RandomSource + AllocGlobal + Sync,
-{
-    let (tx, rx) = new(rt, Some(1));
+#[test]
+fn vec_test(rt: HostRuntime) {
+    let (tx, rx) = new(&rt, Some(1));
+    let rt = &rt;
     thread::scope(thread::scope_env(), rt, |scope| {
         for _ in 0..THREADS {
             let theirs = tx.clone(rt).expect(rt, "a clone");
@@ -91,11 +84,6 @@ where
                 .expect(rt, "a thread");
         }
     });
-}
-
-#[test]
-fn vec_test(rt: HostRuntime) {
-    pass_vectors(&rt);
 }
 
 /// Sends ten messages, of which each is answered so.

@@ -15,29 +15,29 @@ use std::thread::Threads;
 fn send_both<T: Drop + Copy, R: Wait + Abort + RandomSource + AllocGlobal>(
     rt: &R,
     tx: &AsyncSender<T>,
-    zero: T,
-    ones: T,
+    (zero, ones): (T, T),
+    times: u64,
 ) {
-    for _ in 0..MESSAGES {
+    for _ in 0..times {
         equal(rt, send(rt, tx, zero), Ok(()));
         equal(rt, send(rt, tx, ones), Ok(()));
     }
 }
 
 /// Receives both, so many times.
-fn receive_both<T, R>(rt: &R, rx: &AsyncReceiver<T>, zero: T, ones: T)
+fn receive_both<T, R>(rt: &R, rx: &AsyncReceiver<T>, (zero, ones): (T, T), times: u64)
 where
     T: Drop + Copy + PartialEq + Debug,
     R: Wait + Abort + RandomSource + AllocGlobal,
 {
-    for _ in 0..MESSAGES {
+    for _ in 0..times {
         equal(rt, recv(rt, rx), Ok(zero));
         equal(rt, recv(rt, rx), Ok(ones));
     }
 }
 
-/// Both go from one thread, which has the sole sender, to another, with no place between.
-fn integrity_test<T, R>(rt: &R, zero: T, ones: T)
+/// Both go so many times from one thread, which has the sole sender, to another, with no place between.
+pub fn pass_both<T, R>(rt: &R, both: (T, T), times: u64)
 where
     T: Drop + Copy + PartialEq + Debug + Send + Sync,
     R: Threads + Wait + Abort + RandomSource + AllocGlobal + Sync,
@@ -45,40 +45,40 @@ where
     let (tx, rx) = new::<T>(rt, Some(0));
     thread::join(
         rt,
-        move || send_both(rt, &tx, zero, ones),
-        || receive_both(rt, &rx, zero, ones),
+        move || send_both(rt, &tx, both, times),
+        || receive_both(rt, &rx, both, times),
     );
 }
 
 #[test]
 fn integrity_u8(rt: HostRuntime) {
-    integrity_test(&rt, 0u8, !0u8);
+    pass_both(&rt, (0u8, !0u8), MESSAGES);
 }
 
 #[test]
 fn integrity_u16(rt: HostRuntime) {
-    integrity_test(&rt, 0u16, !0u16);
+    pass_both(&rt, (0u16, !0u16), MESSAGES);
 }
 
 #[test]
 fn integrity_u32(rt: HostRuntime) {
-    integrity_test(&rt, 0u32, !0u32);
+    pass_both(&rt, (0u32, !0u32), MESSAGES);
 }
 
 #[test]
 fn integrity_usize(rt: HostRuntime) {
-    integrity_test(&rt, 0u64, !0u64);
+    pass_both(&rt, (0u64, !0u64), MESSAGES);
 }
 
 #[test]
 fn integrity_big(rt: HostRuntime) {
     let ones = (!0u64, !0u64, !0u64, !0u64);
-    integrity_test(&rt, (0u64, 0u64, 0u64, 0u64), ones);
+    pass_both(&rt, ((0u64, 0u64, 0u64, 0u64), ones), MESSAGES);
 }
 
 #[test]
 fn integrity_string(rt: HostRuntime) {
-    integrity_test(&rt, "", "not empty");
+    pass_both(&rt, ("", "not empty"), MESSAGES);
 }
 
 #[test]
@@ -93,7 +93,7 @@ fn integrity_padded_rust(rt: HostRuntime) {
         b: 0xFF,
         c: 0xFFFF_FFFF,
     };
-    integrity_test(&rt, zero, ones);
+    pass_both(&rt, (zero, ones), MESSAGES);
 }
 
 #[test]
@@ -108,5 +108,5 @@ fn integrity_padded_c(rt: HostRuntime) {
         b: 0xFF,
         c: 0xFFFF_FFFF,
     };
-    integrity_test(&rt, zero, ones);
+    pass_both(&rt, (zero, ones), MESSAGES);
 }

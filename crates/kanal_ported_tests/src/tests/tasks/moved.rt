@@ -18,57 +18,44 @@ fn new_task(rt: &(impl Abort + RandomSource + AllocGlobal)) -> MockTask {
     MockTask::new(rt).expect(rt, "a task")
 }
 
-/// Polls the send once.
-fn poll_send<R: Abort + RandomSource + AllocGlobal>(
-    rt: &R,
-    mut future: SendFuture<'_, u64>,
-) -> Poll<Result<(), SendError>> {
-    new_task(rt).poll(&mut future)
-}
-
-/// Polls the receive once.
-fn poll_receive<R: Abort + RandomSource + AllocGlobal>(
-    rt: &R,
-    mut future: ReceiveFuture<'_, u64>,
-) -> Poll<Result<u64, ReceiveError>> {
-    new_task(rt).poll(&mut future)
-}
-
-/// Polls the stream once.
-fn poll_stream<R: Abort + RandomSource + AllocGlobal>(
-    rt: &R,
-    mut stream: ReceiveStream<'_, u64>,
-) -> Poll<Option<u64>> {
-    new_task(rt).poll(&mut stream.next())
-}
-
-/// The same, each in a scoped thread of its own, which is joined.
+/// Polls the send once, in a scoped thread of its own, which is joined.
 fn send_there<R: Threads + Wait + Abort + RandomSource + AllocGlobal + Sync>(
     rt: &R,
     future: SendFuture<'_, u64>,
 ) -> Poll<Result<(), SendError>> {
     thread::scope(thread::scope_env(), rt, |scope| {
-        let thread = scope.spawn(move || poll_send(rt, future));
+        let thread = scope.spawn(move || {
+            let mut future = future;
+            new_task(rt).poll(&mut future)
+        });
         thread.expect(rt, "a thread").join(rt)
     })
 }
 
+/// The same of a receive.
 fn receive_there<R: Threads + Wait + Abort + RandomSource + AllocGlobal + Sync>(
     rt: &R,
     future: ReceiveFuture<'_, u64>,
 ) -> Poll<Result<u64, ReceiveError>> {
     thread::scope(thread::scope_env(), rt, |scope| {
-        let thread = scope.spawn(move || poll_receive(rt, future));
+        let thread = scope.spawn(move || {
+            let mut future = future;
+            new_task(rt).poll(&mut future)
+        });
         thread.expect(rt, "a thread").join(rt)
     })
 }
 
+/// The same of a stream.
 fn next_there<R: Threads + Wait + Abort + RandomSource + AllocGlobal + Sync>(
     rt: &R,
     stream: ReceiveStream<'_, u64>,
 ) -> Poll<Option<u64>> {
     thread::scope(thread::scope_env(), rt, |scope| {
-        let thread = scope.spawn(move || poll_stream(rt, stream));
+        let thread = scope.spawn(move || {
+            let mut stream = stream;
+            new_task(rt).poll(&mut stream.next())
+        });
         thread.expect(rt, "a thread").join(rt)
     })
 }

@@ -1,34 +1,14 @@
 //! Messages of size 0 between tasks, through a waiting sender's slot, and through a cell.
-use super::given::{new, recv, send};
+use super::given::new;
+use super::integrity::pass_both;
 use crate::tests::given::{MESSAGES, equal, holds};
 use crate::tests::messages::Nothing;
 use futures::task::Poll;
 use futures::test::MockTask;
-use kanal::{AsyncReceiver, AsyncSender};
-use std::alloc::AllocGlobal;
-use std::process::Abort;
-use std::random::RandomSource;
-use std::sync::Wait;
-use std::thread;
-
-/// Sends the messages.
-fn send_all<R: Wait + Abort + RandomSource + AllocGlobal>(rt: &R, tx: &AsyncSender<Nothing>) {
-    for _ in 0..MESSAGES {
-        equal(rt, send(rt, tx, []), Ok(()));
-    }
-}
-
-/// Receives the messages.
-fn receive_all<R: Wait + Abort + RandomSource + AllocGlobal>(rt: &R, rx: &AsyncReceiver<Nothing>) {
-    for _ in 0..MESSAGES {
-        holds(rt, recv(rt, rx).is_ok());
-    }
-}
 
 #[test]
 fn spsc_overaligned_zst(rt: HostRuntime) {
-    let (tx, rx) = new::<Nothing>(&rt, Some(0));
-    thread::join(&rt, move || send_all(&rt, &tx), || receive_all(&rt, &rx));
+    pass_both::<Nothing, _>(&rt, ([], []), MESSAGES / 2);
 }
 
 /// A send waits with its message, and a receive takes it from there.

@@ -1,7 +1,6 @@
 //! One message, two messages, and a stream.
 use super::given::{new, receive_one, send_below, send_one, stream_below};
 use crate::tests::given::MESSAGES;
-use kanal::{AsyncReceiver, AsyncSender};
 use std::alloc::AllocGlobal;
 use std::process::Abort;
 use std::random::RandomSource;
@@ -16,25 +15,23 @@ fn one_msg(rt: HostRuntime) {
     receive_one(&rt, &rx, 0);
 }
 
-/// Sends 0 and 1.
-fn send_two<R: Wait + Abort + RandomSource + AllocGlobal>(rt: &R, tx: &AsyncSender<u8>) {
-    send_one(rt, tx, 0);
-    send_one(rt, tx, 1);
-}
-
-/// Receives 0 and 1.
-fn receive_two<R: Wait + Abort + RandomSource + AllocGlobal>(rt: &R, rx: &AsyncReceiver<u8>) {
-    receive_one(rt, rx, 0);
-    receive_one(rt, rx, 1);
-}
-
-/// Two messages go through a channel with so many places, whose sole sender is the task's that sends.
+/// The messages 0 and 1 go through a channel with so many places, whose sole sender is the task's that sends.
 fn two_msg<R>(rt: &R, size: usize)
 where
     R: Threads + Wait + Abort + RandomSource + AllocGlobal + Sync,
 {
     let (tx, rx) = new::<u8>(rt, Some(size));
-    thread::join(rt, move || send_two(rt, &tx), || receive_two(rt, &rx));
+    thread::join(
+        rt,
+        move || {
+            send_one(rt, &tx, 0);
+            send_one(rt, &tx, 1);
+        },
+        || {
+            receive_one(rt, &rx, 0);
+            receive_one(rt, &rx, 1);
+        },
+    );
 }
 
 #[test]

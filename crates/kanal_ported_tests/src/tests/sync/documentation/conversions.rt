@@ -2,7 +2,6 @@
 use crate::tests::given::equal;
 use crate::tests::sync::given::{new, receive_one, send_one};
 use crate::tests::tasks::given::{receive_one as receive_in_task, send_one as send_in_task};
-use kanal::{Receiver, Sender};
 use std::alloc::AllocGlobal;
 use std::process::Abort;
 use std::random::RandomSource;
@@ -27,18 +26,6 @@ enum Served {
     Lent,
 }
 
-/// Sends the word in a task.
-fn send_word<R: Wait + Abort + RandomSource + AllocGlobal>(
-    rt: &R,
-    s: Sender<&'static str>,
-    how: Served,
-) {
-    match how {
-        Served::Converted => send_in_task(rt, &s.to_async(), "World"),
-        Served::Lent => send_in_task(rt, s.as_async(), "World"),
-    }
-}
-
 /// A task sends the word through a sender that serves it so, and a thread receives it.
 fn word_is_sent<R>(rt: &R, how: Served)
 where
@@ -47,21 +34,12 @@ where
     let (s, r) = new::<&'static str>(rt, Some(0));
     thread::join(
         rt,
-        move || send_word(rt, s, how),
+        move || match how {
+            Served::Converted => send_in_task(rt, &s.to_async(), "World"),
+            Served::Lent => send_in_task(rt, s.as_async(), "World"),
+        },
         || receive_one(rt, &r, "World"),
     );
-}
-
-/// Receives the word in a task.
-fn receive_word<R: Wait + Abort + RandomSource + AllocGlobal>(
-    rt: &R,
-    r: Receiver<&'static str>,
-    how: Served,
-) {
-    match how {
-        Served::Converted => receive_in_task(rt, &r.to_async(), "World"),
-        Served::Lent => receive_in_task(rt, r.as_async(), "World"),
-    }
 }
 
 /// A task receives the word through a receiver that serves it so, and a thread sends it.
@@ -72,7 +50,10 @@ where
     let (s, r) = new::<&'static str>(rt, Some(0));
     thread::join(
         rt,
-        move || receive_word(rt, r, how),
+        move || match how {
+            Served::Converted => receive_in_task(rt, &r.to_async(), "World"),
+            Served::Lent => receive_in_task(rt, r.as_async(), "World"),
+        },
         || send_one(rt, &s, "World"),
     );
 }

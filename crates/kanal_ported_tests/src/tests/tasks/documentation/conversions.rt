@@ -2,7 +2,6 @@
 use crate::tests::given::equal;
 use crate::tests::sync::given::{receive_one as receive_blocking, send_one as send_blocking};
 use crate::tests::tasks::given::{new, receive_one, send_one};
-use kanal::{AsyncReceiver, AsyncSender};
 use std::alloc::AllocGlobal;
 use std::process::Abort;
 use std::random::RandomSource;
@@ -32,14 +31,6 @@ enum Served {
     Lent,
 }
 
-/// Sends the word in a thread.
-fn send_word<R: Wait + Abort>(rt: &R, s: AsyncSender<&'static str>, how: Served) {
-    match how {
-        Served::Converted => send_blocking(rt, &s.to_sync(), "World"),
-        Served::Lent => equal(rt, s.as_sync().send(rt, "World"), Ok(())),
-    }
-}
-
 /// A thread sends the word through a sender that serves it so, and a task receives it.
 fn word_is_sent<R>(rt: &R, how: Served)
 where
@@ -48,17 +39,12 @@ where
     let (s, r) = new::<&'static str>(rt, Some(0));
     thread::join(
         rt,
-        move || send_word(rt, s, how),
+        move || match how {
+            Served::Converted => send_blocking(rt, &s.to_sync(), "World"),
+            Served::Lent => equal(rt, s.as_sync().send(rt, "World"), Ok(())),
+        },
         || receive_one(rt, &r, "World"),
     );
-}
-
-/// Receives the word in a thread.
-fn receive_word<R: Wait + Abort>(rt: &R, r: AsyncReceiver<&'static str>, how: Served) {
-    match how {
-        Served::Converted => receive_blocking(rt, &r.to_sync(), "World"),
-        Served::Lent => equal(rt, r.as_sync().recv(rt), Ok("World")),
-    }
 }
 
 /// A thread receives the word through a receiver that serves it so, and a task sends it.
@@ -69,7 +55,10 @@ where
     let (s, r) = new::<&'static str>(rt, Some(0));
     thread::join(
         rt,
-        move || receive_word(rt, r, how),
+        move || match how {
+            Served::Converted => receive_blocking(rt, &r.to_sync(), "World"),
+            Served::Lent => equal(rt, r.as_sync().recv(rt), Ok("World")),
+        },
         || send_one(rt, &s, "World"),
     );
 }

@@ -1,0 +1,4 @@
+//! The tests, and what they share.
+mod given;
+mod history;
+mod shared;

@@ -1,0 +1,107 @@
+//! An exchange between two threads on one channel, by calls that wait or by calls with deadlines.
+ghost use Rattle.std.specs.Prelude.{◌≡◌, Some, None};
+ghost use Rattle.kanal_board.specs.Boards.{table_of};
+
+use crate::tests::history::deadlines;
+use kanal_core::error::NewError;
+use kanal_one_history::{Call, Channel, Naming, Opened, Pass};
+use std::alloc::Global;
+use std::sync::Wait;
+use std::thread::Threads;
+use std::{thread, time};
+
+/// How many messages go from one thread to the other.
+pub(super) const MESSAGES: u64 = 20_000;
+
+/// By what calls the messages go.
+#[derive(Clone, Copy)]
+pub(super) enum Calls {
+    /// By `send` and `recv`.
+    Waiting,
+    /// By `send_timeout` and `recv_timeout`.
+    Timed,
+}
+
+impl Calls {
+    /// Sends all numbers, and counts those that entered.
+    fn send_all<J: Naming, R: Wait + time::Clock>(
+        self,
+        rt: &R,
+        channel: &Channel<u64, J>,
+        mut pass: Pass<u64, J>,
+    ) -> u64 {
+        let mut sent = 0u64;
+        for number in 0..MESSAGES {
+            let entered = match self {
+                Calls::Waiting => channel.send(rt, &mut pass, number).is_ok(),
+                Calls::Timed => deadlines::send(rt, channel, &mut pass, number),
+            };
+            if entered {
+                sent = sent.wrapping_add(1);
+            }
+        }
+        sent
+    }
+
+    /// Receives as many, and counts those that came at their turn.
+    fn recv_all<J: Naming, R: Wait + time::Clock>(
+        self,
+        rt: &R,
+        channel: &Channel<u64, J>,
+        mut pass: Pass<u64, J>,
+    ) -> u64 {
+        let mut got = 0u64;
+        for number in 0..MESSAGES {
+            let came = match self {
+                Calls::Waiting => channel.recv(rt, &mut pass) == Ok(number),
+                Calls::Timed => deadlines::recv(rt, channel, &mut pass, number),
+            };
+            if came {
+                got = got.wrapping_add(1);
+            }
+        }
+        got
+    }
+
+    /// Lets one thread send and the other receive.
+    fn exchange<J: Naming + Send + Sync, R: Threads + Wait + time::Clock + Sync>(
+        self,
+        rt: &R,
+        channel: &Channel<u64, J>,
+        mut one: Pass<u64, J>,
+    ) -> (u64, u64) {
+        let other = one.again(channel.board());
+        thread::join(
+            rt,
+            move || -> u64 { self.send_all(rt, channel, one) },
+            move || -> u64 { self.recv_all(rt, channel, other) },
+        )
+    }
+
+    /// The same on a new channel of this capacity.
+    pub(super) fn exchange_bounded<J: Naming + Send + Sync, R: Threads + Wait + time::Clock + Sync>(
+        self,
+        rt: &R,
+        alloc: Global,
+        capacity: usize,
+        opened: Opened<Call<u64>>,
+    ) -> Result<(u64, u64), NewError>
+        requires name { table_of opened ≡ J.table }
+        requires capacity { J.capacity ≡ Some capacity }
+    {
+        let (channel, pass) = kanal_one_history::bounded::<u64, J>(alloc, capacity, opened)?;
+        Ok(self.exchange(rt, &channel, pass))
+    }
+
+    /// The same on a new channel without limit.
+    pub(super) fn exchange_unbounded<
+        J: Naming + Send + Sync,
+        R: Threads + Wait + time::Clock + Sync,
+    >(self, rt: &R, alloc: Global, opened: Opened<Call<u64>>) -> (u64, u64)
+        requires name { table_of opened ≡ J.table }
+        requires capacity { J.capacity ≡ None }
+    {
+        let (channel, pass) = kanal_one_history::unbounded::<u64, J>(alloc, opened);
+        self.exchange(rt, &channel, pass)
+    }
+}

@@ -1,0 +1,49 @@
+//! Passes: they take no bytes, are compared, learn, and own each call once.
+ghost use Rattle.std.specs.Prelude.{◌≡◌, Some};
+ghost use Rattle.kanal_board.specs.Boards.{table_of};
+
+use crate::tests::given::equal;
+use crate::tests::history::given::board;
+use kanal_core::error::NewError;
+use kanal_one_history::{Call, Channel, Naming, Opened, Pass};
+use std::alloc::Global;
+use std::marker::Brand;
+use std::mem::size_of;
+use std::sync::Wait;
+
+#[test]
+fn a_pass_takes_no_bytes(rt: HostRuntime) {
+    equal(&rt, size_of::<Pass<u64, Brand>>(), 0);
+    equal(&rt, size_of::<Pass<String, Brand>>(), 0);
+}
+
+/// Two passes make a call each, are compared, and one learns what the other has seen.
+fn two_passes<J: Naming, R: Wait>(
+    rt: &R,
+    alloc: Global,
+    capacity: usize,
+    opened: Opened<Call<u64>>,
+) -> Result<bool, NewError>
+    requires name { table_of opened ≡ J.table }
+    requires capacity { J.capacity ≡ Some capacity }
+{
+    let (channel, mut one) = kanal_one_history::bounded::<u64, J>(alloc, capacity, opened)?;
+    let mut other = one.again(channel.board());
+    let sent = channel.try_send(rt, &mut one, 7);
+    let got = channel.try_recv(rt, &mut other);
+    one.holds();
+    one.compare(channel.board(), &mut other);
+    one.owns_once(channel.board(), &mut other);
+    one.learn(channel.board(), other);
+    Ok(sent == Ok(true) && got == Ok(Some(7)))
+}
+
+#[test]
+fn two_passes_of_one_channel(rt: HostRuntime) {
+    let opened = board(&rt, rt.alloc());
+    equal(
+        &rt,
+        two_passes::<Brand, _>(&rt, rt.alloc(), 1, opened),
+        Ok(true),
+    );
+}

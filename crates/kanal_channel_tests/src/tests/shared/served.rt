@@ -1,0 +1,185 @@
+//! Calls that serve or end a wait of the other side, each seen by the task that waits.
+use crate::tests::given::{channel, equal, handles, holds, new_task, tell_late};
+use futures::task::Poll;
+use kanal::AsyncSender;
+use kanal_channel::Shared;
+use kanal_core::error::{ReceiveError, SendError};
+use kanal_events::event::{Event, Reply};
+use kanal_events::made::Tried;
+use kanal_futures::{receive_future, send_future};
+use kanal_history::NoHistory;
+use std::process::Abort;
+use std::sync::Wait;
+
+#[test]
+fn realtime_forms_serve_who_waits(rt: HostRuntime) {
+    let shared = channel::<u64>(&rt, 0);
+    let task = new_task(&rt);
+    let mut receiving = receive_future(&shared);
+    equal(&rt, task.poll(&mut receiving), Poll::Pending);
+    holds(&rt, shared.try_send_realtime(&mut (), 7) == Ok(true));
+    holds(&rt, task.is_woken());
+    equal(&rt, task.poll(&mut receiving), Poll::Ready(Ok(7)));
+    let mut sending = send_future(&shared, 8);
+    equal(&rt, task.poll(&mut sending), Poll::Pending);
+    equal(&rt, shared.try_recv_realtime(&mut ()), Ok(Some(8)));
+    holds(&rt, task.is_woken());
+    equal(&rt, task.poll(&mut sending), Poll::Ready(Ok(())));
+}
+
+#[test]
+fn the_last_sender_under_the_lock_ends_a_receive(rt: HostRuntime) {
+    let (sender, receiver) = handles::<u64>(&rt, 0);
+    let shared = receiver.channel();
+    let task = new_task(&rt);
+    let mut receiving = receive_future(shared);
+    equal(&rt, task.poll(&mut receiving), Poll::Pending);
+    let locked = shared.hold(&rt);
+    drop(sender);
+    locked.give_back_quiet();
+    holds(&rt, task.is_woken());
+    let ended = task.poll(&mut receiving);
+    equal(&rt, ended, Poll::Ready(Err(ReceiveError::SendClosed)));
+}
+
+#[test]
+fn the_last_receiver_under_the_lock_ends_a_send(rt: HostRuntime) {
+    let (sender, receiver) = handles::<u64>(&rt, 0);
+    let shared = sender.channel();
+    let task = new_task(&rt);
+    let mut sending = send_future(shared, 7);
+    equal(&rt, task.poll(&mut sending), Poll::Pending);
+    let locked = shared.hold(&rt);
+    drop(receiver);
+    locked.give_back_quiet();
+    holds(&rt, task.is_woken());
+    holds(&rt, task.poll(&mut sending).is_ready());
+}
+
+/// Drops the sender under the lock, and gives the lock back without a look.
+fn drop_unlooked<R: Wait>(rt: &R, shared: &Shared<u64, NoHistory>, sender: AsyncSender<u64>) {
+    let locked = shared.hold(rt);
+    drop(sender);
+    locked.release();
+}
+
+#[test]
+fn a_call_applies_the_notices_that_it_finds(rt: HostRuntime) {
+    let (sender, receiver) = handles::<u64>(&rt, 1);
+    let shared = receiver.channel();
+    drop_unlooked(&rt, shared, sender);
+    equal(
+        &rt,
+        shared.try_recv(&rt, &mut ()),
+        Err(ReceiveError::SendClosed),
+    );
+}
+
+#[test]
+fn a_poll_of_a_receive_applies_the_notices_that_it_finds(rt: HostRuntime) {
+    let (sender, receiver) = handles::<u64>(&rt, 1);
+    let shared = receiver.channel();
+    drop_unlooked(&rt, shared, sender);
+    let task = new_task(&rt);
+    let mut receiving = receive_future(shared);
+    equal(
+        &rt,
+        task.poll(&mut receiving),
+        Poll::Ready(Err(ReceiveError::SendClosed)),
+    );
+}
+
+#[test]
+fn a_poll_of_a_send_applies_the_notices_that_it_finds(rt: HostRuntime) {
+    let (sender, receiver) = handles::<u64>(&rt, 1);
+    let shared = receiver.channel();
+    drop_unlooked(&rt, shared, sender);
+    let task = new_task(&rt);
+    let mut sending = send_future(shared, 7);
+    equal(
+        &rt,
+        task.poll(&mut sending),
+        Poll::Ready(Err(SendError::Sealed)),
+    );
+}
+
+/// Two futures wait; one is dropped under the lock, and the other still waits after it.
+#[test]
+fn who_did_not_leave_waits_on(rt: HostRuntime) {
+    let shared = channel::<u64>(&rt, 0);
+    let task = new_task(&rt);
+    let (mut first, mut second) = (receive_future(&shared), receive_future(&shared));
+    equal(&rt, task.poll(&mut first), Poll::Pending);
+    equal(&rt, task.poll(&mut second), Poll::Pending);
+    let locked = shared.hold(&rt);
+    drop(first);
+    locked.give_back_quiet();
+    holds(&rt, shared.try_send(&rt, &mut (), 7) == Ok(true));
+    equal(&rt, task.poll(&mut second), Poll::Ready(Ok(7)));
+}
+
+/// The message of a send that waits is taken, and the send is settled only after its next poll.
+#[test]
+fn a_poll_whose_entry_is_gone_asks_for_another(rt: HostRuntime) {
+    let shared = channel::<u64>(&rt, 0);
+    let (first, second) = (new_task(&rt), new_task(&rt));
+    let mut sending = send_future(&shared, 7);
+    equal(&rt, first.poll(&mut sending), Poll::Pending);
+    let got = tell_late(
+        &rt,
+        &shared,
+        Event::Recv,
+        || {},
+        || {
+            equal(&rt, second.poll(&mut sending), Poll::Pending);
+            holds(&rt, second.is_woken());
+        },
+    );
+    holds(&rt, matches!(got, Some(Reply::Got(7))));
+    equal(&rt, second.poll(&mut sending), Poll::Ready(Ok(())));
+}
+
+/// Sends 7 under the lock, beside a drop of the sender that leaves a notice.
+fn serve_beside_a_notice<R: Abort>(
+    rt: &R,
+    shared: &Shared<u64, NoHistory>,
+    sender: AsyncSender<u64>,
+) {
+    let Some((mut locked, left)) = shared.try_hold() else {
+        return equal(rt, "the lock is held", "the lock is free");
+    };
+    let mut pass = ();
+    match locked
+        .state
+        .start(shared.board(), &mut pass, Event::Send(7))
+    {
+        Tried::Told(answered) => {
+            drop(sender);
+            let made = answered.into_made();
+            let reply = shared.give_back_tried(locked, left, &mut pass, made);
+            holds(rt, matches!(reply, Reply::Sent));
+        },
+        Tried::MustWait(_event) => {
+            let released = locked.release();
+            shared.tell_left(left, &released);
+            equal(rt, "it must wait", "it is told");
+        },
+    }
+}
+
+/// The step under the lock owes one receive its message, and a notice ends the other: the way out tells
+/// both, and nobody makes a further call.
+#[test]
+fn a_way_out_that_owes_applies_a_notice(rt: HostRuntime) {
+    let (sender, receiver) = handles::<u64>(&rt, 0);
+    let shared = receiver.channel();
+    let (first, second) = (new_task(&rt), new_task(&rt));
+    let (mut given, mut ended) = (receive_future(shared), receive_future(shared));
+    equal(&rt, first.poll(&mut given), Poll::Pending);
+    equal(&rt, second.poll(&mut ended), Poll::Pending);
+    serve_beside_a_notice(&rt, shared, sender);
+    holds(&rt, first.is_woken() && second.is_woken());
+    equal(&rt, first.poll(&mut given), Poll::Ready(Ok(7)));
+    let ended = second.poll(&mut ended);
+    equal(&rt, ended, Poll::Ready(Err(ReceiveError::SendClosed)));
+}

@@ -1,0 +1,92 @@
+//! Jobs that wait for each other at their gate: fewer threads can't do them, in any order.
+use super::given::{gives, squares};
+use crate::tests::given::equal;
+use kanal_pool::{Gate, map_jobs};
+use std::alloc::AllocGlobal;
+use std::process::Abort;
+use std::sync::Wait;
+use std::sync::atomic::AtomicU64;
+use std::sync::atomic::Ordering::SeqCst;
+use std::thread;
+use std::thread::Threads;
+
+/// How often a job that is to meet others looks for them.
+const TURNS: u32 = 1_000_000;
+
+/// How often a job that is to meet nobody looks for one too many.
+const FEW_TURNS: u32 = 20_000;
+
+/// Where jobs meet: how many are inside, how many are to be, and how many gave up waiting for the others.
+#[derive(Drop)]
+struct Meeting {
+    inside: AtomicU64,
+    wanted: u64,
+    turns: u32,
+    met: AtomicU64,
+    missed: AtomicU64,
+}
+
+impl Meeting {
+    /// So many jobs are to be inside at once; each looks for the others so often.
+    fn of(wanted: u64, turns: u32) -> Self {
+        Meeting {
+            inside: AtomicU64::new(0),
+            wanted,
+            turns,
+            met: AtomicU64::new(0),
+            missed: AtomicU64::new(0),
+        }
+    }
+}
+
+impl Gate for Meeting {
+    fn enter(&self, _job: usize) {
+        self.inside.fetch_add(1, SeqCst);
+        for _ in 0..self.turns {
+            if self.met.load(SeqCst) > 0 || self.inside.load(SeqCst) == self.wanted {
+                self.met.fetch_add(1, SeqCst);
+                return;
+            }
+            thread::yield_now();
+        }
+        self.missed.fetch_add(1, SeqCst);
+    }
+
+    fn leave(&self, _job: usize) {
+        self.inside.fetch_sub(1, SeqCst);
+    }
+}
+
+/// Ends the test unless as many jobs as there are workers meet.
+fn all_meet<R: Threads + Wait + Abort + AllocGlobal + Sync>(
+    rt: &R,
+    workers: u32,
+    expected: &[u64],
+) {
+    let jobs = squares(rt, workers);
+    let meeting = Meeting::of(u64::from(workers), TURNS);
+    let answer = map_jobs(rt, rt.alloc(), jobs.as_slice(), workers as usize, &meeting);
+    gives(rt, answer, expected);
+    equal(rt, meeting.missed.load(SeqCst), 0);
+    equal(rt, meeting.met.load(SeqCst), u64::from(workers));
+}
+
+#[test]
+fn two_jobs_meet(rt: HostRuntime) {
+    all_meet(&rt, 2, &[0, 1]);
+}
+
+#[test]
+fn four_jobs_meet(rt: HostRuntime) {
+    all_meet(&rt, 4, &[0, 1, 4, 9]);
+}
+
+#[test]
+fn no_more_jobs_at_once_than_workers(rt: HostRuntime) {
+    let jobs = squares(&rt, 6);
+    let meeting = Meeting::of(3, FEW_TURNS);
+    let answer = map_jobs(&rt, rt.alloc(), jobs.as_slice(), 2, &meeting);
+    gives(&rt, answer, &[0, 1, 4, 9, 16, 25]);
+    equal(&rt, meeting.met.load(SeqCst), 0);
+    equal(&rt, meeting.missed.load(SeqCst), 6);
+}

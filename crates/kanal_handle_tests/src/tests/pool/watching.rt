@@ -1,0 +1,120 @@
+//! Jobs whose gate and work are counted, each for itself.
+ghost use Rattle.std.specs.Prelude.{◌==◌, ◌≡◌, true};
+ghost use Rattle.std.proofs.Common.{ap, rules};
+ghost use Rattle.std.proofs.lemmas.Bool.{eqb-true};
+ghost use Rattle.std.specs.Cmp.Rules.{comparing};
+
+use super::tally::Tally;
+use crate::tests::given::equal;
+use kanal_pool::{Gate, Job, NoMemory, map_jobs};
+use std::alloc::AllocGlobal;
+use std::process::Abort;
+use std::sync::Wait;
+use std::sync::atomic::Ordering::SeqCst;
+use std::thread::Threads;
+
+/// How many jobs there are.
+const JOBS: usize = 3;
+
+/// A job whose answer is its number, and whose work is counted.
+#[derive(Drop)]
+struct Watched {
+    number: u32,
+    tally: Tally,
+}
+
+/// A gate that counts who passes it.
+#[derive(Drop)]
+struct Counter<'a> {
+    jobs: &'a [Watched],
+}
+
+impl Gate for Counter<'_> {
+    fn enter(&self, job: usize) {
+        let jobs = self.jobs;
+        if let Some(watched) = jobs.get(job) {
+            watched.tally.entered.fetch_add(1, SeqCst);
+        }
+    }
+
+    fn leave(&self, job: usize) {
+        let jobs = self.jobs;
+        if let Some(watched) = jobs.get(job) {
+            watched.tally.left.fetch_add(1, SeqCst);
+        }
+    }
+}
+
+impl PartialEq for Watched {
+    ghost eq = { λ one other. one.number == other.number };
+
+    ghost laws = { Prim.search (comparing, rules) };
+
+    fn eq(&self, other: &Self) -> bool {
+        self.number == other.number
+    }
+}
+
+impl Eq for Watched {
+    ghost laws = { Prim.search (comparing, rules) };
+}
+
+impl Job for Watched {
+    type Answer = u32;
+
+    ghost value = { λ job. job.number };
+
+    fn work(&self) -> Result<u32, NoMemory> {
+        self.tally.work();
+        Ok(self.number)
+    }
+
+    ghost equal_is_same = { λ one other equal.
+        ap (λ n. record one { number = n }) (eqb-true one.number other.number equal) };
+}
+
+/// The job with this number, to which nothing has happened.
+fn fresh(number: u32) -> Watched {
+    Watched {
+        number,
+        tally: Tally::new(),
+    }
+}
+
+/// Does the jobs by so many workers. What became of each, where all have answered.
+fn counts_of<R: Threads + Wait + Abort + AllocGlobal + Sync>(
+    rt: &R,
+    workers: usize,
+) -> [[u64; 4]; JOBS] {
+    let jobs = [fresh(0), fresh(1), fresh(2)];
+    let done = map_jobs(rt, rt.alloc(), &jobs, workers, &Counter { jobs: &jobs });
+    assert!(rt; done.is_ok());
+    let [first, second, third] = &jobs;
+    [
+        first.tally.counts(),
+        second.tally.counts(),
+        third.tally.counts(),
+    ]
+}
+
+/// Each job's counts where it was entered, worked on within its gate and left, once.
+const ONCE: [u64; 4] = [1, 1, 0, 1];
+
+#[test]
+fn a_gate_is_told_each_job_once(rt: HostRuntime) {
+    for [entered, _worked, _outside, left] in counts_of(&rt, 2) {
+        equal(&rt, (entered, left), (1, 1));
+    }
+}
+
+#[test]
+fn the_work_lies_between_enter_and_leave(rt: HostRuntime) {
+    for [_entered, worked, outside, _left] in counts_of(&rt, 1) {
+        equal(&rt, (worked > 0, outside), (true, 0));
+    }
+}
+
+#[test]
+fn each_job_is_worked_once(rt: HostRuntime) {
+    equal(&rt, counts_of(&rt, 2), [ONCE; JOBS]);
+}

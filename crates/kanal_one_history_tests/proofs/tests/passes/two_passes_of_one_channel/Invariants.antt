@@ -1,7 +1,0 @@
-use Rattle.std.proofs.Common.{Some}
-use Rattle.kanal_board.specs.Boards.{table_of}
-use Rattle.kanal_one_history_tests.proofs.tests.passes.two_passes_of_one_channel.Given as goal
-
--- the board's name and the channel's capacity
-abbrev pub ghosts-two_passes : goal.ghosts-two_passes
-ghosts-two_passes g a = record { table = table_of a.opened; capacity = Some a.capacity }

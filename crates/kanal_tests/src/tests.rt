@@ -1,7 +1,0 @@
-//! The tests that cross crates.
-mod devices;
-mod faults;
-mod journals;
-mod rows;
-mod undrawn;
-mod unreadable;

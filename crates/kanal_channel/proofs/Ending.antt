@@ -18,20 +18,19 @@ module _ {T P : Type 0} (w : Words T P) where
   pub ended_passed : (answered : ℕ → Type 0) (deadline : ℕ) (old mid new : P) (event : Event T) (ticket : ℕ) (came : Came T)
       → IsLate answered deadline → IsReplied w old mid event (λ reply. reply) (Waits ticket) → HasEnded w mid new ticket came → HasPassed w answered deadline old new event came
   ended_passed answered deadline old mid new event ticket (Settled outcome) late waits e = has_waited w old mid new event ticket outcome waits e.0 e.1
-  ended_passed answered deadline old mid new event ticket (Withdrawn back) late waits e =
-      (
-        record {
-          come = late;
-          withdrawn = record {
-            ticket = ticket;
-            mid = mid;
-            back = back;
-            waits = waits;
-            withdraws = record { call = _; made = e.0; asked = refl; reads = refl; told = e.1 };
-          };
-        },
-        refl
-      )
+  ended_passed answered deadline old mid new event ticket (Withdrawn back) late waits e = (
+    record {
+      come = late;
+      withdrawn = record {
+        ticket = ticket;
+        mid = mid;
+        back = back;
+        waits = waits;
+        withdraws = record { call = _; made = e.0; asked = refl; reads = refl; told = e.1 };
+      };
+    },
+    refl,
+  )
   ended_passed answered deadline old mid new event ticket (Replied reply) late waits e = absurd e
   ended_passed answered deadline old mid new event ticket (Lacking back) late waits e = absurd e
 

@@ -20,6 +20,6 @@ pub use counted::{
 };
 pub use delivered::Delivered;
 pub use released::Released;
-pub use seat::{Core, Leavers, Seat};
+pub use seat::{Core, Leavers, Seat, ends};
 pub use side::{OfSide, ReceiveSide, SendSide};
-pub use state::{Gone, State, WaitStart, ends};
+pub use state::{Gone, State, WaitStart};

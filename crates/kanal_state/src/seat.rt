@@ -4,8 +4,8 @@
 //! Stands on the settling end and on the kit's linked list. What leaves the core is told or let go only after
 //! the lock was released.
 ghost use Rattle.std.specs.Prelude.{◌≡◌, ◌<◌, ◌^◌, None, false, is_some, length, true, IfSome};
-ghost use Rattle.kanal_cell.specs.CellRule.{HasNotSettled};
-ghost use Rattle.kanal_cell.specs.CellEnds.{kept_waker, settle_cell, settle_view};
+ghost use Rattle.kanal_cell.specs.CellRule.{HasNotSettled, MaySleep};
+ghost use Rattle.kanal_cell.specs.CellEnds.{kept_waker, settle_cell, settle_view, wait_cell, wait_view};
 ghost use Rattle.kanal_state.specs.Renewing.{Swaps};
 ghost use Rattle.kanal_state.specs.Seats.{IsKept, IsTold};
 
@@ -14,7 +14,8 @@ mod room;
 use crate::delivered::{Delivered, Settler};
 use crate::released::Released;
 use futures::task::Waker;
-use kanal_cell::signal::{SettleEnd, Settlement};
+use kanal_cell::signal;
+use kanal_cell::signal::{SettleEnd, Settlement, WaitEnd};
 use kanal_core::internal::{ChannelInternal, Outcome, Waiter};
 use kanal_events::made::Waits;
 use kanal_history::History;
@@ -70,6 +71,22 @@ impl<T: Drop, H: History<T>> Waits<T> for Seat<T, H> {
         drop(room);
         settler.settle(Delivered::new(ticket, outcome, seen))
     }
+}
+
+/// What a blocked call waits with: the end at which it is told, and the seat for the core. `None` where
+/// there is no memory for them.
+///
+/// # Examples
+/// ```text
+/// let (end, seat) = ends(alloc)?;
+/// ```
+#[inline]
+pub fn ends<T: Drop, H: History<T>>(alloc: Global) -> Option<(WaitEnd<Delivered<T, H>>, Seat<T, H>)>
+    ensures fresh { IfSome result (λ ends. MaySleep (wait_view ends.0)) }
+    ensures cell { IfSome result (λ ends. ends.1.cell ≡ wait_cell ends.0) }
+{
+    let (end, settling) = signal::new(alloc).ok()?;
+    Some((end, Seat::of_call(settling)))
 }
 
 impl<T: Drop, H: History<T>> Room<T, H> {

@@ -4,8 +4,6 @@
 //! before the lock is given back; a call that is refused for memory is not kept. Nothing else changes a core.
 ghost use Rattle.std.specs.Prelude.{◌≡◌, ◌↔◌, ◌==◌, ◌++◌, true, false, not, None, Some, IsSome, IfErr, IfNone, IfOk, IfSome, OnOk};
 ghost use Rattle.std.specs.Vec.{vec_capacity, vec_len};
-ghost use Rattle.kanal_cell.specs.CellEnds.{wait_cell, wait_view};
-ghost use Rattle.kanal_cell.specs.CellRule.{MaySleep};
 ghost use Rattle.kanal_core.specs.Channel.{line_of};
 ghost use Rattle.kanal_core.specs.Line.{Line, last_word};
 ghost use Rattle.kanal_core.specs.Tickets.{number_of};
@@ -25,11 +23,8 @@ mod keeping;
 mod leaving;
 
 use crate::counted::{CountedWait, FirstHandles, Notices};
-use crate::delivered::Delivered;
 use crate::seat::{Core, Seat};
 use futures::task::Waker;
-use kanal_cell::signal;
-use kanal_cell::signal::WaitEnd;
 use kanal_core::internal::{Ticket, Waiter};
 use kanal_events::event::{Event, Refusal, Reply, Side};
 use kanal_events::made::{Answered, Kept, Made, Tried};
@@ -40,7 +35,6 @@ use keeping::{
     OfWithdrawal, note, note_made,
 };
 pub use leaving::Gone;
-use std::alloc::Global;
 use std::marker::Model;
 use std::snapshot::Snapshot;
 
@@ -75,22 +69,6 @@ pub enum WaitStart<T, H: History<T>> {
     Waits(CountedWait),
     /// It was refused so, and the seat that it brought is back.
     Refused(Reply<T>, Seat<T, H>),
-}
-
-/// What a blocked call waits with: the end at which it is told, and the seat for the core. `None` where
-/// there is no memory for them.
-///
-/// # Examples
-/// ```text
-/// let (end, seat) = ends(alloc)?;
-/// ```
-#[inline]
-pub fn ends<T: Drop, H: History<T>>(alloc: Global) -> Option<(WaitEnd<Delivered<T, H>>, Seat<T, H>)>
-    ensures fresh { IfSome result (λ ends. MaySleep (wait_view ends.0)) }
-    ensures cell { IfSome result (λ ends. ends.1.cell ≡ wait_cell ends.0) }
-{
-    let (end, settling) = signal::new(alloc).ok()?;
-    Some((end, Seat::of_call(settling)))
 }
 
 /// The reply to a call that must wait, where the tickets are used up.

@@ -68,6 +68,8 @@ def functions_of(text, module, known):
             owner = owner_of(lines, first) if begun[1] else None
             alike = [it for it in known if it.split("::")[-1] == begun[2]]
             own = [it for it in alike if it.split("::")[-2] == (owner or module)]
+            # What an impl is of stands behind its type's name, as in `OfReceiveAsksUnit`.
+            own = own or [it for it in alike if owner and it.split("::")[-2].startswith(owner)]
             yield Function(first, last_of(lines, first, begun[1]), frozenset(own or alike))
 
 

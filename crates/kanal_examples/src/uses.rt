@@ -5,6 +5,7 @@ mod callers;
 mod ends;
 mod facts;
 mod faults;
+mod handles;
 mod loops;
 mod many;
 mod polls;
@@ -52,6 +53,7 @@ where
     tasks::within_one_task(&rt)?;
     tasks::a_sender_lent_to_a_task(rt)?;
     tasks::a_receiver_for_a_task_and_one_for_a_thread(rt)?;
+    handles::tries_and_questions(rt)?;
     timed::nothing_came(&rt)?;
     timed::no_place_came(&rt)?;
     timed::by_a_clock_that_moves(&rt)?;

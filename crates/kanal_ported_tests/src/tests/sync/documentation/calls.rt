@@ -17,19 +17,29 @@ enum Sending {
     TryOptionRealtime,
 }
 
-/// Sends the number by this form as soon as it is taken, from the option where the form takes one: the test
-/// ends unless the option still holds it until then.
+/// Sends the number once by this form, from the option where it takes one. Whether it was taken. The test
+/// ends unless the option still holds it.
+fn is_sent<R: Wait + Abort>(
+    rt: &R,
+    s: &Sender<u64>,
+    form: Sending,
+    option: &mut Option<u64>,
+) -> bool {
+    assert!(rt; option.is_some());
+    let answer = match form {
+        Sending::Try => s.try_send(rt, 1),
+        Sending::TryRealtime => s.try_send_realtime(1),
+        Sending::TryOption => s.try_send_option(rt, option),
+        Sending::TryOptionRealtime => s.try_send_option_realtime(option),
+    };
+    answer == Ok(true)
+}
+
+/// Sends the number by this form as soon as it is taken.
 fn send_by<R: Wait + Abort>(rt: &R, s: &Sender<u64>, form: Sending) {
     let mut option = Some(1);
     for _ in 0..TURNS {
-        holds(rt, option.is_some());
-        let answer = match form {
-            Sending::Try => s.try_send(rt, 1),
-            Sending::TryRealtime => s.try_send_realtime(1),
-            Sending::TryOption => s.try_send_option(rt, &mut option),
-            Sending::TryOptionRealtime => s.try_send_option_realtime(&mut option),
-        };
-        if answer == Ok(true) {
+        if is_sent(rt, s, form, &mut option) {
             return;
         }
         thread::yield_now();
@@ -68,14 +78,19 @@ enum Receiving {
     TryRealtime,
 }
 
+/// Receives once by this form. Whether this word came.
+fn is_there<R: Wait>(rt: &R, r: &Receiver<&'static str>, form: Receiving, word: &str) -> bool {
+    let answer = match form {
+        Receiving::Try => r.try_recv(rt),
+        Receiving::TryRealtime => r.try_recv_realtime(),
+    };
+    answer == Ok(Some(word))
+}
+
 /// Receives the word by this form as soon as it is there.
 fn receive_by<R: Wait + Abort>(rt: &R, r: &Receiver<&'static str>, form: Receiving, word: &str) {
     for _ in 0..TURNS {
-        let answer = match form {
-            Receiving::Try => r.try_recv(rt),
-            Receiving::TryRealtime => r.try_recv_realtime(),
-        };
-        if answer == Ok(Some(word)) {
+        if is_there(rt, r, form, word) {
             return;
         }
         thread::yield_now();

@@ -58,6 +58,26 @@ struct Places {
     outcome: u64,
 }
 
+/// The first place of a step of this kind.
+fn first(steps: &[CellStep], kind: CellStep) -> Place {
+    for (place, step) in steps.iter().enumerate() {
+        if *step == kind {
+            return Some(place);
+        }
+    }
+    None
+}
+
+/// The first place of a settle, and what it brings.
+fn first_settle(steps: &[CellStep]) -> (Place, u64) {
+    for (place, step) in steps.iter().enumerate() {
+        if let CellStep::Settle(outcome) = step {
+            return (Some(place), *outcome);
+        }
+    }
+    (None, 0)
+}
+
 /// The first place after the settle that holds a poll or a leave or is the first sleep.
 fn first_taker(steps: &[CellStep], settle: Place, sleep: Place) -> Place {
     for (place, step) in steps.iter().enumerate() {
@@ -72,15 +92,9 @@ fn first_taker(steps: &[CellStep], settle: Place, sleep: Place) -> Place {
 impl Places {
     /// Those of this list. A leave before the settle leaves it without a taker.
     fn new(steps: &[CellStep]) -> Self {
-        let settle = steps
-            .iter()
-            .position(|step| matches!(step, CellStep::Settle(_)));
-        let sleep = steps.iter().position(|step| *step == CellStep::Sleep);
-        let leave = steps.iter().position(|step| *step == CellStep::Leave);
-        let outcome = match settle.and_then(|place| steps.get(place)) {
-            Some(CellStep::Settle(outcome)) => *outcome,
-            _ => 0,
-        };
+        let (settle, outcome) = first_settle(steps);
+        let sleep = first(steps, CellStep::Sleep);
+        let leave = first(steps, CellStep::Leave);
         let is_settled_late = settle.is_some_and(|settle| is_before(leave, settle));
         let taker = if is_settled_late {
             None
@@ -279,6 +293,17 @@ impl Staying {
     }
 }
 
+impl Settling {
+    fn settle(self, outcome: u64) -> Option<u64> {
+        let Settling { mut end } = self;
+        end.settle(outcome)
+    }
+
+    fn is_left(&self) -> bool {
+        self.end.is_left()
+    }
+}
+
 /// A running cell, by its ends.
 #[derive(Drop)]
 struct Running {
@@ -304,7 +329,7 @@ impl Running {
             CellStep::Poll => self.poll(),
             CellStep::Leave => self.leave(),
             CellStep::IsLeft => match &self.settling {
-                Some(settling) => Answer::IsLeft(settling.end.is_left()),
+                Some(settling) => Answer::IsLeft(settling.is_left()),
                 None => Answer::Spent,
             },
         }
@@ -323,7 +348,7 @@ impl Running {
 
     fn settle(&mut self, outcome: u64) -> Answer {
         match self.settling.take() {
-            Some(Settling { mut end }) => Answer::Back(end.settle(outcome)),
+            Some(settling) => Answer::Back(settling.settle(outcome)),
             None => Answer::Spent,
         }
     }

@@ -27,6 +27,13 @@ impl Drops {
         Arc::new(rt.alloc(), drops).expect(rt, "memory for counters")
     }
 
+    /// Counts one drop.
+    fn count(&self, number: usize) {
+        if let Some(count) = self.counts.get(number) {
+            count.fetch_add(1, SeqCst);
+        }
+    }
+
     /// Ends the test unless each message below this number was dropped once, and no other. The counts
     /// are 0 afterwards.
     pub fn were_once(&self, rt: &impl Abort, made: usize) {
@@ -39,16 +46,14 @@ impl Drops {
 
 /// A message with a number, which counts its drop.
 pub struct Counted {
-    pub number: usize,
+    number: usize,
     drops: Arc<Drops, Global>,
 }
 
 impl Drop for Counted {
     fn drop(self) {
         let Counted { number, drops } = self;
-        if let Some(count) = drops.counts.get(number) {
-            count.fetch_add(1, SeqCst);
-        }
+        drops.count(number);
     }
 }
 
@@ -57,6 +62,11 @@ impl Counted {
     pub fn new(rt: &impl Abort, drops: &Arc<Drops, Global>, number: usize) -> Self {
         let drops = Arc::try_clone(drops).expect(rt, "one more");
         Counted { number, drops }
+    }
+
+    /// Its number.
+    pub fn number(&self) -> usize {
+        self.number
     }
 }
 

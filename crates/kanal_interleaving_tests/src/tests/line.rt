@@ -38,14 +38,13 @@ pub struct Told {
     pub receivers: u32,
 }
 
-/// A channel. `None` is no limit. The messages are those in the buffer and, behind them, those of the sends
-/// that wait; the demands are the receivers that wait.
+/// A channel. `None` is no limit.
 #[derive(Drop)]
 pub struct Line {
     capacity: Option<usize>,
-    pub messages: VecDeque<usize, Global>,
-    pub demands: VecDeque<usize, Global>,
-    pub senders: u32,
+    messages: VecDeque<usize, Global>,
+    demands: VecDeque<usize, Global>,
+    senders: u32,
     receivers: u32,
 }
 
@@ -79,6 +78,20 @@ impl Line {
         }
     }
 
+    /// Whether a message finds no place in the buffer.
+    fn is_full(&self) -> bool {
+        match self.capacity {
+            Some(capacity) => self.messages.len() >= capacity,
+            None => false,
+        }
+    }
+
+    /// The send that waits longest: its message is the first one behind the buffer.
+    fn oldest_send(&self) -> Option<usize> {
+        let capacity = self.capacity?;
+        self.messages.get(capacity).copied()
+    }
+
     /// Offers a message: to the receiver that waits longest, or to the buffer.
     pub fn offer(&mut self, rt: &impl Abort, message: usize) -> Offer {
         match (self.senders, self.receivers) {
@@ -90,31 +103,45 @@ impl Line {
         if let Some(receiver) = self.demands.pop_front() {
             return Offer::Handed(receiver);
         }
-        if self
-            .capacity
-            .is_some_and(|capacity| self.messages.len() >= capacity)
-        {
+        if self.is_full() {
             return Offer::Full;
         }
         add(rt, &mut self.messages, message);
         Offer::Entered
     }
 
-    /// Takes the front of the line. The send that waits longest is done then, whose message is the first one
-    /// behind the buffer: it has moved up into the buffer, or was the one taken.
+    /// Takes the front of the line. The send that waits longest is done then: its message has moved up
+    /// into the buffer, or was the one taken.
     pub fn take(&mut self) -> Take {
         if self.receivers == 0 {
             return Take::Refused(ReceiveError::Closed);
         }
-        let served = match self.capacity {
-            Some(capacity) => self.messages.get(capacity).copied(),
-            None => None,
-        };
+        let served = self.oldest_send();
         match self.messages.pop_front() {
             Some(message) => Take::Taken(message, served),
             None if self.senders == 0 => Take::Refused(ReceiveError::SendClosed),
             None => Take::Empty,
         }
+    }
+
+    /// Lets a message that found no place wait with its send.
+    pub fn wait_send(&mut self, rt: &impl Abort, message: usize) {
+        add(rt, &mut self.messages, message);
+    }
+
+    /// Lets a receiver wait.
+    pub fn wait_receive(&mut self, rt: &impl Abort, receiver: usize) {
+        add(rt, &mut self.demands, receiver);
+    }
+
+    /// Takes back the message of a send that waits.
+    pub fn leave_send(&mut self, message: usize) {
+        self.messages.retain(|number| *number != message);
+    }
+
+    /// Lets a receiver that waits go.
+    pub fn leave_receive(&mut self, receiver: usize) {
+        self.demands.retain(|number| *number != receiver);
     }
 
     /// Moves the whole line, in which no send waits, to the end of these messages.
@@ -133,6 +160,11 @@ impl Line {
             }
         }
         Ok(count)
+    }
+
+    /// Drops the last sender, while nobody waits.
+    pub fn drop_sender(&mut self) {
+        self.senders = 0;
     }
 
     /// Lets the senders be done. The receivers that wait are let go.

@@ -94,38 +94,46 @@ fn end_by_receiver<R: Threads + Wait + Abort + AllocGlobal + Copy + Send + 'stat
     ending
 }
 
-/// Ends the channel through its sender, which is dropped. Whether it was not ended before.
-pub(super) fn end_sender<R: Wait>(rt: &R, sender: Sender<Counted>, end: End) -> bool {
-    let answer = match end {
+/// Ends the channel through its sender, which is dropped.
+pub(super) fn end_sender<R: Wait>(rt: &R, sender: Sender<Counted>, end: End) {
+    let _ = match end {
         End::Close => sender.close(rt),
         End::Drop => Ok(()),
         End::Seal => sender.seal(rt),
     };
     drop(sender);
-    answer.is_ok()
 }
 
-/// A thread, and where it waits for this one.
-pub(super) type Started<A> = (JoinHandle<A>, Arc<Meeting, Global>);
-
-/// Ends the channel through its sender in another thread, so many pauses after it has met this one.
-pub(super) fn start_end<R: Threads + Wait + Abort + AllocGlobal + Copy + Send + 'static>(
+/// The same as by the receiver, but through the sender.
+fn end_by_sender<R: Threads + Wait + Abort + AllocGlobal + Copy + Send + 'static>(
     rt: R,
     sender: Sender<Counted>,
-    end: End,
-    pauses: u32,
-) -> Started<bool> {
+    round: Round,
+) -> JoinHandle<()> {
     let meeting = Meeting::new(&rt, 2);
     let theirs = shared(&rt, &meeting);
     let ending = thread::spawn(&rt, move || {
-        theirs.attend(&rt, pauses);
-        end_sender(&rt, sender, end)
+        theirs.attend(&rt, round.pauses);
+        end_sender(&rt, sender, round.end);
     });
-    (ending.expect(&rt, "a thread"), meeting)
+    let ending = ending.expect(&rt, "a thread");
+    meeting.attend(&rt, 0);
+    ending
 }
 
-/// Sends a message to a channel with a place or without. It enters only where there is one. The channel is
-/// sealed before its receiver goes.
+/// Whether a send can be refused so. The channel is sealed before its receiver goes.
+fn ends_send(end: End, error: SendError) -> bool {
+    match end {
+        End::Close => error == SendError::Closed,
+        End::Drop => error == SendError::ReceiveClosed,
+        End::Seal => matches!(
+            error,
+            SendError::Sealed | SendError::ReceiveClosed | SendError::Closed
+        ),
+    }
+}
+
+/// Sends a message to a channel with a place or without. It enters only where there is one.
 fn send<R: Threads + Wait + Abort + AllocGlobal + Copy + Send + 'static>(
     rt: R,
     round: Round,
@@ -138,11 +146,9 @@ fn send<R: Threads + Wait + Abort + AllocGlobal + Copy + Send + 'static>(
     ending.join(&rt);
     holds(
         &rt,
-        match (answer, round.end) {
-            (Ok(()), _) => round.count == 1,
-            (Err(SendError::Closed), end) => end != End::Drop,
-            (Err(SendError::ReceiveClosed), end) => end != End::Close,
-            (Err(error), end) => error == SendError::Sealed && end == End::Seal,
+        match answer {
+            Ok(()) => round.count == 1,
+            Err(error) => ends_send(round.end, error),
         },
     );
     drop(sender);
@@ -173,8 +179,7 @@ fn receive<R: Threads + Wait + Abort + AllocGlobal + Copy + Send + 'static>(
     drops: &Arc<Drops, Global>,
 ) {
     let (sender, receiver) = filled(&rt, round.count, drops);
-    let (ending, meeting) = start_end(rt, sender, round.end, round.pauses);
-    meeting.attend(&rt, 0);
+    let ending = end_by_sender(rt, sender, round);
     let mut received = 0usize;
     let mut last = receiver.recv(&rt);
     if last.is_ok() {
@@ -200,8 +205,7 @@ fn drain<R: Threads + Wait + Abort + AllocGlobal + Copy + Send + 'static>(
 ) {
     let (sender, receiver) = filled(&rt, round.count, drops);
     let mut drained = Vec::new(rt.alloc());
-    let (ending, meeting) = start_end(rt, sender, round.end, round.pauses);
-    meeting.attend(&rt, 0);
+    let ending = end_by_sender(rt, sender, round);
     let answer = receiver.drain_into(&rt, &mut drained);
     ending.join(&rt);
     holds(

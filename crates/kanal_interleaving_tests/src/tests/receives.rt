@@ -8,7 +8,7 @@
 use crate::tests::counted::{Counted, Drops, number_of};
 use crate::tests::given::{equal, holds, new_task};
 use crate::tests::meeting::{Meeting, shared};
-use crate::tests::races::{End, ROUNDS, Round, Started, end_sender, start_end};
+use crate::tests::races::{End, ROUNDS, Round, end_sender};
 use crate::tests::watch::Watch;
 use futures::test::MockTask;
 use kanal::error::{ReceiveError, SendError};
@@ -17,7 +17,7 @@ use std::alloc::{AllocGlobal, Global};
 use std::process::Abort;
 use std::random::RandomSource;
 use std::sync::{Arc, Wait};
-use std::thread::Threads;
+use std::thread::{JoinHandle, Threads};
 use std::{thread, time};
 
 /// What the other thread does.
@@ -34,6 +34,17 @@ enum First {
     Drop,
     Other,
     Either,
+}
+
+impl First {
+    /// In the round with this number.
+    fn numbered(number: u32) -> Self {
+        match number / 6 % 10 {
+            0 => First::Drop,
+            1 => First::Other,
+            _ => First::Either,
+        }
+    }
 }
 
 /// What a send that doesn't wait answers.
@@ -59,27 +70,55 @@ fn waiting<'a>(
     receiving
 }
 
-/// Sends the message in another thread, once it has met this one, and ends the channel right after that, if it
-/// is to be ended. The thread hands its sender back otherwise.
+/// A thread, and where it waits for this one.
+type Started<A> = (JoinHandle<A>, Arc<Meeting, Global>);
+
+/// Ends the channel in another thread, once it has met this one.
+fn start_end<R: Threads + Wait + Abort + AllocGlobal + Copy + Send + 'static>(
+    rt: R,
+    sender: Sender<Counted>,
+    round: Round,
+) -> Started<()> {
+    let meeting = Meeting::new(&rt, 2);
+    let theirs = shared(&rt, &meeting);
+    let ending = thread::spawn(&rt, move || {
+        theirs.attend(&rt, round.pauses);
+        end_sender(&rt, sender, round.end);
+    });
+    (ending.expect(&rt, "a thread"), meeting)
+}
+
+/// Sends the message in another thread, once it has met this one. The thread hands its sender back.
 fn start_send<R: Threads + Wait + Abort + AllocGlobal + Copy + Send + 'static>(
     rt: R,
     sender: Sender<Counted>,
     message: Counted,
-    end: Option<End>,
     pauses: u32,
-) -> Started<(Option<Sender<Counted>>, Sent)> {
+) -> Started<(Sender<Counted>, Sent)> {
     let meeting = Meeting::new(&rt, 2);
     let theirs = shared(&rt, &meeting);
     let sending = thread::spawn(&rt, move || {
         theirs.attend(&rt, pauses);
         let sent = sender.try_send(&rt, message);
-        match end {
-            Some(end) => {
-                end_sender(&rt, sender, end);
-                (None, sent)
-            },
-            None => (Some(sender), sent),
-        }
+        (sender, sent)
+    });
+    (sending.expect(&rt, "a thread"), meeting)
+}
+
+/// The same, but the thread ends the channel right after that.
+fn start_send_and_end<R: Threads + Wait + Abort + AllocGlobal + Copy + Send + 'static>(
+    rt: R,
+    sender: Sender<Counted>,
+    message: Counted,
+    round: Round,
+) -> Started<Sent> {
+    let meeting = Meeting::new(&rt, 2);
+    let theirs = shared(&rt, &meeting);
+    let sending = thread::spawn(&rt, move || {
+        theirs.attend(&rt, round.pauses);
+        let sent = sender.try_send(&rt, message);
+        end_sender(&rt, sender, round.end);
+        sent
     });
     (sending.expect(&rt, "a thread"), meeting)
 }
@@ -152,8 +191,7 @@ fn beside_an_end<R: Threads + Wait + Abort + AllocGlobal + Copy + Send + 'static
 ) {
     let (sender, receiver) = ends(&rt, round.count);
     let receiving = waiting(&rt, task, &receiver);
-    let ending = start_end(rt, sender, round.end, round.pauses);
-    drop_receive(&rt, receiving, ending, first);
+    drop_receive(&rt, receiving, start_end(rt, sender, round), first);
     is_ended(&rt, &receiver, round.end);
     drop(receiver);
     drops.were_once(&rt, 0);
@@ -190,31 +228,46 @@ fn nobody_waits<R: Wait + Abort>(rt: &R, ends: Ends, places: usize, drops: &Arc<
     drops.were_once(rt, 1);
 }
 
-/// Drops a receive that waits, beside a send, behind which the channel is ended so, if it is to be ended.
+/// Drops a receive that waits, beside a send.
 fn beside_a_send<R: Threads + Wait + Abort + AllocGlobal + Copy + Send + 'static>(
     rt: R,
     task: &MockTask,
     round: Round,
-    end: Option<End>,
     first: First,
     drops: &Arc<Drops, Global>,
 ) {
     let (sender, receiver) = ends(&rt, round.count);
     let receiving = waiting(&rt, task, &receiver);
     let message = Counted::new(&rt, drops, 0);
-    let sending = start_send(rt, sender, message, end, round.pauses);
+    let sending = start_send(rt, sender, message, round.pauses);
     let (sender, sent) = drop_receive(&rt, receiving, sending, first);
-    let places = match end {
-        Some(End::Close) => 0,
-        Some(End::Drop | End::Seal) | None => round.count,
+    holds(&rt, is_sent(sent, round.count, first));
+    holds(&rt, is_left(receiver.len(&rt), round.count, first));
+    receive_rest(&rt, &receiver, drops);
+    nobody_waits(&rt, (sender, receiver), round.count, drops);
+}
+
+/// Drops a receive that waits, beside a send and an end.
+fn beside_both<R: Threads + Wait + Abort + AllocGlobal + Copy + Send + 'static>(
+    rt: R,
+    task: &MockTask,
+    round: Round,
+    first: First,
+    drops: &Arc<Drops, Global>,
+) {
+    let (sender, receiver) = ends(&rt, round.count);
+    let receiving = waiting(&rt, task, &receiver);
+    let message = Counted::new(&rt, drops, 0);
+    let sending = start_send_and_end(rt, sender, message, round);
+    let sent = drop_receive(&rt, receiving, sending, first);
+    let places = match round.end {
+        End::Close => 0,
+        End::Drop | End::Seal => round.count,
     };
     holds(&rt, is_sent(sent, round.count, first));
     holds(&rt, is_left(receiver.len(&rt), places, first));
     receive_rest(&rt, &receiver, drops);
-    match sender {
-        Some(sender) => nobody_waits(&rt, (sender, receiver), round.count, drops),
-        None => is_ended(&rt, &receiver, round.end),
-    }
+    is_ended(&rt, &receiver, round.end);
 }
 
 /// Runs all rounds beside the other thread. How many they were.
@@ -225,18 +278,11 @@ where
     let (task, drops) = (new_task(&rt), Drops::new(&rt));
     let watch = Watch::start(rt);
     for number in 0..ROUNDS {
-        let round = Round::numbered(number);
-        let first = match number / 6 % 10 {
-            0 => First::Drop,
-            1 => First::Other,
-            _ => First::Either,
-        };
+        let (round, first) = (Round::numbered(number), First::numbered(number));
         match other {
             Other::Ends => beside_an_end(rt, &task, round, first, &drops),
-            Other::Sends => beside_a_send(rt, &task, round, None, first, &drops),
-            Other::SendsAndEnds => {
-                beside_a_send(rt, &task, round, Some(round.end), first, &drops);
-            },
+            Other::Sends => beside_a_send(rt, &task, round, first, &drops),
+            Other::SendsAndEnds => beside_both(rt, &task, round, first, &drops),
         }
         watch.count();
     }

@@ -37,7 +37,18 @@ struct Common {
     meeting: Arc<Meeting, Global>,
 }
 
-/// Makes one random call, which seldom ends the channel.
+/// Ends the channel, seldom.
+fn end<R: Wait>(rt: &R, channel: &Recorded<u64>, pass: &mut Pass<u64>, draw: u64) -> Reply<u64> {
+    match draw {
+        0 => pass.close(rt, channel),
+        1 => pass.seal(rt, channel),
+        2 => pass.drop_rx(rt, channel),
+        3 => pass.drop_tx(rt, channel),
+        _ => pass.terminated(rt, channel),
+    }
+}
+
+/// Makes one random call.
 fn call<R: Wait>(
     rt: &R,
     channel: &Recorded<u64>,
@@ -56,31 +67,29 @@ fn call<R: Wait>(
         12 => pass.clone_tx(rt, channel),
         13 => pass.clone_rx(rt, channel),
         14 => pass.ask(rt, channel, Side::Rx, Ask::Len),
-        _ => match draws.below(8) {
-            0 => pass.close(rt, channel),
-            1 => pass.seal(rt, channel),
-            2 => pass.drop_rx(rt, channel),
-            3 => pass.drop_tx(rt, channel),
-            _ => pass.terminated(rt, channel),
-        },
+        _ => end(rt, channel, pass, draws.below(8)),
+    }
+}
+
+/// Tells what the pass has seen, or hears what was told, or neither.
+fn tell_or_hear<R: Wait>(rt: &R, told: &Mutex<Seen>, pass: &mut Pass<u64>, draw: u64) {
+    match draw {
+        0 => *told.lock(rt) = pass.tell(),
+        1 => pass.hear(*told.lock(rt)),
+        _ => {},
     }
 }
 
 /// How many calls a thread makes in a round.
 const CALLS: usize = 25;
 
-/// Makes all calls of one thread, once it has met the others. After each it tells what its pass has seen, or
-/// hears what was told, or neither.
+/// Makes all calls of one thread, once it has met the others.
 fn calls<R: Wait + Abort>(rt: &R, common: &Common, mut pass: Pass<u64>, seed: u64) -> Pass<u64> {
     let mut draws = Generator { state: seed };
     common.meeting.attend(rt, 0);
     for _ in 0..CALLS {
         let _reply = call(rt, &common.channel, &mut pass, &mut draws);
-        match draws.below(4) {
-            0 => *common.told.lock(rt) = pass.tell(),
-            1 => pass.hear(*common.told.lock(rt)),
-            _ => {},
-        }
+        tell_or_hear(rt, &common.told, &mut pass, draws.below(4));
     }
     pass
 }
@@ -103,10 +112,34 @@ fn in_two<R: Threads + Wait + Abort + Sync>(
     )
 }
 
+/// The calls of four.
+fn in_four<R: Threads + Wait + Abort + Sync>(
+    rt: &R,
+    common: &Common,
+    passes: Two,
+    others: Two,
+    seed: u64,
+) -> (Two, Two) {
+    thread::join(
+        rt,
+        || in_two(rt, common, passes, seed),
+        || in_two(rt, common, others, seed.wrapping_add(2)),
+    )
+}
+
 /// The channel's next two passes.
 fn two<R: Wait + Abort>(rt: &R, channel: &Recorded<u64>) -> Two {
     let first = channel.pass(rt).expect(rt, "a pass");
     (first, channel.pass(rt).expect(rt, "a pass"))
+}
+
+/// The four passes in a list.
+fn listed(rt: &(impl Abort + AllocGlobal), passes: Two, others: Two) -> Vec<Pass<u64>> {
+    let mut list = Vec::new(rt.alloc());
+    for pass in [passes.0, passes.1, others.0, others.1] {
+        list.push(pass).expect(rt, "memory for a pass");
+    }
+    list
 }
 
 /// The journal of a round, with which its passes agree.
@@ -119,22 +152,13 @@ fn journal<R: Threads + Wait + Abort + AllocGlobal + Sync>(rt: &R, round: u64) -
         told,
         meeting: Meeting::new(rt, 4),
     };
-    let seed = round.wrapping_mul(4);
-    let (passes, others) = thread::join(
-        rt,
-        || in_two(rt, &common, passes, seed),
-        || in_two(rt, &common, others, seed.wrapping_add(2)),
-    );
+    let (passes, others) = in_four(rt, &common, passes, others, round.wrapping_mul(4));
     let Common {
         channel,
         told: _,
         meeting: _,
     } = common;
-    let mut list = Vec::new(rt.alloc());
-    for pass in [passes.0, passes.1, others.0, others.1] {
-        list.push(pass).expect(rt, "memory for a pass");
-    }
-    let finished = channel.finish(list);
+    let finished = channel.finish(listed(rt, passes, others));
     finished
         .ok()
         .expect(rt, "the passes agree with the journal")

@@ -6,18 +6,35 @@
 //! that is left to the schedule.
 use crate::tests::counted::{Counted, Drops};
 use crate::tests::given::{equal, holds};
-use crate::tests::races::{End, start_end};
+use crate::tests::meeting::{Meeting, shared};
 use crate::tests::watch::Watch;
 use kanal::error::{ReceiveError, SendError};
-use kanal::{Receiver, bounded};
+use kanal::{Receiver, Sender, bounded};
 use std::alloc::{AllocGlobal, Global};
 use std::process::Abort;
 use std::sync::{Arc, Wait};
-use std::thread::Threads;
-use std::time;
+use std::thread::{JoinHandle, Threads};
+use std::{thread, time};
 
 /// How many rounds there are.
 const ROUNDS: u32 = 10_000;
+
+/// Seals the channel in another thread, which this one has met.
+fn start_seal<R: Threads + Wait + Abort + AllocGlobal + Copy + Send + 'static>(
+    rt: R,
+    sender: Sender<Counted>,
+    pauses: u32,
+) -> JoinHandle<bool> {
+    let meeting = Meeting::new(&rt, 2);
+    let theirs = shared(&rt, &meeting);
+    let sealing = thread::spawn(&rt, move || {
+        theirs.attend(&rt, pauses);
+        sender.seal(&rt).is_ok()
+    });
+    let sealing = sealing.expect(&rt, "a thread");
+    meeting.attend(&rt, 0);
+    sealing
+}
 
 /// Ends the test unless so many messages are there, and then the end.
 fn receive_rest<R: Wait + Abort>(rt: &R, receiver: &Receiver<Counted>, count: usize) {
@@ -39,8 +56,7 @@ fn send_beside_a_seal<R: Threads + Wait + Abort + AllocGlobal + Copy + Send + 's
     let (sender, receiver) = bounded(rt.alloc(), 1).expect(&rt, "a channel");
     let other = sender.clone(&rt).expect(&rt, "a clone");
     let message = Counted::new(&rt, drops, 0);
-    let (sealing, meeting) = start_end(rt, other, End::Seal, pauses);
-    meeting.attend(&rt, 0);
+    let sealing = start_seal(rt, other, pauses);
     let answer = sender.send(&rt, message);
     let count = if answer.is_ok() { 1 } else { 0 };
     holds(&rt, matches!(answer, Ok(()) | Err(SendError::Sealed)));

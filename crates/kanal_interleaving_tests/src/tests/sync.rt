@@ -225,7 +225,7 @@ impl Account {
     fn drop_sender(&mut self) -> Answer {
         if self.has_sender {
             self.has_sender = false;
-            self.line.senders = 0;
+            self.line.drop_sender();
         }
         Answer::Nothing
     }
@@ -235,7 +235,7 @@ impl Account {
 fn are_drained(rt: &impl Abort, messages: &[Counted], numbers: &VecDeque<usize, Global>) {
     equal(rt, messages.len(), numbers.len());
     for (message, number) in messages.iter().zip(numbers.iter()) {
-        equal(rt, message.number, *number);
+        equal(rt, message.number(), *number);
     }
 }
 

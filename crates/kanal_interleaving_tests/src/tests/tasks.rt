@@ -5,7 +5,7 @@
 //! were dropped once. A future may be polled after its answer, and a step of a dropped one does nothing.
 use crate::tests::counted::{Counted, Drops, number_of};
 use crate::tests::given::{equal, new_task};
-use crate::tests::line::{Line, Offer, Take, Told, add};
+use crate::tests::line::{Line, Offer, Take, Told};
 use crate::tests::lists::{ALL, LISTS, Tally, list_of};
 use futures::task::Poll;
 use futures::test::MockTask;
@@ -229,26 +229,13 @@ impl Account {
         }
     }
 
-    /// What the step has to answer. A send that waits and is dropped takes its message with it, and a receive
-    /// goes.
+    /// What the step has to answer.
     fn step(&mut self, rt: &impl Abort, step: Step) -> Answer {
         match step {
             Step::PollSend(number) => self.poll_send(rt, number),
             Step::PollReceive(number) => self.poll_receive(rt, number),
-            Step::DropSend(number) => {
-                if let Some(Stage::Waits) = self.sends.get(number) {
-                    self.line.messages.retain(|message| *message != number);
-                }
-                set(&mut self.sends, number, Stage::Gone);
-                Answer::Nothing
-            },
-            Step::DropReceive(number) => {
-                if let Some(Stage::Waits) = self.receives.get(number) {
-                    self.line.demands.retain(|receiver| *receiver != number);
-                }
-                set(&mut self.receives, number, Stage::Gone);
-                Answer::Nothing
-            },
+            Step::DropSend(number) => self.drop_send(number),
+            Step::DropReceive(number) => self.drop_receive(number),
             Step::Close => self.close(),
             Step::Seal => self.seal(),
         }
@@ -262,7 +249,7 @@ impl Account {
         }
         let answer = match self.line.offer(rt, number) {
             Offer::Full => {
-                add(rt, &mut self.line.messages, number);
+                self.line.wait_send(rt, number);
                 set(&mut self.sends, number, Stage::Waits);
                 return Answer::Pending;
             },
@@ -286,7 +273,7 @@ impl Account {
         }
         let answer = match self.line.take() {
             Take::Empty => {
-                add(rt, &mut self.line.demands, number);
+                self.line.wait_receive(rt, number);
                 set(&mut self.receives, number, Stage::Waits);
                 return Answer::Pending;
             },
@@ -300,6 +287,24 @@ impl Account {
         };
         set(&mut self.receives, number, Stage::Finished);
         Answer::Received(answer)
+    }
+
+    /// A send that waits takes its message with it.
+    fn drop_send(&mut self, number: usize) -> Answer {
+        if let Some(Stage::Waits) = self.sends.get(number) {
+            self.line.leave_send(number);
+        }
+        set(&mut self.sends, number, Stage::Gone);
+        Answer::Nothing
+    }
+
+    /// A receive that waits goes.
+    fn drop_receive(&mut self, number: usize) -> Answer {
+        if let Some(Stage::Waits) = self.receives.get(number) {
+            self.line.leave_receive(number);
+        }
+        set(&mut self.receives, number, Stage::Gone);
+        Answer::Nothing
     }
 
     /// A close ends all waits.

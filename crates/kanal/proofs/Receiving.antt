@@ -2,8 +2,8 @@
 use Rattle.std.proofs.Common.{◌≡◌, Option, Result, Ok, Err, sym, subst}
 use Rattle.std.specs.Result.{result_ok}
 use Rattle.kanal_core.specs.declared.error.ReceiveError.{ReceiveError}
-use Rattle.kanal_history.specs.Handles.{Receives}
-use Rattle.kanal_history.specs.Words.{Words}
+use Rattle.kanal_state.specs.Handles.{Receives}
+use Rattle.kanal_state.specs.Words.{Words}
 use Rattle.kanal.specs.Messages.{ReceivesNext}
 
 module _ {T P : Type 0} (w : Words T P) (old new : P) where

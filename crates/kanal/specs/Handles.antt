@@ -1,8 +1,8 @@
 -- The handle for tasks that a handle for threads is, the one that a view is over, and what a clone does.
 use Rattle.std.specs.Prelude.{◌≡◌, ◌⊎◌, Result, Ok, Err, MatchResult}
 use Rattle.kanal_core.specs.declared.error.TooMany.{TooMany as NoMore}
-use Rattle.kanal_history.specs.Handles.{CountsReceiver, CountsSender}
-use Rattle.kanal_history.specs.Words.{Words}
+use Rattle.kanal_state.specs.Handles.{CountsReceiver, CountsSender}
+use Rattle.kanal_state.specs.Words.{Words}
 use Rattle.kanal.specs.declared.async_receiver.AsyncReceiver.{AsyncReceiver}
 use Rattle.kanal.specs.declared.async_sender.AsyncSender.{AsyncSender}
 use Rattle.kanal.specs.declared.messages.Messages.{Messages}

@@ -2,8 +2,8 @@
 use Rattle.std.specs.Prelude.{◌≡◌, List, [], ◌∷◌, Option, Result, Ok, Err, MatchOption, MatchResult}
 use Rattle.kanal_core.specs.declared.error.ReceiveError.{ReceiveError}
 use Rattle.kanal_core.specs.declared.error.ReceiveError.TheVariants.{SendClosed}
-use Rattle.kanal_history.specs.Handles.{Receives}
-use Rattle.kanal_history.specs.Words.{Words}
+use Rattle.kanal_state.specs.Handles.{Receives}
+use Rattle.kanal_state.specs.Words.{Words}
 
 module _ {T P : Type 0} (w : Words T P) where
   -- a receive was refused

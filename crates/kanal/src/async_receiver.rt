@@ -11,9 +11,9 @@ ghost use Rattle.kanal_events.specs.declared.event.Ask.{Ask};
 ghost use Rattle.kanal_events.specs.declared.event.Side.{Side};
 ghost use Rattle.kanal_futures.specs.Plain.{is_over};
 ghost use Rattle.kanal_futures.specs.Streams.{stream_is_over, stream_pass};
-ghost use Rattle.kanal_history.specs.Handles.{Asks, AsksForTheEnd, Closes, Drains, Seals, TriesToReceive, TriesToReceiveNow};
-ghost use Rattle.kanal_history.specs.Makes.{HasTooLittleRoom};
-ghost use Rattle.kanal_history.specs.Results.{count_by, flag_by, number_by};
+ghost use Rattle.kanal_state.specs.Handles.{Asks, AsksForTheEnd, Closes, Drains, Seals, TriesToReceive, TriesToReceiveNow};
+ghost use Rattle.kanal_state.specs.Makes.{HasTooLittleRoom};
+ghost use Rattle.kanal_state.specs.Results.{count_by, flag_by, number_by};
 
 use crate::questions::{ask_count, ask_flag, ask_number};
 use crate::receiver::Receiver;
@@ -21,8 +21,8 @@ use crate::receiver_view::ReceiverView;
 use kanal_channel::{CountedReceiver, Shared};
 use kanal_core::error::{CloseError, ReceiveError, TooMany};
 use kanal_events::event::{Ask, Side};
-use kanal_futures::{Caller, ReceiveFuture, ReceiveStream, receive_future, receive_stream};
-use kanal_history::{History, NoHistory};
+use kanal_futures::{ReceiveFuture, ReceiveStream, receive_future, receive_stream};
+use kanal_state::{Caller, History, NoHistory};
 use std::fmt;
 use std::sync::{Arc, Wait};
 

@@ -9,8 +9,8 @@ ghost use Rattle.kanal.specs.Handles.{ClonesSender, sender_for_tasks, viewed_sen
 ghost use Rattle.kanal_events.specs.declared.event.Ask.{Ask};
 ghost use Rattle.kanal_events.specs.declared.event.Side.{Side};
 ghost use Rattle.kanal_futures.specs.Plain.{message_in};
-ghost use Rattle.kanal_history.specs.Handles.{Asks, Closes, Seals, TriesToSend, TriesToSendNow};
-ghost use Rattle.kanal_history.specs.Results.{count_by, flag_by, number_by};
+ghost use Rattle.kanal_state.specs.Handles.{Asks, Closes, Seals, TriesToSend, TriesToSendNow};
+ghost use Rattle.kanal_state.specs.Results.{count_by, flag_by, number_by};
 
 use crate::questions::{ask_count, ask_flag, ask_number};
 use crate::sender::Sender;
@@ -18,8 +18,8 @@ use crate::sender_view::SenderView;
 use kanal_channel::{CountedSender, Shared};
 use kanal_core::error::{CloseError, SendError, TooMany};
 use kanal_events::event::{Ask, Side};
-use kanal_futures::{Caller, SendFuture, send_future};
-use kanal_history::{History, NoHistory};
+use kanal_futures::{SendFuture, send_future};
+use kanal_state::{Caller, History, NoHistory};
 use std::fmt;
 use std::sync::{Arc, Wait};
 

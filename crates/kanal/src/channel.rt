@@ -12,7 +12,7 @@ use crate::sender::Sender;
 use kanal_channel::{Core, Shared};
 use kanal_core::error::NewError;
 use kanal_core::internal::ChannelInternal;
-use kanal_history::{History, NoHistory};
+use kanal_state::{History, NoHistory};
 use std::alloc::Global;
 use std::sync::Arc;
 

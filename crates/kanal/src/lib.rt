@@ -43,8 +43,8 @@ pub use error::{
     SendErrorTimeout, TooMany, WaitError,
 };
 pub use kanal_channel::{Clock, Shared, SystemClock, TestClock};
-pub use kanal_futures::{Caller, ReceiveFuture, ReceiveStream, SendFuture};
-pub use kanal_history::{History, NoHistory};
+pub use kanal_futures::{ReceiveFuture, ReceiveStream, SendFuture};
+pub use kanal_state::{Caller, History, NoHistory};
 pub use messages::Messages;
 pub use receiver::Receiver;
 pub use receiver_view::ReceiverView;

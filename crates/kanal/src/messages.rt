@@ -7,8 +7,8 @@ ghost use Rattle.kanal.specs.Messages.{ReceivesAll, ReceivesNext};
 
 use crate::async_receiver::AsyncReceiver;
 use kanal_core::error::ReceiveError;
-use kanal_futures::Caller;
-use kanal_history::{History, NoHistory};
+
+use kanal_state::{Caller, History, NoHistory};
 use std::sync::Wait;
 
 /// The messages of a receiver, as `Receiver::iter` and `ReceiverView::iter` answer them.

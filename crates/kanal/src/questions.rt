@@ -1,13 +1,12 @@
 //! What both handles for tasks ask of their channel.
 //!
 //! Stands on the channel and on who makes a call.
-ghost use Rattle.kanal_history.specs.Handles.{Asks};
-ghost use Rattle.kanal_history.specs.Results.{count_by, flag_by, number_by};
+ghost use Rattle.kanal_state.specs.Handles.{Asks};
+ghost use Rattle.kanal_state.specs.Results.{count_by, flag_by, number_by};
 
 use kanal_channel::Shared;
 use kanal_events::event::{Ask, Side};
-use kanal_futures::Caller;
-use kanal_history::History;
+use kanal_state::{Caller, History};
 
 /// Asks through a side what is answered by yes or no.
 pub(crate) fn ask_flag<T: Drop, H: History<T>, R: Caller<H::Pass>>(

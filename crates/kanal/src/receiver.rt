@@ -6,14 +6,13 @@ ghost use Rattle.std.specs.Prelude.{◌≡◌, IsErrOf, Some, codes};
 ghost use Rattle.std.specs.Duration.{as_nanos};
 ghost use Rattle.kanal.specs.Handles.{ClonesReceiver, receiver_for_tasks};
 ghost use Rattle.kanal.specs.Messages.{ReceivesAll};
-ghost use Rattle.kanal_history.specs.Handles.{Receives, ReceivesInTime};
+ghost use Rattle.kanal_state.specs.Handles.{Receives, ReceivesInTime};
 
 use crate::async_receiver::AsyncReceiver;
 use crate::messages::{Messages, for_each};
 use kanal_channel::Clock;
 use kanal_core::error::{ReceiveError, ReceiveErrorTimeout, TooMany};
-use kanal_futures::Caller;
-use kanal_history::{History, NoHistory};
+use kanal_state::{Caller, History, NoHistory};
 use std::ops::Deref;
 use std::sync::Wait;
 use std::time::Duration;

@@ -6,14 +6,13 @@
 ghost use Rattle.std.specs.Prelude.{◌≡◌, IfErr, IfSome, IsSome, None, Ok, Some, codes};
 ghost use Rattle.std.specs.Duration.{as_nanos};
 ghost use Rattle.kanal.specs.Handles.{ClonesSender, sender_for_tasks};
-ghost use Rattle.kanal_history.specs.Handles.{Sends, SendsInTime};
-ghost use Rattle.kanal_history.specs.Refusals.{StartedNoWait};
+ghost use Rattle.kanal_state.specs.Handles.{Sends, SendsInTime};
+ghost use Rattle.kanal_state.specs.Refusals.{StartedNoWait};
 
 use crate::async_sender::AsyncSender;
 use kanal_channel::Clock;
 use kanal_core::error::{SendError, SendErrorTimeout, TooMany};
-use kanal_futures::Caller;
-use kanal_history::{History, NoHistory};
+use kanal_state::{Caller, History, NoHistory};
 use std::ops::Deref;
 use std::time::Duration;
 use std::{fmt, time};

@@ -7,3 +7,5 @@ pub mod CellRunningLaw
 pub mod CellSlots
 pub mod CellOutcome
 pub mod CellEnds
+pub mod Waits
+pub mod Deadlines

@@ -1,5 +1,5 @@
 -- A send that doesn't wait gives its message back, or the message entered.
-use Rattle.std.proofs.Common.{◌≡◌, ◌≢◌, ◌==◌, true, Some, None, Ok, refl, sym, ap, ◌∙◌, inl, inr, subst}
+use Rattle.std.proofs.Common.{◌≡◌, ◌≢◌, ◌==◌, true, Some, None, Ok, Result, Bool, refl, sym, ap, ◌∙◌, inl, inr, subst}
 use Rattle.std.proofs.lemmas.Bool.{cases_Bool}
 use Rattle.kanal_core.specs.Line.{Line, has_place}
 use Rattle.kanal_events.specs.declared.event.Event.{Event}
@@ -8,10 +8,13 @@ use Rattle.kanal_events.specs.declared.event.Refusal.TheVariants.{Sealed, NoMemo
 use Rattle.kanal_events.specs.declared.event.Reply.{Reply}
 use Rattle.kanal_events.specs.declared.event.Reply.TheVariants.{Yes, No, Refused}
 use Rattle.kanal_events.specs.Steps.{step}
-use Rattle.kanal_history.specs.declared.call.Call.{Call}
-use Rattle.kanal_history.specs.Makes.{IsAnswered}
-use Rattle.kanal_history.specs.Results.{back_by, entered_by}
-use Rattle.kanal_history.specs.Words.{Words}
+use Rattle.kanal_state.specs.declared.call.Call.{Call}
+use Rattle.kanal_core.specs.declared.error.SendError.{SendError}
+use Rattle.kanal_state.specs.Handles.{TriesToSend}
+use Rattle.kanal_state.specs.Makes.{IsAnswered}
+use Rattle.kanal_state.specs.Results.{back_by, entered_by}
+use Rattle.kanal_state.specs.Words.{Words}
+use Rattle.kanal_state.proofs.Settling.{comes_replied}
 
 module _ {T : Type 0} where
   -- the message entered and nothing comes back, or it comes back
@@ -47,6 +50,10 @@ module _ {T : Type 0} where
           | inl r ↦ subst (Backs m) (sym (r.reads ∙ (ap (λ (c : Call T). c.reply) r.told.1 ∙ ap (λ (e : Event T). (step r.told.0 e).reply) r.asked))) (backs-step r.told.0 m)
           | inr r ↦ subst (Backs m) (sym r.1) (backs-refused m NoMemory)
         ]
+
+    -- what a send that doesn't wait answers, as its reply reads
+    pub offered : (answer : Result Bool SendError) → answer ≡ entered_by reply → TriesToSend w old new m answer
+    offered answer is = comes_replied w old new (TrySend m) entered_by _ answer reply answered refl is
 
     pub sent_leaves : entered_by reply ≡ Ok true → back_by reply ≡ None
     sent_leaves = backs.0

@@ -5,16 +5,16 @@ use Rattle.std.proofs.lemmas.List.{append-nil, length-map}
 use Rattle.kanal_core.specs.Line.{Line}
 use Rattle.kanal_events.specs.declared.event.Event.TheVariants.{Drain}
 use Rattle.kanal_events.specs.Steps.{is_no_memory, take_line}
-use Rattle.kanal_history.specs.declared.call.Call.{Call}
+use Rattle.kanal_state.specs.declared.call.Call.{Call}
 use Rattle.kanal_events.specs.declared.made.Made.{Made}
 use Rattle.kanal_events.specs.declared.made.Leaving.{Leaving}
 use Rattle.kanal_events.specs.declared.made.Leaving.TheVariants.{One, All, Shut, Drained as WasDrained}
 use Rattle.kanal_events.specs.Made.{drained_of, drained_of_left, is_drained, is_drained_left, reply_of, reply_of_left}
-use Rattle.kanal_history.specs.Entries.{call_from}
-use Rattle.kanal_history.specs.Handles.{Drains}
-use Rattle.kanal_history.specs.Makes.{IsNoted}
-use Rattle.kanal_history.specs.Results.{drained_by}
-use Rattle.kanal_history.specs.Words.{Words}
+use Rattle.kanal_state.specs.Entries.{call_from}
+use Rattle.kanal_state.specs.Handles.{Drains}
+use Rattle.kanal_state.specs.Makes.{IsNoted}
+use Rattle.kanal_state.specs.Results.{drained_by}
+use Rattle.kanal_state.specs.Words.{Words}
 
 if-err : {A E : Type 0} (P : Type 0) (r : Result A E) → P → IfErr r (λ _. P)
 if-err P (Ok a) p = tt

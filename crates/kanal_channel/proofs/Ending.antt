@@ -3,13 +3,13 @@ use Rattle.std.proofs.Common.{◌≡◌, ℕ, refl, inl, inr}
 use Rattle.kanal_events.specs.declared.event.Event.{Event}
 use Rattle.kanal_events.specs.declared.event.Reply.TheVariants.{Waits}
 use Rattle.kanal_events.specs.Steps.{no_memory}
-use Rattle.kanal_history.specs.Makes.{IsReplied}
-use Rattle.kanal_history.specs.Results.{InTime}
-use Rattle.kanal_history.specs.Timed.{FinishesBy}
-use Rattle.kanal_history.specs.Words.{Words}
-use Rattle.kanal_waits.specs.Deadlines.{HasCome as IsLate}
+use Rattle.kanal_state.specs.Makes.{IsReplied}
+use Rattle.kanal_state.specs.Results.{InTime}
+use Rattle.kanal_state.specs.Timed.{FinishesBy}
+use Rattle.kanal_state.specs.Words.{Words}
+use Rattle.kanal_cell.specs.Deadlines.{HasCome as IsLate}
 use Rattle.kanal_channel.specs.declared.blocking.Came.{Came}
-use Rattle.kanal_channel.specs.declared.blocking.Came.TheVariants.{Replied, Settled, Withdrawn, Lacking}
+use Rattle.kanal_channel.specs.declared.blocking.Came.TheVariants.{Replied, Settled, Withdrawn}
 use Rattle.kanal_channel.specs.Deadlines.{HasEnded, HasPassed, answer_in_time}
 use Rattle.kanal_state.proofs.Settling.{finishes_replied, has_waited}
 
@@ -32,7 +32,6 @@ module _ {T P : Type 0} (w : Words T P) where
     refl,
   )
   ended_passed answered deadline old mid new event ticket (Replied reply) late waits e = absurd e
-  ended_passed answered deadline old mid new event ticket (Lacking back) late waits e = absurd e
 
 module _ {T P : Type 0} (w : Words T P) (answered : ℕ → Type 0) (deadline : ℕ) where
   -- the answer of a call with a deadline, for what it came to
@@ -43,4 +42,3 @@ module _ {T P : Type 0} (w : Words T P) (answered : ℕ → Type 0) (deadline : 
       inl (finishes_replied w old new event answers.by_reply answers.by_outcome answers.no_memory answer reply c none is)
   finishes_by old new event answers (Settled outcome) answer c none is = inl (inr (inl (outcome, c, is)))
   finishes_by old new event answers (Withdrawn back) answer c none is = inr (c.0, is)
-  finishes_by old new event answers (Lacking back) answer c none is = inl (inr (inr (c.1, is)))

@@ -1,14 +1,13 @@
 -- What a call with a deadline came to.
 use Rattle.std.specs.Prelude.{◌≡◌, ℕ, Option}
 use Rattle.kanal_events.specs.declared.event.Event.{Event}
-use Rattle.kanal_history.specs.Calls.{IsTold}
-use Rattle.kanal_history.specs.Entries.{withdrawal}
-use Rattle.kanal_events.specs.Steps.{message_of}
-use Rattle.kanal_history.specs.Results.{InTime, back_after, back_by}
-use Rattle.kanal_history.specs.Timed.{IsTooLate}
-use Rattle.kanal_history.specs.Words.{Words}
+use Rattle.kanal_state.specs.Calls.{IsTold}
+use Rattle.kanal_state.specs.Entries.{withdrawal}
+use Rattle.kanal_state.specs.Results.{InTime, back_after, back_by}
+use Rattle.kanal_state.specs.Timed.{IsTooLate}
+use Rattle.kanal_state.specs.Words.{Words}
 use Rattle.kanal_channel.specs.declared.blocking.Came.{Came}
-use Rattle.kanal_channel.specs.declared.blocking.Came.TheVariants.{Replied, Settled, Withdrawn, Lacking}
+use Rattle.kanal_channel.specs.declared.blocking.Came.TheVariants.{Replied, Settled, Withdrawn}
 use Rattle.kanal_channel.specs.Starts.{HasCome}
 
 module _ {T : Type 0} where
@@ -17,14 +16,12 @@ module _ {T : Type 0} where
   answer_in_time answers (Replied reply) = answers.by_reply reply
   answer_in_time answers (Settled outcome) = answers.by_outcome outcome
   answer_in_time answers (Withdrawn back) = answers.late
-  answer_in_time answers (Lacking back) = answers.no_memory
 
   -- the message that a send with a deadline gives back, for what it came to
   abbrev pub back_in_time : Came T → Option T
   back_in_time (Replied reply) = back_by reply
   back_in_time (Settled outcome) = back_after outcome
   back_in_time (Withdrawn back) = back
-  back_in_time (Lacking event) = message_of event
 
 module _ {T P : Type 0} where
   -- how a wait ended that was to be taken back: it was settled and the pass has learnt of that, or the pass took it back
@@ -32,7 +29,6 @@ module _ {T P : Type 0} where
   HasEnded w old new ticket (Settled outcome) = w.looks old new × w.settled new (ticket, outcome)
   HasEnded w old new ticket (Withdrawn back) = w.makes old new (withdrawal ticket back) × IsTold (withdrawal ticket back)
   HasEnded w old new ticket (Replied reply) = ⊥
-  HasEnded w old new ticket (Lacking back) = ⊥
 
   -- the clock answered a moment that is not before the deadline, and the pass took the wait back, with this message
   abbrev pub TakesBack : Words T P → (ℕ → Type 0) → ℕ → P → P → Event T → Option T → Type 0

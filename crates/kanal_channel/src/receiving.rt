@@ -1,25 +1,24 @@
 //! Receiving: the calls of a pass by which a message leaves the line.
 //!
-//! Stands on `blocking` and `timed`. Each call here is one event, and its answer is what the reply reads as. A
-//! message leaves by itself where it can; only where it can't the longer ways are gone.
+//! Each call here is one event, and its answer is what the reply reads as. A message leaves by itself where it can;
+//! only where it can't the longer ways are gone.
 ghost use Rattle.std.specs.Prelude.{◌≡◌, ◌∷◌, [], Err, IfErr, IfOk, IsErrOf, OnErr};
 ghost use Rattle.std.specs.Option.{option_to_list};
 ghost use Rattle.std.specs.Duration.{as_nanos};
 ghost use Rattle.std.specs.Vec.{vec_capacity, vec_len};
-ghost use Rattle.kanal_history.specs.Handles.{Drains, Receives, ReceivesInTime, TriesToReceive, TriesToReceiveNow};
-ghost use Rattle.kanal_history.specs.Makes.{HasTooLittleRoom};
+ghost use Rattle.kanal_state.specs.Handles.{Drains, Receives, ReceivesInTime, TriesToReceive, TriesToReceiveNow};
+ghost use Rattle.kanal_state.specs.Makes.{HasTooLittleRoom};
 ghost use Rattle.kanal_channel.specs.Deadlines.{HasPassed};
 ghost use Rattle.kanal_channel.specs.Locks.{IsQuiet};
 
-use crate::answers::{
-    asked_by, drained_by, received_after, received_by, received_in_time, timed_received_by,
-};
 use crate::blocking::Came;
 use crate::shared::{Locked, Shared};
+use crate::timed::received_in_time;
+use kanal_cell::{Clock, later, pause_once};
 use kanal_core::error::{ReceiveError, ReceiveErrorTimeout};
 use kanal_events::event::{Event, Reply};
-use kanal_history::History;
-use kanal_waits::{Clock, later, pause_once};
+use kanal_state::History;
+use kanal_state::answers::{asked_by, drained_by, received_after, received_by, timed_received_by};
 use std::sync::Wait;
 use std::time;
 use std::time::Duration;
@@ -116,7 +115,6 @@ impl<T: Drop, H: History<T>> Shared<T, H> {
             Came::Replied(reply) => received_by(reply),
             Came::Settled(outcome) => received_after(outcome),
             Came::Withdrawn(_back) => unreachable!(),
-            Came::Lacking(_event) => Err(ReceiveError::NoMemory),
         }
     }
 
@@ -131,7 +129,7 @@ impl<T: Drop, H: History<T>> Shared<T, H> {
     /// shared.try_recv(&rt, &mut pass)   answers  Ok(None)   in a new channel
     /// ```
     #[inline]
-    #[tactic(auto, using(kanal_history::proofs::Exchanging::tries_got))]
+    #[tactic(auto, using(kanal_state::proofs::Exchanging::tries_got))]
     pub fn try_recv<R: Wait>(&self, rt: &R, pass: &mut H::Pass) -> Result<Option<T>, ReceiveError>
         ensures received { TriesToReceive H.words pass.old pass.new result }
         ensures got { IfOk result (λ came.
@@ -200,7 +198,7 @@ impl<T: Drop, H: History<T>> Shared<T, H> {
     /// shared.recv_timeout(&rt, &mut pass, Duration::from_nanos(1), &clock)
     ///     answers  Err(Timeout)   where nobody sends
     /// ```
-    #[tactic(auto, using(kanal_state::proofs::Settling::free_replied, kanal_history::proofs::Exchanging::receives_in_time_got))]
+    #[tactic(auto, using(kanal_state::proofs::Settling::free_replied, kanal_state::proofs::Exchanging::receives_in_time_got))]
     pub fn recv_timeout<R: Wait + time::Clock, C: Clock>(
         &self,
         rt: &R,

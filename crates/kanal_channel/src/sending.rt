@@ -1,23 +1,24 @@
 //! Sending: the calls of a pass by which a message enters the line.
 //!
-//! Stands on `blocking` and `timed`. Each call here is one event, and its answer is what the reply reads as. A
-//! message enters by itself where it can; only where it can't the longer ways are gone.
+//! Each call here is one event, and its answer is what the reply reads as. A message enters by itself where it can;
+//! only where it can't the longer ways are gone.
 ghost use Rattle.std.specs.Prelude.{◌≡◌, ◌≢◌, ◌∷◌, [], cond, IfErr, IfOk, IfSome, IsSome, None, Ok, true};
 ghost use Rattle.std.specs.Duration.{as_nanos};
-ghost use Rattle.kanal_history.specs.Handles.{Sends, SendsInTime, TriesToSend, TriesToSendNow};
-ghost use Rattle.kanal_history.specs.Makes.{Comes};
-ghost use Rattle.kanal_history.specs.Refusals.{StartedNoWait};
-ghost use Rattle.kanal_history.specs.Results.{entered_by};
+ghost use Rattle.kanal_state.specs.Handles.{Sends, SendsInTime, TriesToSend, TriesToSendNow};
+ghost use Rattle.kanal_state.specs.Makes.{Comes};
+ghost use Rattle.kanal_state.specs.Refusals.{StartedNoWait};
+ghost use Rattle.kanal_state.specs.Results.{entered_by};
 ghost use Rattle.kanal_channel.specs.Deadlines.{HasPassed};
 ghost use Rattle.kanal_channel.specs.Locks.{IsQuiet};
 
-use crate::answers::{restored, sent_after, sent_by, sent_in_time};
 use crate::blocking::Came;
 use crate::shared::{Locked, Shared};
+use crate::timed::sent_in_time;
+use kanal_cell::{Clock, later, pause_once};
 use kanal_core::error::{SendError, SendErrorTimeout};
 use kanal_events::event::{Event, Reply};
-use kanal_history::History;
-use kanal_waits::{Clock, later, pause_once};
+use kanal_state::History;
+use kanal_state::answers::{restored, sent_after, sent_by};
 use std::sync::Wait;
 use std::time;
 use std::time::Duration;
@@ -128,7 +129,6 @@ impl<T: Drop, H: History<T>> Shared<T, H> {
             Came::Replied(reply) => sent_by(reply),
             Came::Settled(outcome) => sent_after(outcome),
             Came::Withdrawn(_back) => unreachable!(),
-            Came::Lacking(_event) => Err(SendError::NoMemory),
         }
     }
 
@@ -185,7 +185,7 @@ impl<T: Drop, H: History<T>> Shared<T, H> {
 
     /// The same, under the lock that was got, where the message did not enter by itself.
     #[cold]
-    #[tactic(auto, using(kanal_state::proofs::Settling::comes_replied, crate::proofs::Backs::sent_leaves, crate::proofs::Backs::refused_stays))]
+    #[tactic(auto, using(crate::proofs::Backs::offered, crate::proofs::Backs::sent_leaves, crate::proofs::Backs::refused_stays))]
     fn offer_held(
         &self,
         locked: Locked<'_, T, H>,
@@ -249,7 +249,7 @@ impl<T: Drop, H: History<T>> Shared<T, H> {
     }
 
     /// Offers the message where the lock is free; one that comes back goes into the option.
-    #[tactic(auto, using(kanal_state::proofs::Settling::comes_replied, crate::proofs::Backs::sent_leaves, crate::proofs::Backs::refused_stays))]
+    #[tactic(auto, using(crate::proofs::Backs::offered, crate::proofs::Backs::sent_leaves, crate::proofs::Backs::refused_stays))]
     fn offer_now(
         &self,
         pass: &mut H::Pass,

@@ -11,11 +11,10 @@ ghost use Rattle.kanal_core.specs.Channel.{line_of};
 mod locked;
 mod release;
 
+use kanal_cell::WaitPolicy;
 use kanal_core::error::NewError;
 use kanal_core::mutex::Mutex;
-use kanal_history::History;
-use kanal_state::{Core, Counted, CountedWait, FirstHandles, Notices, OfSide, State};
-use kanal_waits::WaitPolicy;
+use kanal_state::{Core, Counted, CountedWait, FirstHandles, History, Notices, OfSide, State};
 pub use locked::{Left, Locked};
 use std::alloc::Global;
 use std::sync::Arc;

@@ -3,17 +3,16 @@
 //! Stands on `blocking`. Each call here is one event, and waits for the lock alone. A handle is counted by a
 //! token, which `count` gives.
 ghost use Rattle.std.specs.Prelude.{◌≡◌};
-ghost use Rattle.kanal_history.specs.Handles.{Asks, AsksForTheEnd, Closes, Seals};
-ghost use Rattle.kanal_history.specs.Makes.{IsReplied};
-ghost use Rattle.kanal_history.specs.Results.{count_by, counted_by, flag_by, number_by};
+ghost use Rattle.kanal_state.specs.Handles.{Asks, AsksForTheEnd, Closes, Seals};
+ghost use Rattle.kanal_state.specs.Makes.{IsReplied};
+ghost use Rattle.kanal_state.specs.Results.{count_by, counted_by, flag_by, number_by};
 ghost use Rattle.kanal_state.specs.Counts.{one_more, whether_counted};
 
-use crate::answers::{closed_by, count_by, flag_by, number_by};
 use crate::shared::Shared;
 use kanal_core::error::{CloseError, TooMany};
 use kanal_events::event::{Ask, Event, Reply, Side};
-use kanal_history::History;
-use kanal_state::{Counted, OfSide};
+use kanal_state::answers::{closed_by, count_by, flag_by, number_by};
+use kanal_state::{Counted, History, OfSide};
 use std::sync::Wait;
 
 impl<T: Drop, H: History<T>> Shared<T, H> {

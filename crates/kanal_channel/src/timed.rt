@@ -1,24 +1,57 @@
-//! What calls with a deadline have in common: a step as any other's, and a wait until the deadline.
+//! What calls with a deadline have in common: a step as any other's, a wait until the deadline, and their answers.
 //!
-//! Stands on `blocking`, on how a blocked call waits, and on the clock that the caller hands in, which is read
-//! with the lock released. A wait whose deadline has come is taken back by a call of its own; where that finds
-//! nobody waiting the outcome is on its way, and is waited for.
-ghost use Rattle.std.specs.Prelude.{◌≡◌, true};
+//! The clock that the caller hands in is read with the lock released. A wait whose deadline has come is taken back
+//! by a call of its own; where that finds nobody waiting the outcome is on its way, and is waited for.
+ghost use Rattle.std.specs.Prelude.{◌≡◌, None, true};
 ghost use Rattle.kanal_core.specs.Tickets.{number_of};
 ghost use Rattle.kanal_events.specs.Made.{may_wait};
 ghost use Rattle.kanal_state.specs.Counts.{ticket_of};
-ghost use Rattle.kanal_channel.specs.Deadlines.{HasEnded, HasPassed};
+ghost use Rattle.kanal_state.specs.Results.{receive_in_time, send_in_time};
+ghost use Rattle.kanal_channel.specs.Deadlines.{HasEnded, HasPassed, answer_in_time, back_in_time};
 ghost use Rattle.kanal_channel.specs.Locks.{IsQuiet};
 
-use crate::blocking::{Begun, Came};
+use crate::blocking::Came;
 use crate::shared::{Locked, Shared};
+use kanal_cell::{Clock, Waiting};
+use kanal_core::error::{ReceiveErrorTimeout, SendErrorTimeout};
 use kanal_core::internal::Waiter;
 use kanal_events::event::Event;
-use kanal_history::History;
-use kanal_state::{CountedWait, Delivered};
-use kanal_waits::{Clock, Waiting};
+use kanal_state::answers::{
+    timed_received_after, timed_received_by, timed_sent_after, timed_sent_by,
+};
+use kanal_state::{CountedWait, Delivered, History};
 use std::sync::Wait;
 use std::time;
+
+/// The answer of a send with a deadline, for what it came to; a message that comes back goes into the option.
+pub(crate) fn sent_in_time<T: Drop>(
+    came: Came<T>,
+    option: &mut Option<T>,
+) -> Result<(), SendErrorTimeout>
+    requires empty { option.old ≡ None }
+    ensures answer { result ≡ answer_in_time send_in_time came }
+    ensures back { option.new ≡ back_in_time came }
+{
+    match came {
+        Came::Replied(reply) => timed_sent_by(reply, option),
+        Came::Settled(outcome) => timed_sent_after(outcome, option),
+        Came::Withdrawn(back) => {
+            *option = back;
+            Err(SendErrorTimeout::Timeout)
+        },
+    }
+}
+
+/// The answer of a receive with a deadline, for what it came to.
+pub(crate) fn received_in_time<T: Drop>(came: Came<T>) -> Result<T, ReceiveErrorTimeout>
+    ensures { result ≡ answer_in_time receive_in_time came }
+{
+    match came {
+        Came::Replied(reply) => timed_received_by(reply),
+        Came::Settled(outcome) => timed_received_after(outcome),
+        Came::Withdrawn(_back) => Err(ReceiveErrorTimeout::Timeout),
+    }
+}
 
 impl<T: Drop, H: History<T>> Shared<T, H> {
     /// Makes a call that waits where it must, until the deadline, under the lock that was got, and gives the
@@ -38,12 +71,11 @@ impl<T: Drop, H: History<T>> Shared<T, H> {
         ensures passed { HasPassed H.words (C.answers clock.now) deadline pass.old pass.new event
             result }
     {
-        let (counted, waiting) = match self.begin(rt, locked, pass, event) {
-            Begun::Replied(reply) => return Came::Replied(reply),
-            Begun::Lacking(event) => return Came::Lacking(event),
-            Begun::Waits(counted, waiting) => (counted, waiting),
+        let (counted, end) = match self.begin(rt, locked, pass, event) {
+            Ok((counted, end)) => (counted, end),
+            Err(reply) => return Came::Replied(reply),
         };
-        match waiting.outcome_until(rt, &self.policy, clock, deadline) {
+        match Waiting::new(end).outcome_until(rt, &self.policy, clock, deadline) {
             Ok(delivered) => Came::Settled(self.learn(rt, pass, counted, delivered)),
             Err((waiting, _late)) => self.end(rt, pass, counted, waiting),
         }

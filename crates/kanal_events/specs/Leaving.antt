@@ -1,15 +1,14 @@
 -- Who leaves the list of those that wait at a step, and who stays there.
-use Rattle.std.specs.Prelude.{◌≡◌, List, [], ◌∷◌, ◌++◌, Option, None, Some}
+use Rattle.std.specs.Prelude.{◌≡◌, List, [], ◌∷◌, ◌++◌, Option, None, Some, Result, Ok, Err}
 use Rattle.kanal_core.specs.declared.internal.outcome.Settled.{Settled}
 use Rattle.kanal_core.specs.declared.internal.outcome.Waiter.{Waiter}
 use Rattle.kanal_events.specs.declared.event.Event.{Event}
 use Rattle.kanal_events.specs.declared.made.Leaving.{Leaving}
 use Rattle.kanal_events.specs.declared.made.Leaving.TheVariants.{One, All, Shut, Drained}
+use Rattle.kanal_events.specs.declared.made.Answered.{Answered}
 use Rattle.kanal_events.specs.declared.made.Made.{Made}
 use Rattle.kanal_events.specs.declared.made.Kept.{Kept}
 use Rattle.kanal_events.specs.declared.made.Kept.TheVariants.{Ticket as Waiting, Back}
-use Rattle.kanal_events.specs.declared.made.Tried.{Tried}
-use Rattle.kanal_events.specs.declared.made.Tried.TheVariants.{Told as WasTold, MustWait as HasToWait}
 use Rattle.kanal_events.specs.Made.{made_of}
 use Rattle.kanal_events.specs.Steps.{message_of}
 
@@ -37,9 +36,9 @@ module _ {T W : Type 0} where
   Leave (x ∷ old) (s ∷ gone) new = (s.ticket ≡ x.ticket) × (s.w ≡ x.w) × Leave old gone new
 
   -- the same of a call that waits where it must; where it must nobody left
-  abbrev pub LeaveTried : List (Waiter T W) → Tried T W → List (Waiter T W) → Type 0
-  LeaveTried old (WasTold answered) new = Leave old (gone_of (made_of answered)) new
-  LeaveTried old (HasToWait back) new = new ≡ old
+  abbrev pub LeaveTried : List (Waiter T W) → Result (Answered T W) (Event T) → List (Waiter T W) → Type 0
+  LeaveTried old (Ok answered) new = Leave old (gone_of (made_of answered)) new
+  LeaveTried old (Err back) new = new ≡ old
 
   -- behind those that waited stands the call, with its message and what it brought; or nobody came, and that is back
   abbrev pub Comes : List (Waiter T W) → Event T → W → Kept W → List (Waiter T W) → Type 0

@@ -1,5 +1,5 @@
 -- What a step of the core told, as it left the core.
-use Rattle.std.specs.Prelude.{◌≡◌, ℕ, Bool, true, false, List, [], ◌∷◌, length, drop, map, Option, None, Some}
+use Rattle.std.specs.Prelude.{◌≡◌, ℕ, Bool, true, false, List, [], ◌∷◌, length, drop, map, Option, None, Some, Result, Ok, Err}
 use Rattle.kanal_core.specs.declared.internal.outcome.Outcome.{Outcome}
 use Rattle.kanal_core.specs.Line.{Line}
 use Rattle.kanal_core.specs.Channel.{settlement, settlements}
@@ -18,8 +18,6 @@ use Rattle.kanal_events.specs.declared.made.Made.{Made}
 use Rattle.kanal_events.specs.declared.made.Owed.{Owed}
 use Rattle.kanal_events.specs.declared.made.Kept.{Kept}
 use Rattle.kanal_events.specs.declared.made.Kept.TheVariants.{Ticket as Waiting, Back}
-use Rattle.kanal_events.specs.declared.made.Tried.{Tried}
-use Rattle.kanal_events.specs.declared.made.Tried.TheVariants.{Told as WasTold, MustWait as HasToWait}
 
 module _ {T : Type 0} where
   -- a send or a receive that waits where it must
@@ -137,10 +135,10 @@ module _ {T W : Type 0} where
   made_of answered = record { leaving = One answered.reply answered.settled }
 
   -- the event was made, and doesn't wait; or it must wait, comes back, and nothing changed
-  abbrev pub Tries : Line T → Event T → Tried T W → Line T → Type 0
-  Tries old event (WasTold answered) new =
+  abbrev pub Tries : Line T → Event T → Result (Answered T W) (Event T) → Line T → Type 0
+  Tries old event (Ok answered) new =
       Tells old event (told_of new (made_of answered)) × (IsWait (reply_of (made_of answered)) → ⊥)
-  Tries old event (HasToWait back) new = (back ≡ event) × (new ≡ old) × MustWait old event
+  Tries old event (Err back) new = (back ≡ event) × (new ≡ old) × MustWait old event
 
 module _ {T W : Type 0} where
   -- the call waits under this ticket; or it doesn't wait

@@ -392,14 +392,6 @@ impl<T: Drop, W: Drop> Answered<T, W> {
     }
 }
 
-/// What a call came to that waits where it must, and has not brought what it needs for that.
-pub enum Tried<T, W> {
-    /// It was made.
-    Told(Answered<T, W>),
-    /// It must wait, and comes back.
-    MustWait(Event<T>),
-}
-
 /// What the caller of a call that may wait has in hand then.
 #[derive(Drop)]
 pub enum Kept<W> {

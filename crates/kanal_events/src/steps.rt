@@ -16,7 +16,7 @@ ghost use Rattle.kanal_events.specs.Leaving.{Comes, Leave, LeaveTried, gone_of};
 ghost use Rattle.kanal_events.specs.Made.{Keeps, MustWait, Tries, drained_of, entered, got, is_drained, is_plain, may_wait, not_waiting, reply_of, told_of, withdrawn};
 
 use crate::event::{Ask, Event, Refusal, Reply, Side};
-use crate::made::{Answered, Kept, Made, Moved, Tried};
+use crate::made::{Answered, Kept, Made, Moved};
 use kanal_core::error::{DrainError, WaitError};
 use kanal_core::internal::{ChannelInternal, Offer, Settled, Steps, Take, Ticket, Waiter};
 use std::marker::Brand;
@@ -112,16 +112,22 @@ fn recv_late<T: Drop, W: Drop>(core: &mut ChannelInternal<T, W>) -> Made<T, W>
 
 /// A call that was answered at once, and settled this wait, if one.
 #[inline(always)]
-fn answered<T: Drop, W: Drop>(reply: Reply<T>, settled: Option<Settled<T, W>>) -> Tried<T, W>
-    ensures { result ≡ Tried.Told (record { reply = reply; settled = settled }) }
+fn answered<T: Drop, W: Drop>(
+    reply: Reply<T>,
+    settled: Option<Settled<T, W>>,
+) -> Result<Answered<T, W>, Event<T>>
+    ensures { result ≡ Ok (record { reply = reply; settled = settled }) }
 {
-    Tried::Told(Answered::new(reply, settled))
+    Ok(Answered::new(reply, settled))
 }
 
 /// Offers the message of a call that waits where there is no place for it.
 #[inline(always)]
 #[tactic(auto, using(crate::proofs::Leaving::oldest_leaves))]
-fn offer<T: Drop, W: Drop>(core: &mut ChannelInternal<T, W>, message: T) -> Tried<T, W>
+fn offer<T: Drop, W: Drop>(
+    core: &mut ChannelInternal<T, W>,
+    message: T,
+) -> Result<Answered<T, W>, Event<T>>
     ensures step { Tries (line_of core.old) (Event.Send message) result (line_of core.new) }
     ensures tickets { GivesNone core.old core.new }
     ensures leave { LeaveTried core.old.waiters result core.new.waiters }
@@ -129,7 +135,7 @@ fn offer<T: Drop, W: Drop>(core: &mut ChannelInternal<T, W>, message: T) -> Trie
     let refused = match core.offer(message) {
         Offer::Entered => return answered(Reply::Sent, None),
         Offer::Handed(settled) => return answered(Reply::Sent, Some(settled)),
-        Offer::Full(back) => return Tried::MustWait(Event::Send(back)),
+        Offer::Full(back) => return Err(Event::Send(back)),
         Offer::Closed(back) => Reply::Refused(Refusal::Closed, Some(back)),
         Offer::ReceiveClosed(back) => Reply::Refused(Refusal::ReceiveClosed, Some(back)),
         Offer::Sealed(back) => Reply::Refused(Refusal::Sealed, Some(back)),
@@ -141,7 +147,7 @@ fn offer<T: Drop, W: Drop>(core: &mut ChannelInternal<T, W>, message: T) -> Trie
 /// Asks for a message, for a call that waits where there is none.
 #[inline(always)]
 #[tactic(auto, using(crate::proofs::Leaving::oldest_leaves))]
-fn take<T: Drop, W: Drop>(core: &mut ChannelInternal<T, W>) -> Tried<T, W>
+fn take<T: Drop, W: Drop>(core: &mut ChannelInternal<T, W>) -> Result<Answered<T, W>, Event<T>>
     ensures step { Tries (line_of core.old) Event.Recv result (line_of core.new) }
     ensures tickets { GivesNone core.old core.new }
     ensures leave { LeaveTried core.old.waiters result core.new.waiters }
@@ -150,20 +156,26 @@ fn take<T: Drop, W: Drop>(core: &mut ChannelInternal<T, W>) -> Tried<T, W>
         Take::Got(message, settled) => return answered(Reply::Got(message), settled),
         Take::Closed => Reply::Refused(Refusal::Closed, None),
         Take::SendClosed => Reply::Refused(Refusal::SendClosed, None),
-        Take::Empty => return Tried::MustWait(Event::Recv),
+        Take::Empty => return Err(Event::Recv),
     };
     answered(refused, None)
 }
 
-/// Makes a send or a receive, unless it must wait.
+/// Makes a send or a receive.
+///
+/// # Errors
+/// The call, where it must wait: nothing changed.
 ///
 /// # Examples
 /// ```text
-/// start(&mut core, Event::Send(7))   answers  Told(..), with the reply Sent   in a new core for one message
-/// start(&mut core, Event::Send(8))   answers  MustWait(Event::Send(8))        after that
+/// start(&mut core, Event::Send(7))   answers  Ok(..), with the reply Sent   in a new core for one message
+/// start(&mut core, Event::Send(8))   answers  Err(Event::Send(8))           after that
 /// ```
 #[inline(always)]
-pub fn start<T: Drop, W: Drop>(core: &mut ChannelInternal<T, W>, event: Event<T>) -> Tried<T, W>
+pub fn start<T: Drop, W: Drop>(
+    core: &mut ChannelInternal<T, W>,
+    event: Event<T>,
+) -> Result<Answered<T, W>, Event<T>>
     requires waits { may_wait event ≡ true }
     ensures step { Tries (line_of core.old) event result (line_of core.new) }
     ensures tickets { GivesNone core.old core.new }
@@ -262,8 +274,8 @@ pub fn make_waiting<T: Drop, W: Drop>(
     ensures tickets { Gives result.1 core.old core.new }
 {
     match start(core, event) {
-        Tried::Told(answered) => (answered.into_made(), Kept::Back(w)),
-        Tried::MustWait(event) => {
+        Ok(answered) => (answered.into_made(), Kept::Back(w)),
+        Err(event) => {
             let (reply, kept) = wait(core, event, w);
             (Made::replied(reply), kept)
         },

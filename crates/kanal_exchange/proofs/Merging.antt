@@ -6,8 +6,8 @@ use Rattle.std.proofs.lemmas.Bool.{cases_Bool}
 use Rattle.kanal_board.specs.Views.{Known, IsAmong, AreApart, OwnsAllButQuiet}
 use Rattle.kanal_board.proofs.Places.{among-cases, among-left, among-right}
 use Rattle.kanal_journal.specs.Paired.{History, Demand, sent, asked, cleared_by, kept, receipts, receipts_from, send_stays, demand_stays, without_last, ArePaired, Paired}
-use Rattle.kanal_history.specs.declared.call.Call.{Call}
-use Rattle.kanal_history.specs.Calls.{IsSilent}
+use Rattle.kanal_state.specs.declared.call.Call.{Call}
+use Rattle.kanal_state.specs.Calls.{IsSilent}
 use Rattle.kanal_one_history.specs.Calls.{IsLegal, history_of}
 use Rattle.kanal_one_history.specs.Puts.{ExchangesNothing, WaitsAsSettled}
 use Rattle.kanal_one_history.proofs.Exchanging.{got_longer, got_none, got_received, put_kept, put_longer, put_none}

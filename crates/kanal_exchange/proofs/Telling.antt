@@ -13,8 +13,8 @@ use Rattle.kanal_events.specs.declared.event.Event.{Event}
 use Rattle.kanal_events.specs.declared.event.Reply.{Reply}
 use Rattle.kanal_journal.specs.declared.journal.report.Settlement.{Settlement}
 use Rattle.kanal_journal.specs.Paired.{History, Demand, history_from, along, sent, asked, cleared_by, kept, receipts, receipts_from, send_stays, demand_stays, without_last, ArePaired, Paired}
-use Rattle.kanal_history.specs.declared.call.Call.{Call}
-use Rattle.kanal_history.specs.Calls.{IsSilent}
+use Rattle.kanal_state.specs.declared.call.Call.{Call}
+use Rattle.kanal_state.specs.Calls.{IsSilent}
 use Rattle.kanal_one_history.specs.Calls.{AreTold, IsLegal, with_calls, history_of}
 use Rattle.kanal_one_history.specs.History.{Makes}
 use Rattle.kanal_one_history.specs.Puts.{AreGot, ArePut, Exchanges, ExchangesNothing, HasMade, WaitsAsSettled}

@@ -2,7 +2,7 @@
 use Rattle.std.specs.Prelude.{◌≡◌, ℕ, List, [], ◌∷◌, ◌++◌, length, replicate, Option}
 use Rattle.kanal_board.specs.Views.{Known, AreBelow}
 use Rattle.kanal_journal.specs.Paired.{Demand, sent, asked, cleared_by}
-use Rattle.kanal_history.specs.declared.call.Call.{Call}
+use Rattle.kanal_state.specs.declared.call.Call.{Call}
 use Rattle.kanal_one_history.specs.Puts.{AreGot, ArePut, Exchanges}
 use Rattle.kanal_exchange.specs.Readings.{read_at}
 

@@ -5,9 +5,9 @@ use Rattle.kanal_core.specs.declared.internal.outcome.Outcome.{Outcome}
 use Rattle.kanal_events.specs.declared.event.Event.{Event}
 use Rattle.kanal_events.specs.declared.event.Reply.{Reply}
 use Rattle.kanal_events.specs.Steps.{no_memory}
-use Rattle.kanal_history.specs.Handles.{Receives}
-use Rattle.kanal_history.specs.Makes.{HasReplied, HasWaited}
-use Rattle.kanal_history.specs.Words.{Words}
+use Rattle.kanal_state.specs.Handles.{Receives}
+use Rattle.kanal_state.specs.Makes.{HasReplied, HasWaited}
+use Rattle.kanal_state.specs.Words.{Words}
 use Rattle.kanal_state.proofs.Settling.{finishes_replied}
 use Rattle.kanal_futures.specs.Answers.{Answers}
 use Rattle.kanal_futures.specs.Streams.{HasReceived}

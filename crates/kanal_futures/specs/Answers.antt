@@ -3,8 +3,8 @@ use Rattle.kanal_core.specs.declared.internal.outcome.Outcome.{Outcome}
 use Rattle.kanal_events.specs.declared.event.Event.{Event}
 use Rattle.kanal_events.specs.declared.event.Reply.{Reply}
 use Rattle.kanal_events.specs.Steps.{no_memory}
-use Rattle.kanal_history.specs.Makes.{Finishes}
-use Rattle.kanal_history.specs.Words.{Words}
+use Rattle.kanal_state.specs.Makes.{Finishes}
+use Rattle.kanal_state.specs.Words.{Words}
 
 module _ {T P O : Type 0} where
   -- the pass made a call of this event, which is answered so; of a send it is `Sends`, of a receive `Receives`

@@ -1,5 +1,9 @@
 -- Where a call is that carries a pass.
-use Rattle.std.specs.Prelude.{ℕ, Bool, Option}
+use Rattle.std.specs.Prelude.{◌≡◌, ℕ, Bool, Option, Some, None}
+use Rattle.futures.specs.Poll.{IfReady, OnPending}
+use Rattle.futures.specs.Task.{Covers, Keeps}
+use Rattle.futures.specs.declared.task.context.Context.{Context}
+use Rattle.futures.specs.declared.task.Poll.{Poll}
 use Rattle.kanal_futures.specs.declared.call.TaskCall.{TaskCall}
 use Rattle.kanal_futures.specs.Tasks.{answered_by, begun_by, is_waiting, source_of}
 
@@ -19,3 +23,14 @@ module _ {T H M A P B S C O : Type 0} where
   -- the name of what a call waits for
   abbrev pub call_source : TaskCall T H M A P B S C O → ℕ
   call_source f = source_of f.wakers
+
+  -- the frame of each poll: where it is pending the task is woken for the name that the call waits for, and the rest of the task and that name stay
+  abbrev pub IsPoll : {R : Type 0} → Context → Context → TaskCall T H M A P B S C O → TaskCall T H M A P B S C O → Poll R → Type 0
+  IsPoll before after old new result = OnPending result (Covers after (λ s. s ≡ call_source new)) × Keeps before after × (call_source new ≡ call_source old)
+
+  -- a poll of this call: it is over and answers what it began with, or it goes on
+  abbrev pub IsPolled : P × M → Context → Context → TaskCall T H M A P B S C O → TaskCall T H M A P B S C O → Poll (P × M × P × O) → Type 0
+  IsPolled call before after old new result =
+      IfReady result (λ x. ((x.0 ≡ call.0) × (x.1 ≡ call.1)) × (call_begun new ≡ None))
+      × OnPending result (call_begun new ≡ Some call)
+      × IsPoll before after old new result

@@ -1,8 +1,8 @@
 -- Where a stream is, and what its messages are.
 use Rattle.std.specs.Prelude.{◌≡◌, ℕ, Bool, Option, Some, Result, Err, MatchOption, is_some}
 use Rattle.kanal_core.specs.declared.error.ReceiveError.{ReceiveError}
-use Rattle.kanal_history.specs.Handles.{Receives}
-use Rattle.kanal_history.specs.Words.{Words}
+use Rattle.kanal_state.specs.Handles.{Receives}
+use Rattle.kanal_state.specs.Words.{Words}
 use Rattle.kanal_futures.specs.declared.stream.ReceiveStream.{ReceiveStream}
 use Rattle.kanal_futures.specs.Futures.{call_begun, call_source, call_waits}
 use Rattle.kanal_futures.specs.Tasks.{passes}

@@ -5,7 +5,7 @@ ghost use Rattle.std.specs.Prelude.{◌≡◌};
 ghost use Rattle.kanal_futures.specs.Answers.{Answers};
 
 use crate::asks::{Asks, Opening};
-use kanal_history::History;
+use kanal_state::History;
 use std::marker::Model;
 
 /// What a call in a task came to: the answer, and the pass. Contracts see what the pass was at first, what was

@@ -14,7 +14,7 @@ use crate::earlier::Earlier;
 use kanal_channel::Locked;
 use kanal_core::internal::Outcome;
 use kanal_events::event::{Event, Reply};
-use kanal_history::History;
+use kanal_state::History;
 
 /// What is asked with a message, or with none, and what it is answered.
 pub trait Asks<T, M> {

@@ -8,7 +8,7 @@ ghost use Rattle.futures.specs.Task.{Covers, Keeps};
 ghost use Rattle.futures.specs.Poll.{IfReady, OnPending};
 ghost use Rattle.kanal_channel.specs.Locks.{IsQuiet};
 ghost use Rattle.kanal_futures.specs.Tasks.{Fits, begun_with, is_fresh, passes};
-ghost use Rattle.kanal_futures.specs.Futures.{call_begun, call_kept, call_source, call_waits};
+ghost use Rattle.kanal_futures.specs.Futures.{IsPoll, IsPolled, call_begun, call_kept, call_source, call_waits};
 
 use crate::answer::Answered;
 use crate::asks::{Asks, Opening};
@@ -17,9 +17,9 @@ use crate::started::Started;
 use crate::wakers::Wakers;
 use futures::Future;
 use futures::task::{Context, Poll};
+use kanal_cell::Pauses;
 use kanal_channel::{Locked, Shared};
-use kanal_history::History;
-use kanal_waits::Pauses;
+use kanal_state::History;
 
 /// A call in a task, by the pass that it carries. `Sending` and `Receiving` say what a poll and a drop do.
 pub struct TaskCall<'a, T, H: History<T>, M, A: Asks<T, M>> {
@@ -168,12 +168,7 @@ impl<'a, T: Drop, H: History<T>, M: Drop, A: Asks<T, M>> TaskCall<'a, T, H, M, A
     ) -> Poll<Answered<T, H, M, A>>
         requires over { call_begun self.old ≡ None }
         requires quiet { IsQuiet locked }
-        ensures begun { IfReady result (λ x. (x.0 ≡ pass) × (x.1 ≡ asked)) }
-        ensures ends { IfReady result (λ _. call_begun self.new ≡ None) }
-        ensures goes_on { OnPending result (call_begun self.new ≡ Some (pass, asked)) }
-        ensures registered { OnPending result (Covers cx.new (λ s. s ≡ call_source self.new)) }
-        ensures kept { Keeps cx.old cx.new }
-        ensures source { call_source self.new ≡ call_source self.old }
+        ensures polled { IsPolled (pass, asked) cx.old cx.new self.old self.new result }
     {
         if self.shared.is_quiet() {
             return self.begin_held(locked, pass, asked, cx);
@@ -192,12 +187,7 @@ impl<'a, T: Drop, H: History<T>, M: Drop, A: Asks<T, M>> TaskCall<'a, T, H, M, A
         cx: &mut Context<'_>,
     ) -> Poll<Answered<T, H, M, A>>
         requires over { call_begun self.old ≡ None }
-        ensures begun { IfReady result (λ x. (x.0 ≡ pass) × (x.1 ≡ asked)) }
-        ensures ends { IfReady result (λ _. call_begun self.new ≡ None) }
-        ensures goes_on { OnPending result (call_begun self.new ≡ Some (pass, asked)) }
-        ensures registered { OnPending result (Covers cx.new (λ s. s ≡ call_source self.new)) }
-        ensures kept { Keeps cx.old cx.new }
-        ensures source { call_source self.new ≡ call_source self.old }
+        ensures polled { IsPolled (pass, asked) cx.old cx.new self.old self.new result }
     {
         match locked.catch_up() {
             Some(locked) => self.begin_held(locked, pass, asked, cx),
@@ -215,12 +205,7 @@ impl<'a, T: Drop, H: History<T>, M: Drop, A: Asks<T, M>> TaskCall<'a, T, H, M, A
     ) -> Poll<Answered<T, H, M, A>>
         requires over { call_begun self.old ≡ None }
         requires quiet { IsQuiet locked }
-        ensures begun { IfReady result (λ x. (x.0 ≡ pass) × (x.1 ≡ asked)) }
-        ensures ends { IfReady result (λ _. call_begun self.new ≡ None) }
-        ensures goes_on { OnPending result (call_begun self.new ≡ Some (pass, asked)) }
-        ensures registered { OnPending result (Covers cx.new (λ s. s ≡ call_source self.new)) }
-        ensures kept { Keeps cx.old cx.new }
-        ensures source { call_source self.new ≡ call_source self.old }
+        ensures polled { IsPolled (pass, asked) cx.old cx.new self.old self.new result }
     {
         let begun = self.wakers.begin(self.shared, locked, pass, asked, cx);
         match begun {
@@ -242,12 +227,7 @@ impl<'a, T: Drop, H: History<T>, M: Drop, A: Asks<T, M>> TaskCall<'a, T, H, M, A
         cx: &mut Context<'_>,
     ) -> Poll<Answered<T, H, M, A>>
         requires over { call_begun self.old ≡ None }
-        ensures begun { IfReady result (λ x. (x.0 ≡ started.0) × (x.1 ≡ started.1)) }
-        ensures ends { IfReady result (λ _. call_begun self.new ≡ None) }
-        ensures goes_on { OnPending result (call_begun self.new ≡ Some (started.0, started.1)) }
-        ensures registered { OnPending result (Covers cx.new (λ s. s ≡ call_source self.new)) }
-        ensures kept { Keeps cx.old cx.new }
-        ensures source { call_source self.new ≡ call_source self.old }
+        ensures polled { IsPolled started cx.old cx.new self.old self.new result }
     {
         match started.look(&mut self.wakers, self.shared, cx) {
             Ok((opening, pass, outcome)) => {
@@ -276,9 +256,7 @@ impl<'a, T: Drop, H: History<T>, M: Drop, A: Asks<T, M>> TaskCall<'a, T, H, M, A
             ≡ begun_with rest.entry self.old.state) }
         ensures over { is_none (begun_with rest.entry self.old.state) ≡ true → (result ≡ Poll.Ready None)
             × (self.new.state ≡ self.old.state) }
-        ensures registered { OnPending result (Covers cx.new (λ s. s ≡ call_source self.new)) }
-        ensures kept { Keeps cx.old cx.new }
-        ensures source { call_source self.new ≡ call_source self.old }
+        ensures frame { IsPoll cx.old cx.new self.old self.new result }
     {
         let answer = match rest {
             Rest::Held(locked, pass, asked) => self.begin(locked, pass, asked, cx),
@@ -300,9 +278,7 @@ impl<'a, T: Drop, H: History<T>, M: Drop, A: Asks<T, M>> TaskCall<'a, T, H, M, A
         ensures goes_on { OnPending result (call_begun self.new ≡ call_begun self.old) }
         ensures over { is_none (call_begun self.old) ≡ true → (result ≡ Poll.Ready None)
             × (self.new.state ≡ self.old.state) }
-        ensures registered { OnPending result (Covers cx.new (λ s. s ≡ call_source self.new)) }
-        ensures kept { Keeps cx.old cx.new }
-        ensures source { call_source self.new ≡ call_source self.old }
+        ensures frame { IsPoll cx.old cx.new self.old self.new result }
     {
         let Some(started) = self.state.take_wait() else {
             return Poll::Ready(None);

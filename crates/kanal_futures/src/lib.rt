@@ -8,14 +8,12 @@
 //! history's own words which call the pass made. They are one future, in `call`. `ReceiveFuture` and
 //! `SendFuture` answer without the pass, which has no content, for handles that have none. They are one, too,
 //! in `plain`. What a send and a receive differ in is said by `asks`. `ReceiveStream` is one receive after the
-//! other, by a pass that it carries. `Caller` is who makes a call that may wait, of a stream or of a handle
-//! above.
+//! other, by a pass that it carries.
 #![tactic(auto)]
 
 mod answer;
 mod asks;
 mod call;
-mod caller;
 mod earlier;
 mod plain;
 mod progress;
@@ -25,7 +23,6 @@ mod started;
 mod stream;
 mod wakers;
 
-pub use caller::Caller;
 pub use receiving::{ReceiveFuture, Received, Receiving, receive_future, recv_in_task};
 pub use sending::{SendFuture, Sending, Sent, send_future, send_in_task};
 pub use stream::{ReceiveStream, receive_stream};

@@ -18,7 +18,7 @@ use crate::progress::Rest;
 use futures::Future;
 use futures::task::{Context, Poll};
 use kanal_channel::Shared;
-use kanal_history::History;
+use kanal_state::History;
 
 /// A call in a task that answers without its pass. `SendFuture` and `ReceiveFuture` say what a poll and a drop
 /// do.

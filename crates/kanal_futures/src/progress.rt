@@ -8,7 +8,7 @@ ghost use Rattle.kanal_futures.specs.Tasks.{answered_by, begun_by, is_fresh, is_
 use crate::asks::Asks;
 use crate::started::Started;
 use kanal_channel::{Locked, Shared};
-use kanal_history::History;
+use kanal_state::History;
 use std::mem;
 
 /// Where a call in a task is.

@@ -7,8 +7,8 @@ ghost use Rattle.kanal_channel.specs.Locks.{IsQuiet};
 ghost use Rattle.kanal_core.specs.declared.error.ReceiveError.{ReceiveError};
 ghost use Rattle.kanal_events.specs.declared.event.Event.TheVariants.{Recv};
 ghost use Rattle.kanal_events.specs.Made.{may_wait};
-ghost use Rattle.kanal_history.specs.Handles.{Receives};
-ghost use Rattle.kanal_history.specs.Results.{received_after, received_by};
+ghost use Rattle.kanal_state.specs.Handles.{Receives};
+ghost use Rattle.kanal_state.specs.Results.{received_after, received_by};
 ghost use Rattle.kanal_futures.specs.Answers.{Answers};
 ghost use Rattle.kanal_futures.specs.Futures.{call_begun};
 ghost use Rattle.kanal_futures.specs.Plain.{is_over};
@@ -17,11 +17,12 @@ use crate::answer::Answered;
 use crate::asks::Asks;
 use crate::call::TaskCall;
 use crate::plain::PlainFuture;
-use kanal_channel::{Locked, Shared, received_after, received_by};
+use kanal_channel::{Locked, Shared};
 use kanal_core::error::ReceiveError;
 use kanal_core::internal::Outcome;
 use kanal_events::event::{Event, Reply};
-use kanal_history::{History, NoHistory};
+use kanal_state::answers::{received_after, received_by};
+use kanal_state::{History, NoHistory};
 use std::fmt;
 
 /// To receive a message.

@@ -7,8 +7,8 @@ ghost use Rattle.kanal_channel.specs.Locks.{IsQuiet};
 ghost use Rattle.kanal_core.specs.declared.error.SendError.{SendError};
 ghost use Rattle.kanal_events.specs.declared.event.Event.TheVariants.{Send};
 ghost use Rattle.kanal_events.specs.Made.{may_wait};
-ghost use Rattle.kanal_history.specs.Handles.{Sends};
-ghost use Rattle.kanal_history.specs.Results.{sent_after, sent_by};
+ghost use Rattle.kanal_state.specs.Handles.{Sends};
+ghost use Rattle.kanal_state.specs.Results.{sent_after, sent_by};
 ghost use Rattle.kanal_futures.specs.Answers.{Answers};
 ghost use Rattle.kanal_futures.specs.Futures.{call_begun};
 ghost use Rattle.kanal_futures.specs.Plain.{message_in};
@@ -17,11 +17,12 @@ use crate::answer::Answered;
 use crate::asks::Asks;
 use crate::call::TaskCall;
 use crate::plain::PlainFuture;
-use kanal_channel::{Locked, Shared, sent_after, sent_by};
+use kanal_channel::{Locked, Shared};
 use kanal_core::error::SendError;
 use kanal_core::internal::Outcome;
 use kanal_events::event::{Event, Reply};
-use kanal_history::{History, NoHistory};
+use kanal_state::answers::{sent_after, sent_by};
+use kanal_state::{History, NoHistory};
 use std::fmt;
 
 /// To send the message.

@@ -1,27 +1,25 @@
 //! The wait of a task: how a call begins that waits where it must, and how its wait ends.
 //!
-//! Stands on the lock, the state and the task's wakers. The pass whose call it is travels with the wait. A
-//! wait that was started is owed: only its end and its leaving let it go.
+//! The pass whose call it is travels with the wait. A wait that was started is owed: only its end and its leaving
+//! let it go.
 ghost use Rattle.std.specs.Prelude.{◌≡◌, IfErr, IfOk, Some, true};
 ghost use Rattle.futures.specs.Task.{Covers, Keeps};
 ghost use Rattle.kanal_cell.specs.CellRule.{HasNotLeft};
 ghost use Rattle.kanal_cell.specs.CellEnds.{wait_view};
-ghost use Rattle.kanal_core.specs.Tickets.{number_of};
-ghost use Rattle.kanal_events.specs.Made.{MustWait, may_wait};
-ghost use Rattle.kanal_history.specs.Makes.{HasReplied, HasWaited, IsReplied, SeesWait};
-ghost use Rattle.kanal_state.specs.Counts.{ticket_of};
-ghost use Rattle.kanal_channel.specs.Locks.{IsQuiet, line_under};
+ghost use Rattle.kanal_events.specs.Made.{may_wait};
+ghost use Rattle.kanal_state.specs.Makes.{HasReplied, HasWaited};
+ghost use Rattle.kanal_state.specs.Waits.{IsWaiting};
+ghost use Rattle.kanal_channel.specs.Locks.{IsQuiet};
 ghost use Rattle.kanal_futures.specs.Tasks.{opened, source_of};
 
 use crate::asks::{Asks, Opening};
 use crate::wakers::Wakers;
 use futures::task::{Context, Poll};
 use kanal_cell::signal::WaitEnd;
-use kanal_channel::{CountedWait, Delivered, Locked, Shared, WaitStart};
+use kanal_channel::{CountedWait, Delivered, Locked, Shared};
 use kanal_core::internal::{Outcome, Ticket};
 use kanal_events::event::{Event, Refusal, Reply};
-use kanal_events::made::Tried;
-use kanal_history::History;
+use kanal_state::History;
 use std::marker::{Model, PhantomData};
 
 /// A call that was answered at once: what it began with, the pass, and the reply.
@@ -51,18 +49,14 @@ pub(crate) struct Started<T, H: History<T>, M, A: Asks<T, M>> {
 impl<T, H: History<T>, M, A: Asks<T, M>> Model for Started<T, H, M, A> {
     ghost use Rattle.kanal_cell.specs.CellRule.{HasNotLeft};
     ghost use Rattle.kanal_cell.specs.CellEnds.{wait_view};
-    ghost use Rattle.kanal_core.specs.Tickets.{number_of};
-    ghost use Rattle.kanal_events.specs.declared.event.Reply.TheVariants.{Waits};
-    ghost use Rattle.kanal_state.specs.Counts.{ticket_of};
-    ghost use Rattle.kanal_history.specs.Makes.{IsReplied};
+    ghost use Rattle.kanal_state.specs.Waits.{IsWaiting};
 
     ghost Value = { H.Pass × M };
 
     ghost view = { λ s. (s.opening.pass.value, s.opening.asked.value) };
 
     ghost invariant = { λ s. HasNotLeft (wait_view s.end)
-        × IsReplied H.words s.opening.pass.value s.pass (A.event s.opening.asked.value)
-        (λ reply. reply) (Waits (number_of (ticket_of s.counted))) };
+        × IsWaiting H.words s.opening.pass.value s.pass (A.event s.opening.asked.value) s.counted };
 }
 
 impl<T: Drop, H: History<T>, M: Drop, A: Asks<T, M>> Started<T, H, M, A> {
@@ -74,8 +68,7 @@ impl<T: Drop, H: History<T>, M: Drop, A: Asks<T, M>> Started<T, H, M, A> {
         end: WaitEnd<Delivered<T, H>>,
     ) -> Self
         requires unspent { HasNotLeft (wait_view end) }
-        requires waits { IsReplied H.words opening.pass.value pass (A.event opening.asked.value)
-            (λ reply. reply) (Reply.Waits (number_of (ticket_of counted))) }
+        requires waits { IsWaiting H.words opening.pass.value pass (A.event opening.asked.value) counted }
         ensures { result ≡ opened opening }
     {
         Started {
@@ -106,22 +99,26 @@ impl<T: Drop, H: History<T>, M: Drop, A: Asks<T, M>> Started<T, H, M, A> {
         ensures waited { IfOk result (λ r. HasWaited H.words self.0 r.1 (A.event self.1) r.2) }
         ensures lost { IfErr result (λ started. started ≡ self) }
     {
-        if delivered.ticket() != self.counted.ticket().number() {
-            return Err(self);
-        }
         let Started {
             opening,
-            pass,
+            mut pass,
             counted,
             end,
-            asks: _,
+            asks,
         } = self;
-        drop(end);
-        counted.told(&delivered);
-        let mut pass = pass;
-        let (outcome, prefix) = delivered.into_parts();
-        H::learn(board, &mut pass, prefix);
-        Ok((opening, pass, outcome))
+        match counted.learn(board, &mut pass, delivered) {
+            Ok(outcome) => {
+                drop(end);
+                Ok((opening, pass, outcome))
+            },
+            Err(counted) => Err(Started {
+                opening,
+                pass,
+                counted,
+                end,
+                asks,
+            }),
+        }
     }
 
     /// Looks for the end of the wait. Without one it puts the task's waker into the entry; where the lock is
@@ -178,9 +175,7 @@ fn let_go<T: Drop, H: History<T>>(
     counted: CountedWait,
     delivered: Delivered<T, H>,
 ) {
-    if delivered.ticket() == counted.ticket().number() {
-        counted.told(&delivered);
-    } else {
+    if let Some(counted) = counted.told(&delivered) {
         shared.leave(counted);
     }
     drop(delivered);
@@ -205,61 +200,40 @@ impl Wakers {
         ensures kept { Keeps cx.old cx.new }
     {
         let opening = Opening::of(&pass, &asked);
-        let mut locked = locked;
         let mut pass = pass;
-        let event = A::into_event(asked);
-        match locked.state.start(shared.board(), &mut pass, event) {
-            Tried::Told(answered) => {
-                let reply = shared.give_back_answered(locked, &mut pass, answered);
-                Ok((opening, pass, reply))
-            },
-            Tried::MustWait(event) => self.start(shared, locked, opening, pass, event, cx),
+        match self.begin_held(shared, locked, &mut pass, A::into_event(asked), cx) {
+            Ok((counted, end)) => Err(Started::new(opening, pass, counted, end)),
+            Err(reply) => Ok((opening, pass, reply)),
         }
     }
 
-    /// Starts the wait of a call that the pass has seen must wait, with the lock held. The ticket is asked
-    /// for before memory.
-    #[cold]
-    fn start<T: Drop, H: History<T>, M: Drop, A: Asks<T, M>>(
+    /// Begins the wait of a call, as a blocked call does, with a cell whose settling wakes the task.
+    ///
+    /// # Errors
+    /// The reply of a call that does not wait.
+    #[inline(always)]
+    fn begin_held<T: Drop, H: History<T>>(
         &self,
         shared: &Shared<T, H>,
         locked: Locked<'_, T, H>,
-        opening: Opening<H::Pass, M>,
-        pass: H::Pass,
+        pass: &mut H::Pass,
         event: Event<T>,
         cx: &mut Context<'_>,
-    ) -> Result<Replied<T, H, M>, Started<T, H, M, A>>
-        requires quiet { IsQuiet locked }
-        requires asked { event ≡ A.event opening.asked.value }
+    ) -> Result<(CountedWait, WaitEnd<Delivered<T, H>>), Reply<T>>
         requires waits { may_wait event ≡ true }
-        requires line { MustWait (line_under locked) event }
-        requires looks { H.words.looks opening.pass.value pass }
-        requires sees { SeesWait H.words pass event }
-        ensures begun { IfOk result (λ r. opened r.0 ≡ opened opening) }
-        ensures replied { IfOk result (λ r. HasReplied H.words opening.pass.value r.1 event r.2) }
-        ensures waits { IfErr result (λ s. s ≡ opened opening) }
-        ensures registered { IfErr result (λ _. Covers cx.new (λ s. s ≡ source_of self.now)) }
+        requires quiet { IsQuiet locked }
+        ensures begun { IfOk result (λ begun. IsWaiting H.words pass.old pass.new event begun.0) }
+        ensures unspent { IfOk result (λ begun. HasNotLeft (wait_view begun.1)) }
+        ensures replied { IfErr result (HasReplied H.words pass.old pass.new event) }
+        ensures registered { IfOk result (λ _. Covers cx.new (λ s. s ≡ source_of self.now)) }
         ensures kept { Keeps cx.old cx.new }
     {
-        let mut locked = locked;
-        let mut pass = pass;
-        if !locked.state.has_ticket() {
-            let reply = locked.state.refuse(shared.board(), &mut pass, event);
-            locked.give_back_quiet();
-            return Ok((opening, pass, reply));
-        }
+        let (locked, event) = shared.start(locked, pass, event)?;
         let Some((end, seat)) = self.cell(shared.alloc(), cx) else {
             locked.give_back_quiet();
-            return Ok((opening, pass, event.refused(Refusal::NoMemory)));
+            return Err(event.refused(Refusal::NoMemory));
         };
-        let start = locked.state.wait(shared.board(), &mut pass, event, seat);
-        locked.give_back_quiet();
-        match start {
-            WaitStart::Waits(counted) => Err(Started::new(opening, pass, counted, end)),
-            WaitStart::Refused(reply, seat) => {
-                drop(seat);
-                Ok((opening, pass, reply))
-            },
-        }
+        let counted = shared.wait(locked, pass, event, seat)?;
+        Ok((counted, end))
     }
 }

@@ -6,18 +6,17 @@ ghost use Rattle.std.specs.Option.{option_copied};
 ghost use Rattle.futures.specs.Task.{Covers, Keeps};
 ghost use Rattle.futures.specs.Poll.{IfReady, OnPending};
 ghost use Rattle.futures.specs.Runs.{After, Within};
-ghost use Rattle.kanal_history.specs.Handles.{AsksForTheEnd, Receives};
+ghost use Rattle.kanal_state.specs.Handles.{AsksForTheEnd, Receives};
 ghost use Rattle.kanal_futures.specs.Futures.{call_begun};
 ghost use Rattle.kanal_futures.specs.Plain.{HasAnswered};
 ghost use Rattle.kanal_futures.specs.Streams.{HasEnded, HasReceived, stream_fault, stream_is_over, stream_pass, stream_source, stream_waits};
 
-use crate::caller::Caller;
 use crate::receiving::{Received, Receiving, recv_in_task};
 use futures::task::{Context, Poll};
 use futures::{Future, Stream};
 use kanal_channel::Shared;
 use kanal_core::error::ReceiveError;
-use kanal_history::{History, NoHistory};
+use kanal_state::{Caller, History, NoHistory};
 use std::fmt;
 
 /// The messages of a receiver, as `AsyncReceiver::stream` answers them.

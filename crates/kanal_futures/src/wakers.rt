@@ -12,7 +12,7 @@ use kanal_cell::signal;
 use kanal_cell::signal::WaitEnd;
 use kanal_channel::{Delivered, Seat, Shared};
 use kanal_core::internal::Ticket;
-use kanal_history::History;
+use kanal_state::History;
 use std::alloc::Global;
 
 /// The name of what a task waits for, and a waker that is in no entry: the next poll's, or the one that it

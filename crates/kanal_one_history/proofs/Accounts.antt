@@ -15,8 +15,8 @@ use Rattle.kanal_journal.specs.Paired.{Demand, AtOnce, Later, Next, History, alo
 use Rattle.kanal_journal.specs.Laws.{StaysOver, told_history}
 use Rattle.kanal_journal.proofs.Over.{final-after}
 use Rattle.kanal_journal.proofs.Sends.{along-last}
-use Rattle.kanal_history.specs.declared.call.Call.{Call}
-use Rattle.kanal_history.specs.Calls.{call_of}
+use Rattle.kanal_state.specs.declared.call.Call.{Call}
+use Rattle.kanal_state.specs.Calls.{call_of}
 use Rattle.kanal_one_history.specs.Accounts.{LeadsAsTold, account_after, all_cleared, replies_by, reply_by}
 use Rattle.kanal_one_history.specs.Calls.{AreTold, IsLegal, after, history_of, with_call, with_calls}
 use Rattle.kanal_one_history.proofs.Telling.{live}

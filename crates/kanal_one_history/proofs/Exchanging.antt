@@ -6,9 +6,9 @@ use Rattle.kanal_core.specs.declared.internal.outcome.Outcome.TheVariants.{Taken
 use Rattle.kanal_events.specs.declared.event.Event.{Event}
 use Rattle.kanal_events.specs.declared.event.Reply.{Reply}
 use Rattle.kanal_journal.specs.Paired.{Demand, AtOnce, Later, Next, demand_stays, receipts_from, send_stays}
-use Rattle.kanal_history.specs.declared.call.Call.{Call}
-use Rattle.kanal_history.specs.Calls.{IsSilent}
-use Rattle.kanal_history.specs.Makes.{IsReplied}
+use Rattle.kanal_state.specs.declared.call.Call.{Call}
+use Rattle.kanal_state.specs.Calls.{IsSilent}
+use Rattle.kanal_state.specs.Makes.{IsReplied}
 use Rattle.kanal_one_history.specs.Calls.{history_of}
 use Rattle.kanal_one_history.specs.History.{ghost_words, Makes}
 use Rattle.kanal_one_history.specs.Puts.{AreGot, ArePut, Exchanges, ExchangesNothing, WaitsAsSettled}

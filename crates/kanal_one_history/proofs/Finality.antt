@@ -11,8 +11,8 @@ use Rattle.kanal_journal.specs.Runs.{handles_after, has_handle}
 use Rattle.kanal_journal.specs.Paired.{History}
 use Rattle.kanal_journal.specs.Laws.{AreOver, StaysOver, is_receive, tells_end, tells_end_or_no_handle}
 use Rattle.kanal_journal.proofs.Standing.{told-zero}
-use Rattle.kanal_history.specs.declared.call.Call.{Call}
-use Rattle.kanal_history.specs.Calls.{IsToldOn}
+use Rattle.kanal_state.specs.declared.call.Call.{Call}
+use Rattle.kanal_state.specs.Calls.{IsToldOn}
 use Rattle.kanal_one_history.specs.Accounts.{replies_by, reply_by}
 use Rattle.kanal_one_history.specs.Calls.{AreTold, with_call, with_calls}
 use Rattle.kanal_one_history.proofs.Telling.{live, live-made}

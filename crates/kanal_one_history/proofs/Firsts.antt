@@ -17,8 +17,8 @@ use Rattle.kanal_journal.proofs.Holding.{waits}
 use Rattle.kanal_journal.proofs.Lawful.{holds-after}
 use Rattle.kanal_journal.proofs.Rising.{KeepsOrder, ordered, rise-first, told-order}
 use Rattle.kanal_journal.proofs.Tickets.{found-some, has-append}
-use Rattle.kanal_history.specs.declared.call.Call.{Call}
-use Rattle.kanal_history.specs.Calls.{IsIn, IsToldOn}
+use Rattle.kanal_state.specs.declared.call.Call.{Call}
+use Rattle.kanal_state.specs.Calls.{IsIn, IsToldOn}
 use Rattle.kanal_one_history.specs.Accounts.{account_after}
 use Rattle.kanal_one_history.specs.Calls.{AreTold, IsLegal, after, history_of, line_after}
 use Rattle.kanal_one_history.specs.Puts.{HasBegunToWait, SettlesOrWithdraws, WaitsComeFirst}

@@ -14,8 +14,8 @@ use Rattle.kanal_journal.specs.declared.journal.handles.Handles.{Handles}
 use Rattle.kanal_journal.specs.Runs.{handles_after, has_handle, made}
 use Rattle.kanal_journal.specs.Paired.{asked, cleared_by, sent, withdrawn}
 use Rattle.kanal_journal.proofs.Standing.{is_plain, raised-zero, step-steady, still-none}
-use Rattle.kanal_history.specs.declared.call.Call.{Call}
-use Rattle.kanal_history.specs.Calls.{IsToldOn}
+use Rattle.kanal_state.specs.declared.call.Call.{Call}
+use Rattle.kanal_state.specs.Calls.{IsToldOn}
 use Rattle.kanal_one_history.specs.Accounts.{reply_by}
 use Rattle.kanal_one_history.proofs.Silent.{answers-nothing}
 

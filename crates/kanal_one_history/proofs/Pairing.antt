@@ -7,8 +7,8 @@ use Rattle.kanal_journal.specs.Paired.{History, Paired}
 use Rattle.kanal_journal.proofs.Holding.{Holds, holds_paired}
 use Rattle.kanal_journal.proofs.Along.{holds-opening}
 use Rattle.kanal_journal.proofs.EachStep.{told-holds}
-use Rattle.kanal_history.specs.declared.call.Call.{Call}
-use Rattle.kanal_history.specs.Calls.{call_of}
+use Rattle.kanal_state.specs.declared.call.Call.{Call}
+use Rattle.kanal_state.specs.Calls.{call_of}
 use Rattle.kanal_one_history.specs.Calls.{after, AreTold, IsLegal, with_call, with_calls, history_of}
 use Rattle.kanal_one_history.proofs.Telling.{live, live-made}
 

@@ -11,8 +11,8 @@ use Rattle.kanal_events.specs.declared.event.Reply.{Reply}
 use Rattle.kanal_events.specs.declared.event.Side.{Side}
 use Rattle.kanal_events.specs.Steps.{answer, step, withdraw}
 use Rattle.kanal_journal.specs.Paired.{asked, cleared_by, sent}
-use Rattle.kanal_history.specs.declared.call.Call.{Call}
-use Rattle.kanal_history.specs.Calls.{IsSilent, IsTold}
+use Rattle.kanal_state.specs.declared.call.Call.{Call}
+use Rattle.kanal_state.specs.Calls.{IsSilent, IsTold}
 use Rattle.kanal_one_history.specs.Puts.{ExchangesNothing}
 
 module _ {T : Type 0} where

@@ -10,8 +10,8 @@ use Rattle.kanal_journal.specs.Runs.{numbered}
 use Rattle.kanal_journal.specs.Paired.{History, along, given, gift_of, history_from, is_ended, withdrawn}
 use Rattle.kanal_journal.specs.Laws.{settled_times, withdrawn_times}
 use Rattle.kanal_journal.proofs.Lawful.{ends-once}
-use Rattle.kanal_history.specs.declared.call.Call.{Call}
-use Rattle.kanal_history.specs.Calls.{IsIn}
+use Rattle.kanal_state.specs.declared.call.Call.{Call}
+use Rattle.kanal_state.specs.Calls.{IsIn}
 use Rattle.kanal_one_history.specs.Accounts.{account_after}
 use Rattle.kanal_one_history.specs.Calls.{HasSettled, IsLegal, history_of, with_call, with_calls}
 use Rattle.kanal_one_history.specs.Puts.{EachEndsOnce, WaitsAsSettled}

@@ -9,7 +9,7 @@ use Rattle.kanal_journal.specs.Runs.{Account, Leads, handles_after, has_handle, 
 use Rattle.kanal_journal.specs.Replays.{played}
 use Rattle.kanal_journal.specs.Paired.{History, along, demands, kept, withdrawn}
 use Rattle.kanal_journal.specs.Laws.{StaysOver, told_history}
-use Rattle.kanal_history.specs.declared.call.Call.{Call}
+use Rattle.kanal_state.specs.declared.call.Call.{Call}
 use Rattle.kanal_one_history.specs.Calls.{history_of, line_after}
 
 module _ {T : Type 0} where

@@ -8,9 +8,9 @@ use Rattle.kanal_events.specs.declared.event.Event.TheVariants.{Send, TrySend, R
 use Rattle.kanal_events.specs.declared.event.Reply.{Reply}
 use Rattle.kanal_events.specs.declared.event.Reply.TheVariants.{Sent, Waits, Yes, No, Got, Nothing}
 use Rattle.kanal_journal.specs.Paired.{asked, cleared_by, sent}
-use Rattle.kanal_history.specs.declared.call.Call.{Call}
-use Rattle.kanal_history.specs.Exchanges.{Replies, TellsExchanges}
-use Rattle.kanal_history.specs.Makes.{HasWaited, IsReplied}
+use Rattle.kanal_state.specs.declared.call.Call.{Call}
+use Rattle.kanal_state.specs.Exchanges.{Replies, TellsExchanges}
+use Rattle.kanal_state.specs.Makes.{HasWaited, IsReplied}
 use Rattle.kanal_one_history.specs.History.{ghost_words, Makes}
 use Rattle.kanal_one_history.specs.Puts.{AreGot, ArePut, Exchanges, HasMade}
 use Rattle.kanal_one_history.specs.Sound.{ghost_sound}

@@ -3,10 +3,10 @@ use Rattle.std.specs.Prelude.{◌≡◌, ℕ, List, [], ◌∷◌, ◌++◌, len
 use mathlib.Core.List.{IsPrefix}
 use Rattle.kanal_board.specs.Views.{Known}
 use Rattle.kanal_events.specs.Steps.{step}
-use Rattle.kanal_history.specs.declared.call.Call.{Call}
-use Rattle.kanal_history.specs.Calls.{call_of}
+use Rattle.kanal_state.specs.declared.call.Call.{Call}
+use Rattle.kanal_state.specs.Calls.{call_of}
 use Rattle.kanal_one_history.specs.Calls.{line_after, HasSettled}
-use Rattle.kanal_history.specs.Words.{Words}
+use Rattle.kanal_state.specs.Words.{Words}
 
 module _ {T : Type 0} where
   -- the pass made this call: it is the last of a history that goes on from what the pass had seen, its place is the pass's own, and one line of messages tells so after all the calls before it

@@ -7,8 +7,8 @@ use Rattle.kanal_events.specs.declared.event.Event.TheVariants.{Withdraw}
 use Rattle.kanal_events.specs.declared.event.Reply.TheVariants.{Waits, Withdrawn}
 use Rattle.kanal_journal.specs.Paired.{Demand, AtOnce, Later, Next, asked, cleared_by, given, gift_of, is_ended, is_gone, sent}
 use Rattle.kanal_journal.specs.Laws.{EndsOnce}
-use Rattle.kanal_history.specs.declared.call.Call.{Call}
-use Rattle.kanal_history.specs.Calls.{IsIn}
+use Rattle.kanal_state.specs.declared.call.Call.{Call}
+use Rattle.kanal_state.specs.Calls.{IsIn}
 use Rattle.kanal_one_history.specs.Calls.{HasSettled, history_of}
 use Rattle.kanal_one_history.specs.History.{Looks, Makes}
 

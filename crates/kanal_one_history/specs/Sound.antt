@@ -5,11 +5,11 @@ use mathlib.Core.List.{IsPrefix}
 use Rattle.kanal_board.specs.Views.{Known}
 use Rattle.kanal_board.proofs.Fronts.{prefix_trans}
 use Rattle.kanal_core.specs.declared.internal.outcome.Outcome.{Outcome}
-use Rattle.kanal_history.specs.declared.call.Call.{Call}
-use Rattle.kanal_history.specs.Calls.{IsIn}
+use Rattle.kanal_state.specs.declared.call.Call.{Call}
+use Rattle.kanal_state.specs.Calls.{IsIn}
 use Rattle.kanal_one_history.specs.Calls.{HasSettled}
 use Rattle.kanal_one_history.specs.History.{Cleans, Makes, Looks, cleanup_words, ghost_words}
-use Rattle.kanal_history.specs.Words.{AreSound}
+use Rattle.kanal_state.specs.Words.{AreSound}
 
 module _ {T : Type 0} where
   -- a longer history settled it, too

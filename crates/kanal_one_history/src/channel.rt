@@ -14,7 +14,7 @@ use kanal_board::{Naming, Opened};
 use kanal_channel::Shared;
 use kanal_core::error::NewError;
 use kanal_core::internal::ChannelInternal;
-use kanal_history::Call;
+use kanal_state::Call;
 use std::alloc::Global;
 
 /// A channel under a name, which threads share by a reference.

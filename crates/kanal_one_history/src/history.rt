@@ -9,7 +9,7 @@ ghost use Rattle.kanal_board.specs.Views.{known};
 
 use crate::pass::{Cleanup, Pass, Prefix};
 use kanal_board::{Board, EntryOf, Keeper, Naming, Opened};
-use kanal_history::{Call, History};
+use kanal_state::{Call, History};
 use std::marker::Model;
 
 /// All calls on a channel's line are kept, in proofs alone. It is the history of a channel under a name.
@@ -22,7 +22,7 @@ pub struct GhostHistory<T, J: Naming> {
 
 impl<T, J: Naming> Model for GhostHistory<T, J> {
     ghost use Rattle.std.specs.Prelude.{List};
-    ghost use Rattle.kanal_history.specs.declared.call.Call.{Call};
+    ghost use Rattle.kanal_state.specs.declared.call.Call.{Call};
     ghost use Rattle.kanal_one_history.specs.Calls.{IsLegal};
 
     ghost Value = { List (Call T) };

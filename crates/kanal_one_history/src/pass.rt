@@ -6,14 +6,14 @@ ghost use Rattle.std.specs.Prelude.{◌≡◌, ◌++◌, ℕ, [], take};
 ghost use mathlib.Core.List.{IsPrefix};
 ghost use Rattle.kanal_board.specs.Shares.{IsWhole, both, half};
 ghost use Rattle.kanal_board.specs.Views.{AreApart, AreDistinct, OneBegins, OwnsAllButQuiet, known};
-ghost use Rattle.kanal_history.specs.Calls.{IsSilent};
+ghost use Rattle.kanal_state.specs.Calls.{IsSilent};
 ghost use Rattle.kanal_journal.specs.Paired.{Paired};
 ghost use Rattle.kanal_one_history.specs.Accounts.{LeadsAsTold};
 ghost use Rattle.kanal_one_history.specs.Calls.{IsLegal, history_of};
 ghost use Rattle.kanal_one_history.specs.Puts.{EachEndsOnce, WaitsAsSettled, WaitsComeFirst};
 
 use kanal_board::{Board, Front, Naming};
-use kanal_history::Call;
+use kanal_state::Call;
 use std::marker::Model;
 
 /// What a caller has seen of a channel's history, and which calls of it are its own. It takes no bytes.
@@ -29,7 +29,7 @@ pub struct Pass<T, J: Naming> {
 impl<T, J: Naming> Model for Pass<T, J> {
     ghost use Rattle.kanal_board.specs.Shares.{HasShare};
     ghost use Rattle.kanal_board.specs.Views.{Known};
-    ghost use Rattle.kanal_history.specs.declared.call.Call.{Call};
+    ghost use Rattle.kanal_state.specs.declared.call.Call.{Call};
     ghost use Rattle.kanal_one_history.specs.Calls.{IsLegal};
 
     ghost Value = { Known (Call T) };
@@ -157,7 +157,7 @@ pub struct Prefix<T, J: Naming> {
 impl<T, J: Naming> Model for Prefix<T, J> {
     ghost use Rattle.std.specs.Prelude.{◌≡◌, List, []};
     ghost use Rattle.kanal_board.specs.Shares.{nothing};
-    ghost use Rattle.kanal_history.specs.declared.call.Call.{Call};
+    ghost use Rattle.kanal_state.specs.declared.call.Call.{Call};
     ghost use Rattle.kanal_one_history.specs.Calls.{IsLegal};
 
     ghost Value = { List (Call T) };
@@ -209,7 +209,7 @@ pub struct Cleanup<T, J: Naming> {
 
 impl<T, J: Naming> Model for Cleanup<T, J> {
     ghost use Rattle.std.specs.Prelude.{List};
-    ghost use Rattle.kanal_history.specs.declared.call.Call.{Call};
+    ghost use Rattle.kanal_state.specs.declared.call.Call.{Call};
     ghost use Rattle.kanal_one_history.specs.Calls.{IsLegal};
 
     ghost Value = { List (Call T) };

@@ -5,7 +5,7 @@ use futures::test::MockTask;
 use kanal_channel::Shared;
 use kanal_core::internal::ChannelInternal;
 use kanal_futures::send_future;
-use kanal_history::NoHistory;
+use kanal_state::NoHistory;
 use std::alloc::{AllocGlobal, Global};
 use std::random::RandomSource;
 use std::sync::Wait;

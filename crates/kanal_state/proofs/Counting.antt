@@ -10,9 +10,9 @@ use Rattle.kanal_events.specs.declared.event.Side.TheVariants.{Tx, Rx}
 use Rattle.kanal_events.specs.declared.made.Made.{Made}
 use Rattle.kanal_events.specs.Made.{reply_of}
 use Rattle.kanal_events.specs.Steps.{Told, Tells, cloned}
-use Rattle.kanal_history.specs.Makes.{IsNoted, IsReplied}
-use Rattle.kanal_history.specs.Results.{counted_by}
-use Rattle.kanal_history.specs.Words.{Words}
+use Rattle.kanal_state.specs.Makes.{IsNoted, IsReplied}
+use Rattle.kanal_state.specs.Results.{counted_by}
+use Rattle.kanal_state.specs.Words.{Words}
 use Rattle.kanal_state.specs.Counts.{one_more}
 use Rattle.kanal_state.proofs.Settling.{free_replied, is_free, noted_answered}
 

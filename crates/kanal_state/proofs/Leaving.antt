@@ -1,9 +1,12 @@
--- Who leaves at a step that settles nobody, and the drop of a handle of either side.
-use Rattle.std.proofs.Common.{◌≡◌, ◌==◌, ℕ, Bool, false, List, [], ◌∷◌, map, Option, None, Some, refl, subst}
+-- Who leaves at a step that settles nobody, at the drop of a handle of either side, and by notice.
+use Rattle.std.proofs.Common.{◌≡◌, ◌==◌, Bool, false, true, List, [], ◌∷◌, map, Option, None, Some, MatchOption, refl, sym, ap, ◌∙◌}
+use Rattle.std.specs.Option.{option_map}
 use Rattle.kanal_core.specs.declared.internal.outcome.Settled.{Settled}
+use Rattle.kanal_core.specs.declared.internal.outcome.Ticket.{Ticket}
 use Rattle.kanal_core.specs.declared.internal.outcome.Waiter.{Waiter}
 use Rattle.kanal_core.specs.Channel.{settlement}
 use Rattle.kanal_core.specs.Line.{Line}
+use Rattle.kanal_core.specs.Waiters.{waiter_of, without, with_w}
 use Rattle.kanal_events.specs.declared.event.Event.{Event}
 use Rattle.kanal_events.specs.declared.event.Side.{Side}
 use Rattle.kanal_events.specs.declared.event.Side.TheVariants.{Tx, Rx}
@@ -13,9 +16,12 @@ use Rattle.kanal_events.specs.declared.made.Made.{Made}
 use Rattle.kanal_events.specs.Leaving.{Leave, gone_of, gone_of_left}
 use Rattle.kanal_events.specs.Made.{settled_of, settled_of_left}
 use Rattle.kanal_events.specs.Steps.{Told, Tells}
-use Rattle.kanal_history.specs.Calls.{IsDrop}
+use Rattle.kanal_state.specs.Calls.{IsDrop}
 use Rattle.kanal_state.specs.Counts.{count_of, one_less}
+use Rattle.kanal_state.specs.Renewing.{Brought, TakesRoom}
+use Rattle.kanal_state.specs.Seats.{HasLeft, left_of}
 use Rattle.kanal_state.proofs.Noting.{quiet_rx, quiet_tx}
+use Rattle.kanal_state.proofs.Renewing.{waiter-with, with-own, without-with}
 
 module _ {T W : Type 0} where
   none-ended : (old new : List (Waiter T W)) (ended : List (Settled T W)) → map settlement ended ≡ [] → Leave old ended new → new ≡ old
@@ -46,3 +52,58 @@ module _ {T : Type 0} where
   pub quiet_less : (side : Side) (l : Line T) (told : Told T) → Tells l (one_less side) told → (count_of side l == 1) ≡ false → told.settled ≡ []
   quiet_less Tx l told tells more = quiet_tx l told tells more
   quiet_less Rx l told tells more = quiet_rx l told tells more
+
+module _ {T : Type 0} (t : Ticket) (old new : List (Waiter T Brought)) where
+  -- what the taking of a room says, of who has the ticket
+  abbrev Takes : Bool → Option (Waiter T Brought) → Type 0
+  Takes taken o =
+      MatchOption o ((new ≡ old) × (taken ≡ false)) (λ w. (new ≡ with_w t (record w.w { has_room = false }) old) × (taken ≡ w.w.has_room))
+
+  none-taken : (o : Option (Waiter T Brought)) → waiter_of t old ≡ o → Takes false o → new ≡ old
+  none-taken None is takes = takes.0
+  none-taken (Some w) is takes = takes.0 ∙ rw takes.1 (with-own t w old is)
+
+  -- where no room was taken nobody changed
+  pub none_taken : TakesRoom t old new false → new ≡ old
+  none_taken takes = none-taken (waiter_of t old) refl takes
+
+  -- whose room was taken: as who waited, and as who waits now
+  record HadRoom : Type 0 where
+    waiter : Waiter T Brought
+    waited : waiter_of t old ≡ Some waiter
+    waits : waiter_of t new ≡ Some (record waiter { w = record waiter.w { has_room = false } })
+    room : waiter.w.has_room ≡ true
+    others : without t new ≡ without t old
+
+  one-taken : (o : Option (Waiter T Brought)) → waiter_of t old ≡ o → Takes true o → HadRoom
+  one-taken None is takes = absurd (cc (takes.1))
+  one-taken (Some w) is takes =
+      let v = record w.w { has_room = false } in
+      record {
+        waiter = w;
+        waited = is;
+        waits = ap (waiter_of t) takes.0 ∙ waiter-with t v old ∙ ap (option_map (λ (w : Waiter T Brought). record w { w = v })) is;
+        room = sym takes.1;
+        others = ap (without t) takes.0 ∙ without-with t v old;
+      }
+
+  -- whose room was taken waits still
+  pub waits_still : TakesRoom t old new true → None ≡ waiter_of t new → ⊥
+  waits_still takes none =
+      let had = one-taken (waiter_of t old) refl takes in
+      absurd (cc (none, had.waits))
+
+  -- who is withdrawn then has left
+  pub has_left : TakesRoom t old new true → (w : Waiter T Brought) → Some w ≡ waiter_of t new
+      → (after : List (Waiter T Brought)) → after ≡ without t new → HasLeft old (Some (left_of w)) after
+  has_left takes w is after others =
+      let had = one-taken (waiter_of t old) refl takes in
+      let same : w ≡ record had.waiter { w = record had.waiter.w { has_room = false } } = cc (is, had.waits) in
+      record {
+        ticket = t;
+        waiter = had.waiter;
+        waited = had.waited;
+        room = had.room;
+        entry = ap (λ x. Some (left_of x)) same;
+        others = others ∙ had.others;
+      }

@@ -12,10 +12,10 @@ use Rattle.kanal_events.specs.declared.event.Refusal.TheVariants.{Closed, Receiv
 use Rattle.kanal_events.specs.declared.made.Made.{Made}
 use Rattle.kanal_events.specs.Steps.{Told, step, Tells, is_no_memory, moving, nothing_there, only, take_front, wait}
 use Rattle.kanal_events.specs.Made.{entered, got, told_of}
-use Rattle.kanal_history.specs.Calls.{IsDrop, IsSilent, IsToldOn, call_of, line_by}
-use Rattle.kanal_history.specs.declared.call.Call.{Call}
-use Rattle.kanal_history.specs.Entries.{call_from, told_by, tried_entry, tried_receipt}
-use Rattle.kanal_history.proofs.Telling.{tells_step, tells_refused}
+use Rattle.kanal_state.specs.Calls.{IsDrop, IsSilent, IsToldOn, call_of, line_by}
+use Rattle.kanal_state.specs.declared.call.Call.{Call}
+use Rattle.kanal_state.specs.Entries.{call_from, told_by, tried_entry, tried_receipt}
+use Rattle.kanal_state.proofs.Telling.{tells_step, tells_refused}
 
 module _ {T : Type 0} where
   -- a call that was told the line's step is told so on that line

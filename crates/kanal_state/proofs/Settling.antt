@@ -1,5 +1,5 @@
 -- What passes tell of a call that was noted, of one that waited, and of one that was made where the pass had looked.
-use Rattle.std.proofs.Common.{◌≡◌, ℕ, Bool, true, false, true≢false, Option, Some, List, [], ◌∷◌, Result, Ok, Err, refl, ap, sym, ◌∙◌, inl, inr, subst}
+use Rattle.std.proofs.Common.{◌≡◌, ℕ, Bool, true, false, true≢false, Some, List, [], ◌∷◌, Result, Ok, Err, refl, ap, sym, ◌∙◌, inl, inr, subst}
 use Rattle.std.proofs.lemmas.Bool.{cases_Bool}
 use Rattle.kanal_core.specs.declared.internal.outcome.Outcome.{Outcome}
 use Rattle.kanal_core.specs.declared.error.ReceiveError.{ReceiveError}
@@ -12,17 +12,18 @@ use Rattle.kanal_events.specs.declared.event.Reply.{Reply}
 use Rattle.kanal_events.specs.declared.event.Reply.TheVariants.{Waits}
 use Rattle.kanal_events.specs.Steps.{is_no_memory, no_memory}
 use Rattle.kanal_events.specs.Steps.{IsWait}
-use Rattle.kanal_history.specs.declared.call.Call.{Call}
+use Rattle.kanal_state.specs.declared.call.Call.{Call}
 use Rattle.kanal_events.specs.declared.made.Made.{Made}
-use Rattle.kanal_events.specs.declared.made.Owed.{Owed}
 use Rattle.kanal_core.specs.Line.{Line}
-use Rattle.kanal_history.specs.Calls.{IsIn, IsTold}
+use Rattle.kanal_state.specs.Calls.{IsIn, IsTold}
 use Rattle.kanal_events.specs.Made.{settled_of, reply_of}
-use Rattle.kanal_history.specs.Entries.{MayLack, call_from, entry, receipt, tried_entry, tried_receipt}
-use Rattle.kanal_history.specs.Words.{Words, AreSound, HaveSettled, HaveShown}
-use Rattle.kanal_history.specs.Handles.{TriesToReceive, TriesToSend}
-use Rattle.kanal_history.specs.Makes.{Lacks, IsReplied, HasWaited, IsKept, IsNoted, IsAnswered, HasReplied, Finishes, Comes, SeesWait}
-use Rattle.kanal_history.specs.Results.{received_after, received_by, sent_after, sent_by}
+use Rattle.kanal_state.specs.Entries.{MayLack, call_from, entry, receipt, replied, tried_entry, tried_receipt}
+use Rattle.kanal_state.specs.Words.{Words, AreSound, HaveSettled, HaveShown}
+use Rattle.kanal_state.specs.Handles.{TriesToReceive, TriesToSend}
+use Rattle.kanal_state.specs.Makes.{Lacks, IsReplied, HasWaited, IsKept, IsNoted, IsAnswered, HasReplied, Finishes, Comes, SeesWait}
+use Rattle.kanal_state.specs.Waits.{IsWaiting}
+use Rattle.kanal_state.specs.declared.counted.CountedWait.{CountedWait}
+use Rattle.kanal_state.specs.Results.{received_after, received_by, sent_after, sent_by}
 
 module _ {T S : Type 0} where
   -- what shows as much shows all
@@ -159,6 +160,25 @@ module _ {T P : Type 0} (w : Words T P) where
 
   pub asked_at_once : (old new : P) (m : T) → w.makes old new (tried_receipt m) → IsTold (tried_receipt m) → TriesToReceive w old new (Ok (Some m))
   asked_at_once old new m made told = record { call = tried_receipt m; made = made; asked = refl; reads = refl; told = told }
+
+module _ {T P : Type 0} (w : Words T P) (sound : AreSound w) where
+  -- a call that the pass has seen must wait, and for which there was no memory
+  pub lacks_replied : (old new : P) (event back : Event T) (reply : Reply T) → w.looks old new → SeesWait w new event → back ≡ event → reply ≡ no_memory back → HasReplied w old new event reply
+  lacks_replied old new event back reply looks sees same is =
+      subst (λ x. HasReplied w old new event x) (sym (is ∙ ap no_memory same)) (inr (lacks_wait w sound old new event looks sees, refl), λ waits. waits)
+
+  -- a call that was refused where the pass had looked
+  pub refused_replied : (old mid new : P) (event back : Event T) (reply : Reply T)
+      → w.looks old mid → back ≡ event → IsKept w mid new back (replied back reply) → (IsWait reply → ⊥) → HasReplied w old new event reply
+  refused_replied old mid new event back reply looks same kept clear =
+      subst (λ e. HasReplied w old new e reply) same (answered-from w sound old mid new back reply looks (kept_answered w mid new back (replied back reply) kept), clear)
+
+  -- what began where the pass had looked
+  pub replied_on : (old mid new : P) (event back : Event T) (reply : Reply T) → w.looks old mid → back ≡ event → HasReplied w mid new back reply → HasReplied w old new event reply
+  replied_on old mid new event back reply looks same c = subst (λ e. HasReplied w old new e reply) same (answered-from w sound old mid new back reply looks c.0, c.1)
+
+  pub waiting_on : (old mid new : P) (event back : Event T) (counted : CountedWait) → w.looks old mid → back ≡ event → IsWaiting w mid new back counted → IsWaiting w old new event counted
+  waiting_on old mid new event back counted looks same c = subst (λ e. IsWaiting w old new e counted) same (replied-from w sound old mid new back (λ reply. reply) _ looks c)
 
 off : false ≡ true → ⊥
 off e = true≢false (sym e)

@@ -1,3 +1,12 @@
+pub mod Calls
+pub mod Entries
+pub mod Words
+pub mod Makes
+pub mod Results
+pub mod Timed
+pub mod Handles
+pub mod Refusals
+pub mod Exchanges
 pub mod Counts
 pub mod Renewing
 pub mod Seats

@@ -1,5 +1,5 @@
 -- What a waiter brings to the core, as contracts see it, and a waker in it that takes the place of another.
-use Rattle.std.specs.Prelude.{◌≡◌, Bool, List, Option, Some, None, MatchOption}
+use Rattle.std.specs.Prelude.{◌≡◌, Bool, false, List, Option, Some, None, MatchOption}
 use Rattle.futures.specs.declared.task.waker.Waker.{Waker}
 use Rattle.kanal_cell.specs.CellEnds.{CellName}
 use Rattle.kanal_core.specs.Waiters.{waiter_of, with_w}
@@ -23,3 +23,9 @@ module _ {T : Type 0} where
   Renews t spare old new after =
       MatchOption (waiter_of t old) ((new ≡ old) × (after ≡ spare))
       (λ w. (seat : Brought) × (new ≡ with_w t seat old) × Swaps spare w.w seat after)
+
+  -- the waiter with the ticket has no room now: what it had was taken; nobody else changed, and nothing did where it doesn't wait
+  abbrev pub TakesRoom : Ticket → List (Waiter T Brought) → List (Waiter T Brought) → Bool → Type 0
+  TakesRoom t old new taken =
+      MatchOption (waiter_of t old) ((new ≡ old) × (taken ≡ false))
+      (λ w. (new ≡ with_w t (record w.w { has_room = false }) old) × (taken ≡ w.w.has_room))

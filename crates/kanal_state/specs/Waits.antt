@@ -6,12 +6,18 @@ use Rattle.kanal_events.specs.declared.event.Event.{Event}
 use Rattle.kanal_events.specs.declared.event.Reply.{Reply}
 use Rattle.kanal_events.specs.declared.event.Reply.TheVariants.{Waits as HasToWait}
 use Rattle.kanal_events.specs.Steps.{message_of}
-use Rattle.kanal_history.specs.Makes.{HasReplied, IsReplied}
-use Rattle.kanal_history.specs.Words.{Words}
+use Rattle.kanal_state.specs.Makes.{HasReplied, IsReplied}
+use Rattle.kanal_state.specs.Words.{Words}
+use Rattle.kanal_state.specs.declared.counted.CountedWait.{CountedWait}
 use Rattle.kanal_state.specs.declared.state.WaitStart.{WaitStart}
 use Rattle.kanal_state.specs.declared.state.WaitStart.TheVariants.{Waits, Refused}
 use Rattle.kanal_state.specs.Counts.{ticket_of}
 use Rattle.kanal_state.specs.Renewing.{Brought}
+
+module _ {T P : Type 0} where
+  -- the pass made the call, which waits under the ticket of this token
+  abbrev pub IsWaiting : Words T P → P → P → Event T → CountedWait → Type 0
+  IsWaiting w old new event counted = IsReplied w old new event (λ reply. reply) (HasToWait (number_of (ticket_of counted)))
 
 module _ {T H P B S C : Type 0} where
   -- the reply: the call waits under its ticket, or it was refused
@@ -21,7 +27,7 @@ module _ {T H P B S C : Type 0} where
 
   -- the pass made the call, which waits; or it was refused, or there was no memory for it
   abbrev pub HasStarted : Words T P → P → P → Event T → WaitStart T H P B S C → Type 0
-  HasStarted w old new event (Waits counted) = IsReplied w old new event (λ reply. reply) (HasToWait (number_of (ticket_of counted)))
+  HasStarted w old new event (Waits counted) = IsWaiting w old new event counted
   HasStarted w old new event (Refused reply seat) = HasReplied w old new event reply
 
   -- behind those that waited stands the call, with its message and its seat; or nobody came, and the seat is back

@@ -5,27 +5,27 @@
 //! it, or into the notices. Who takes the notices has the handles' tokens again. Nothing else makes a handle's
 //! token but a new channel, and the state, by evidence that a call counted one more; nothing makes a wait's
 //! but the state, which hands it out where it starts the wait.
-ghost use Rattle.std.specs.Prelude.{◌≡◌, false, Ok};
+ghost use Rattle.std.specs.Prelude.{◌≡◌, false, IfErr, IfNone, IfOk, IfSome, Ok};
 ghost use Rattle.kanal_core.specs.Channel.{line_of};
 ghost use Rattle.kanal_core.specs.Tickets.{number_of};
 ghost use Rattle.kanal_core.specs.Waiters.{IsPlaced};
 ghost use Rattle.kanal_events.specs.Made.{not_waiting};
 ghost use Rattle.kanal_events.specs.Steps.{Tells};
-ghost use Rattle.kanal_history.specs.Entries.{call_from, withdrawal};
-ghost use Rattle.kanal_history.specs.Makes.{IsReplied};
-ghost use Rattle.kanal_history.specs.Results.{counted_by};
+ghost use Rattle.kanal_state.specs.Entries.{call_from, withdrawal};
+ghost use Rattle.kanal_state.specs.Makes.{IsReplied};
+ghost use Rattle.kanal_state.specs.Results.{counted_by};
 ghost use Rattle.kanal_state.specs.Counts.{is_counted, one_less, one_more, ticket_of, waits};
 
 mod notices;
 
+use crate::History;
 use crate::delivered::Delivered;
 use crate::seat::Core;
 use crate::side::{OfSide, ReceiveSide, SendSide};
 use boxcar::tag::{Names, Tag};
-use kanal_core::internal::{Ticket, Waiter};
+use kanal_core::internal::{Outcome, Ticket, Waiter};
 use kanal_events::event::Event;
 use kanal_events::made::Made;
-use kanal_history::History;
 pub use notices::{GoneHandles, GoneWaits, Notices};
 use std::marker::PhantomData;
 use std::snapshot::Snapshot;
@@ -224,20 +224,55 @@ impl CountedWait {
         drop(stands);
     }
 
-    /// Counts the wait out: this became of it, and who waits was told.
+    /// Counts the wait out, where this became of it; where that is another's, it comes back.
+    ///
+    /// A cell is settled for its own ticket. No type ties the cell to the ticket, so the two are compared; no
+    /// run has shown that they differ.
     ///
     /// # Examples
     /// ```text
-    /// if delivered.ticket() == counted.ticket().number() {
-    ///     counted.told(&delivered);
+    /// if let Some(counted) = counted.told(&delivered) {
+    ///     shared.leave(counted);
     /// }
     /// ```
     #[inline]
-    pub fn told<T, H: History<T>>(self, delivered: &Delivered<T, H>)
-        requires told { delivered.now.0 ≡ number_of (ticket_of self) }
+    pub fn told<T: Drop, H: History<T>>(self, delivered: &Delivered<T, H>) -> Option<Self>
+        ensures told { IfNone result (delivered.now.0 ≡ number_of (ticket_of self)) }
+        ensures other { IfSome result (λ back. back ≡ self) }
     {
+        if delivered.ticket() != self.ticket.number() {
+            return Some(self);
+        }
         let CountedWait { ticket: _, stands } = self;
-        let _ = delivered;
         drop(stands);
+        None
+    }
+
+    /// The pass learns what became of the wait, which is counted out.
+    ///
+    /// # Errors
+    /// The wait, where that is another's: the pass has learnt nothing.
+    ///
+    /// # Examples
+    /// ```text
+    /// counted.learn(shared.board(), &mut pass, delivered)   answers  Ok(Outcome::Taken)   where the message was taken
+    /// ```
+    pub fn learn<T: Drop, H: History<T>>(
+        self,
+        board: &H::Board,
+        pass: &mut H::Pass,
+        delivered: Delivered<T, H>,
+    ) -> Result<Outcome<T>, Self>
+        ensures looks { IfOk result (λ _. H.words.looks pass.old pass.new) }
+        ensures settled { IfOk result (λ outcome.
+            H.words.settled pass.new (number_of (ticket_of self), outcome)) }
+        ensures other { IfErr result (λ back. (back ≡ self) × (pass.new ≡ pass.old)) }
+    {
+        if let Some(counted) = self.told(&delivered) {
+            return Err(counted);
+        }
+        let (outcome, prefix) = delivered.into_parts();
+        H::learn(board, pass, prefix);
+        Ok(outcome)
     }
 }

@@ -6,10 +6,10 @@ ghost use Rattle.std.specs.Prelude.{◌≡◌, Some};
 ghost use Rattle.kanal_cell.specs.CellRule.{HasNotSettled};
 ghost use Rattle.kanal_cell.specs.CellEnds.{HasSettled, StaysAtCell, kept_waker, settle_view};
 
+use crate::History;
 use futures::task::Waker;
 use kanal_cell::signal::{SettleEnd, Settlement};
 use kanal_core::internal::Outcome;
-use kanal_history::History;
 use std::marker::Model;
 
 /// What became of a wait, with what was seen of the settlement. Contracts see the ticket's number and the

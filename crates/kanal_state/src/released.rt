@@ -1,8 +1,8 @@
 //! What shows that a channel's lock was released.
 //!
 //! Nobody is told of a settlement without it. It has no bytes, and only giving a guard back makes one.
+use crate::History;
 use crate::state::State;
-use kanal_history::History;
 use std::sync::MutexGuard;
 
 /// That the lock of a channel was released.

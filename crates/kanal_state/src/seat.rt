@@ -11,6 +11,7 @@ ghost use Rattle.kanal_state.specs.Seats.{IsKept, IsTold};
 
 mod room;
 
+use crate::History;
 use crate::delivered::{Delivered, Settler};
 use crate::released::Released;
 use futures::task::Waker;
@@ -18,7 +19,6 @@ use kanal_cell::signal;
 use kanal_cell::signal::{SettleEnd, Settlement, WaitEnd};
 use kanal_core::internal::{ChannelInternal, Outcome, Waiter};
 use kanal_events::made::Waits;
-use kanal_history::History;
 pub use room::{Leaver, Leavers, Room};
 use std::alloc::Global;
 use std::collections::LinkedList;

@@ -11,9 +11,9 @@ ghost use Rattle.kanal_core.specs.Waiters.{waiter_of, without};
 ghost use Rattle.kanal_events.specs.Leaving.{Leave, LeaveTried, gone_of};
 ghost use Rattle.kanal_events.specs.Steps.{IsWait, Tells, is_no_memory, only};
 ghost use Rattle.kanal_events.specs.Made.{MustWait, Tries, drained_of, entered, got, is_drained, is_plain, may_wait, reply_of, told_of, withdrawn};
-ghost use Rattle.kanal_history.specs.Calls.{IsTold};
-ghost use Rattle.kanal_history.specs.Entries.{entry, receipt, replied, told_by, tried_entry, tried_receipt, withdrawal};
-ghost use Rattle.kanal_history.specs.Makes.{HasTooLittleRoom, IsKept, IsNoted, IsTried};
+ghost use Rattle.kanal_state.specs.Calls.{IsTold};
+ghost use Rattle.kanal_state.specs.Entries.{entry, receipt, replied, told_by, tried_entry, tried_receipt, withdrawal};
+ghost use Rattle.kanal_state.specs.Makes.{HasTooLittleRoom, IsKept, IsNoted, IsTried};
 ghost use Rattle.kanal_state.specs.Counts.{count_of, counts_handle, ticket_of};
 ghost use Rattle.kanal_state.specs.Renewing.{Renews};
 ghost use Rattle.kanal_state.specs.Waits.{HasStarted, Joins, reply_at};
@@ -22,14 +22,14 @@ mod counting;
 mod keeping;
 mod leaving;
 
+use crate::History;
 use crate::counted::{CountedWait, FirstHandles, Notices};
 use crate::seat::{Core, Seat};
 use futures::task::Waker;
 use kanal_core::internal::{Ticket, Waiter};
 use kanal_events::event::{Event, Refusal, Reply, Side};
-use kanal_events::made::{Answered, Kept, Made, Tried};
+use kanal_events::made::{Answered, Kept, Made};
 use kanal_events::steps;
-use kanal_history::History;
 use keeping::{
     Asked, OfAnswer, OfCall, OfEntry, OfReceipt, OfReply, OfTriedEntry, OfTriedReceipt,
     OfWithdrawal, note, note_made,
@@ -269,13 +269,16 @@ impl<T: Drop, H: History<T>> State<T, H> {
         Some(message)
     }
 
-    /// Makes a send or a receive, unless it must wait: the pass has seen that it must then.
+    /// Makes a send or a receive.
+    ///
+    /// # Errors
+    /// The call, where it must wait: the pass has seen that it must.
     pub fn start(
         &mut self,
         board: &H::Board,
         pass: &mut H::Pass,
         event: Event<T>,
-    ) -> Tried<T, Seat<T, H>>
+    ) -> Result<Answered<T, Seat<T, H>>, Event<T>>
         requires waits { may_wait event ≡ true }
         ensures tried { IsTried H.words pass.old pass.new event result }
         ensures step { Tries self.old.1 event result self.new.1 }
@@ -286,13 +289,13 @@ impl<T: Drop, H: History<T>> State<T, H> {
         let tried = steps::start(&mut self.core, event);
         let history = &mut self.history;
         match &tried {
-            Tried::Told(answered) => {
+            Ok(answered) => {
                 let lacks = answered.lacks_memory();
                 note::<T, Answered<T, Seat<T, H>>, OfAnswer, H>(
                     history, board, pass, &asked, answered, lacks,
                 );
             },
-            Tried::MustWait(_back) => history.show(board, pass),
+            Err(_back) => history.show(board, pass),
         }
         tried
     }

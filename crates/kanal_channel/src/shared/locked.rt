@@ -1,35 +1,16 @@
 //! The lock of a channel as a token that has to be given back, and the notices that are applied under it.
 //!
-//! Stands on the lock, the state and the notices. Whoever gets the lock has all notices applied before its
-//! own step. A call that may wait for the lock then releases it where they took something out, tells that,
-//! and waits for the lock anew; one that may not makes its step at once. No other module takes the lock or
-//! the notices.
+//! Whoever gets the lock has all notices applied before its own step. A call that may wait for the lock then
+//! releases it where they took something out, tells that, and waits for the lock anew; one that may not makes its
+//! step at once. No other module takes the lock or the notices.
 ghost use Rattle.std.specs.Prelude.{◌≡◌, false, IfSome};
 ghost use Rattle.kanal_channel.specs.Locks.{IsQuiet, is_held, takes_nothing};
 
 use super::Shared;
-use kanal_history::History;
-use kanal_state::{Gone, Leavers, ReceiveSide, Released, SendSide, State};
-use kanal_waits::pause;
+use kanal_cell::{Contention, LOCK_TRIES};
+use kanal_state::{Gone, History, Leavers, ReceiveSide, Released, SendSide, State};
 use std::snapshot::Snapshot;
 use std::sync::{MutexGuard, Wait};
-use std::thread::Parker;
-use std::time::Duration;
-
-/// The first pause before a lock that is held is tried again, as a power of two of spins.
-const FIRST_PAUSE: u32 = 6;
-
-/// The last one before a nap, as a power of two of spins: each is twice as long as the one before.
-const LAST_PAUSE: u32 = 10;
-
-/// How often a call naps for the lock before it sleeps until the lock is released.
-const NAPS: u32 = 16;
-
-/// How long it naps at first, in nanoseconds; the system makes that some fifty thousand.
-const FIRST_NAP: u64 = 1_000;
-
-/// How long it naps each further time, in nanoseconds.
-const LATER_NAP: u64 = 20_000;
 
 /// The lock of a channel, which has to be given back: the prover refuses a call that lets it go.
 ///
@@ -280,30 +261,17 @@ impl<T: Drop, H: History<T>> Shared<T, H> {
         Some((locked, left))
     }
 
-    /// Waits for a lock that was held: with pauses between the tries, then with naps, and then asleep.
+    /// Waits for a lock that was held: with pauses and naps between the tries, and then asleep.
     #[cold]
     fn contend<R: Wait>(&self, rt: &R) -> MutexGuard<'_, State<T, H>> {
-        let napper = Parker::new();
-        let mut nap = FIRST_NAP;
-        for _ in 0..NAPS {
-            if let Some(state) = self.try_often() {
+        let contention = Contention::new();
+        for tries in 0..LOCK_TRIES {
+            contention.pause(rt, tries);
+            if let Some(state) = self.state.try_lock() {
                 return state;
             }
-            napper.park_timeout(rt, Duration::from_nanos(nap));
-            nap = LATER_NAP;
         }
         self.state.lock(rt)
-    }
-
-    /// Tries to get the lock, with growing pauses between.
-    fn try_often(&self) -> Option<MutexGuard<'_, State<T, H>>> {
-        for power in FIRST_PAUSE..=LAST_PAUSE {
-            pause(power);
-            if let Some(state) = self.state.try_lock() {
-                return Some(state);
-            }
-        }
-        None
     }
 
     /// Applies all notices: first those of left waits, then the senders', then the receivers'. That

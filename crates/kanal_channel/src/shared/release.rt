@@ -1,11 +1,11 @@
 //! The ways out of the lock of a channel: it is released, what the notices took out and what the step settled is
 //! told, what left the core is dropped, and new notices are looked for.
 //!
-//! Stands on the lock as a token. Nobody is told of anything by another module, and none is told while the lock is
-//! held: whoever tells shows that it was released.
+//! No other module tells anybody, and nobody is told while the lock is held: whoever tells shows that it was
+//! released.
 ghost use Rattle.std.specs.Prelude.{◌≡◌};
 ghost use Rattle.kanal_events.specs.Made.{made_of, owed_by, reply_of, settled_of};
-ghost use Rattle.kanal_history.specs.Words.{HaveSettled, HaveShown};
+ghost use Rattle.kanal_state.specs.Words.{HaveSettled, HaveShown};
 ghost use Rattle.kanal_channel.specs.Locks.{IsQuiet};
 
 use super::Shared;
@@ -13,8 +13,7 @@ use super::locked::{Left, Locked, Taken};
 use kanal_core::internal::Waiter;
 use kanal_events::event::Reply;
 use kanal_events::made::{Answered, Made};
-use kanal_history::History;
-use kanal_state::{Gone, Released, Seat};
+use kanal_state::{Gone, History, Released, Seat};
 
 /// How often a call looks for notices after it released the lock.
 const LOOKS: u32 = 64;
@@ -71,9 +70,8 @@ impl<T: Drop, H: History<T>> Shared<T, H> {
     ///
     /// # Examples
     /// ```text
-    /// match locked.state.start(shared.board(), &mut pass, Event::Recv) {
-    ///     Tried::Told(answered) => shared.give_back_answered(locked, &mut pass, answered),
-    ///     ..
+    /// if let Ok(answered) = locked.state.start(shared.board(), &mut pass, Event::Recv) {
+    ///     shared.give_back_answered(locked, &mut pass, answered)   answers  the reply
     /// }
     /// ```
     #[inline]

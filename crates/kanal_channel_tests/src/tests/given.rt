@@ -9,8 +9,7 @@ use kanal::{AsyncReceiver, AsyncSender};
 use kanal_channel::{CountedReceiver, CountedSender, Shared};
 use kanal_core::internal::ChannelInternal;
 use kanal_events::event::{Ask, Event, Reply, Side};
-use kanal_events::made::Tried;
-use kanal_history::NoHistory;
+use kanal_state::NoHistory;
 use std::alloc::AllocGlobal;
 use std::fmt::Debug;
 use std::process::Abort;
@@ -89,7 +88,7 @@ pub fn tell_late<R: Wait, T: Drop, F: FnOnce(), G: FnOnce()>(
     let mut pass = ();
     let mut locked = shared.hold(rt);
     match locked.state.start(shared.board(), &mut pass, event) {
-        Tried::Told(answered) => {
+        Ok(answered) => {
             held();
             let released = locked.release();
             between();
@@ -97,7 +96,7 @@ pub fn tell_late<R: Wait, T: Drop, F: FnOnce(), G: FnOnce()>(
             shared.look();
             Some(reply)
         },
-        Tried::MustWait(_event) => {
+        Err(_event) => {
             locked.give_back_quiet();
             None
         },

@@ -3,8 +3,8 @@
 //! Stands on the settling end and on the kit's linked list.
 ghost use Rattle.std.specs.Prelude.{◌≡◌, length};
 
+use crate::History;
 use crate::delivered::Settler;
-use kanal_history::History;
 use std::collections::LinkedList;
 use std::marker::Model;
 

@@ -3,16 +3,17 @@
 //! Stands on the state and on the tokens of `counted`. Who counts one more has its token, which has to be
 //! counted out. No other call counts a handle in.
 ghost use Rattle.std.specs.Prelude.{◌≡◌};
-ghost use Rattle.kanal_history.specs.Makes.{IsReplied};
-ghost use Rattle.kanal_history.specs.Results.{counted_by};
+ghost use Rattle.kanal_state.specs.Makes.{IsReplied};
+ghost use Rattle.kanal_state.specs.Results.{counted_by};
 ghost use Rattle.kanal_state.specs.Counts.{one_less, one_more, whether_counted};
 
 use super::State;
+use crate::History;
+use crate::answers::counted_by;
 use crate::counted::Counted;
 use crate::side::OfSide;
 use kanal_core::error::TooMany;
-use kanal_events::event::{Event, Reply, Side};
-use kanal_history::History;
+use kanal_events::event::{Event, Side};
 use std::snapshot::Snapshot;
 
 /// The call that counts one handle more of a side.
@@ -32,16 +33,6 @@ pub(super) fn one_less<T: Drop>(side: Side) -> Event<T>
     match side {
         Side::Tx => Event::DropTx,
         Side::Rx => Event::DropRx,
-    }
-}
-
-/// Whether one more was counted.
-fn counted_by<T: Drop>(reply: Reply<T>) -> Result<(), TooMany>
-    ensures { result ≡ counted_by reply }
-{
-    match reply {
-        Reply::Done => Ok(()),
-        _ => Err(TooMany),
     }
 }
 

@@ -6,14 +6,14 @@ ghost use Rattle.std.specs.Prelude.{◌≡◌, true};
 ghost use Rattle.kanal_core.specs.Line.{Line};
 ghost use Rattle.kanal_events.specs.Steps.{Tells, is_no_memory};
 ghost use Rattle.kanal_events.specs.Made.{reply_of, told_of};
-ghost use Rattle.kanal_history.specs.Entries.{told_by};
-ghost use Rattle.kanal_history.specs.Makes.{IsKept, IsNoted};
+ghost use Rattle.kanal_state.specs.Entries.{told_by};
+ghost use Rattle.kanal_state.specs.Makes.{IsKept, IsNoted};
 
+use crate::{Call, History};
 use kanal_board::EntryOf;
 use kanal_core::internal::{Ticket, Waiter};
 use kanal_events::event::{Event, Reply};
 use kanal_events::made::{Answered, Made};
-use kanal_history::{Call, History};
 use std::snapshot::Snapshot;
 
 /// An event, as it was before it was made.
@@ -23,7 +23,7 @@ pub(super) type Asked<T> = Snapshot<Event<T>>;
 pub(super) struct OfCall;
 
 impl<T, W> EntryOf<Asked<T>, Made<T, W>, Call<T>> for OfCall {
-    ghost use Rattle.kanal_history.specs.Entries.{call_from};
+    ghost use Rattle.kanal_state.specs.Entries.{call_from};
 
     ghost entry = { λ event made. call_from event.value made };
 }
@@ -33,7 +33,7 @@ pub(super) struct OfAnswer;
 
 impl<T, W> EntryOf<Asked<T>, Answered<T, W>, Call<T>> for OfAnswer {
     ghost use Rattle.kanal_events.specs.Made.{made_of};
-    ghost use Rattle.kanal_history.specs.Entries.{call_from};
+    ghost use Rattle.kanal_state.specs.Entries.{call_from};
 
     ghost entry = { λ event answered. call_from event.value (made_of answered) };
 }
@@ -42,7 +42,7 @@ impl<T, W> EntryOf<Asked<T>, Answered<T, W>, Call<T>> for OfAnswer {
 pub(super) struct OfReply;
 
 impl<T> EntryOf<Asked<T>, Reply<T>, Call<T>> for OfReply {
-    ghost use Rattle.kanal_history.specs.Entries.{replied};
+    ghost use Rattle.kanal_state.specs.Entries.{replied};
 
     ghost entry = { λ event reply. replied event.value reply };
 }
@@ -51,7 +51,7 @@ impl<T> EntryOf<Asked<T>, Reply<T>, Call<T>> for OfReply {
 pub(super) struct OfEntry;
 
 impl<T> EntryOf<Snapshot<T>, (), Call<T>> for OfEntry {
-    ghost use Rattle.kanal_history.specs.Entries.{entry};
+    ghost use Rattle.kanal_state.specs.Entries.{entry};
 
     ghost entry = { λ message _. entry message.value };
 }
@@ -60,7 +60,7 @@ impl<T> EntryOf<Snapshot<T>, (), Call<T>> for OfEntry {
 pub(super) struct OfReceipt;
 
 impl<T> EntryOf<T, (), Call<T>> for OfReceipt {
-    ghost use Rattle.kanal_history.specs.Entries.{receipt};
+    ghost use Rattle.kanal_state.specs.Entries.{receipt};
 
     ghost entry = { λ message _. receipt message };
 }
@@ -69,7 +69,7 @@ impl<T> EntryOf<T, (), Call<T>> for OfReceipt {
 pub(super) struct OfTriedEntry;
 
 impl<T> EntryOf<Snapshot<T>, (), Call<T>> for OfTriedEntry {
-    ghost use Rattle.kanal_history.specs.Entries.{tried_entry};
+    ghost use Rattle.kanal_state.specs.Entries.{tried_entry};
 
     ghost entry = { λ message _. tried_entry message.value };
 }
@@ -78,7 +78,7 @@ impl<T> EntryOf<Snapshot<T>, (), Call<T>> for OfTriedEntry {
 pub(super) struct OfTriedReceipt;
 
 impl<T> EntryOf<T, (), Call<T>> for OfTriedReceipt {
-    ghost use Rattle.kanal_history.specs.Entries.{tried_receipt};
+    ghost use Rattle.kanal_state.specs.Entries.{tried_receipt};
 
     ghost entry = { λ message _. tried_receipt message };
 }
@@ -88,7 +88,7 @@ pub(super) struct OfWithdrawal;
 
 impl<T, W> EntryOf<Ticket, Waiter<T, W>, Call<T>> for OfWithdrawal {
     ghost use Rattle.kanal_core.specs.Tickets.{number_of};
-    ghost use Rattle.kanal_history.specs.Entries.{withdrawal};
+    ghost use Rattle.kanal_state.specs.Entries.{withdrawal};
 
     ghost entry = { λ ticket waiter. withdrawal (number_of ticket) waiter.message };
 }

@@ -2,21 +2,24 @@
 //!
 //! Stands on the state and on the tokens of `counted`. They are made here alone: what a handle's drop or a
 //! notice counts out, it counts out by such a call.
-ghost use Rattle.std.specs.Prelude.{◌≡◌, IfNone, IfSome, Some};
+ghost use Rattle.std.specs.Prelude.{◌≡◌, IfNone, IfSome, Some, is_some};
 ghost use Rattle.kanal_core.specs.Channel.{line_of};
 ghost use Rattle.kanal_core.specs.Tickets.{number_of};
 ghost use Rattle.kanal_core.specs.Waiters.{waiter_of, with_w, without};
 ghost use Rattle.kanal_events.specs.Leaving.{Leave, gone_of};
 ghost use Rattle.kanal_events.specs.Steps.{Tells};
 ghost use Rattle.kanal_events.specs.Made.{settled_of, told_of, withdrawn};
-ghost use Rattle.kanal_history.specs.Calls.{IsDrop};
-ghost use Rattle.kanal_history.specs.Entries.{call_from};
-ghost use Rattle.kanal_history.specs.Words.{HaveShown};
+ghost use Rattle.kanal_state.specs.Calls.{IsDrop};
+ghost use Rattle.kanal_state.specs.Entries.{call_from};
+ghost use Rattle.kanal_state.specs.Words.{HaveShown};
 ghost use Rattle.kanal_state.specs.Counts.{one_less, ticket_of};
+ghost use Rattle.kanal_state.specs.Renewing.{TakesRoom};
+ghost use Rattle.kanal_state.specs.Seats.{HaveLeft};
 
 use super::State;
 use super::counting::one_less;
 use super::keeping::{Asked, OfCall, OfWithdrawal};
+use crate::History;
 use crate::counted::{Counted, CountedWait, GoneHandles, GoneWaits};
 use crate::seat::{Core, Leavers, Room, Seat};
 use crate::side::OfSide;
@@ -24,7 +27,6 @@ use kanal_core::internal::{Ticket, Waiter};
 use kanal_events::event::Event;
 use kanal_events::made::Made;
 use kanal_events::steps;
-use kanal_history::History;
 use std::alloc::Global;
 use std::collections::LinkedList;
 use std::marker::Model;
@@ -43,7 +45,7 @@ pub struct Gone<T, H: History<T>> {
 impl<T, H: History<T>> Model for Gone<T, H> {
     ghost use Rattle.kanal_events.specs.declared.made.Made.{Made};
     ghost use Rattle.kanal_events.specs.Made.{settled_of};
-    ghost use Rattle.kanal_history.specs.Words.{HaveShown};
+    ghost use Rattle.kanal_state.specs.Words.{HaveShown};
     ghost use Rattle.kanal_state.specs.Renewing.{Brought};
 
     ghost Value = { Made T Brought };
@@ -69,9 +71,10 @@ impl<T: Drop, H: History<T>> Gone<T, H> {
     }
 }
 
-/// Takes the room out of the seat that waits with the ticket. The line stays.
+/// Takes the room out of the seat that waits with the ticket, if there is one. The line stays.
 fn take_room<T: Drop, H: History<T>>(core: &mut Core<T, H>, ticket: Ticket) -> Option<Room<T, H>>
     ensures line { line_of core.new ≡ line_of core.old }
+    ensures taken { TakesRoom ticket core.old.waiters core.new.waiters (is_some result) }
 {
     core.waiting(ticket)?.take_room()
 }
@@ -221,7 +224,8 @@ impl<T: Drop, H: History<T>> State<T, H> {
     }
 
     /// Withdraws all waits that were left, and hands out their entries, the last that left first. It asks for
-    /// no memory: each is kept in the room that its seat brought.
+    /// no memory: each is kept in the room that its seat brought. No clause says that these are all: who leaves
+    /// does so in its cell, and at any moment.
     ///
     /// # Examples
     /// ```text
@@ -232,7 +236,9 @@ impl<T: Drop, H: History<T>> State<T, H> {
         board: &H::Board,
         alloc: Global,
         waits: GoneWaits,
-    ) -> Leavers<T, H> {
+    ) -> Leavers<T, H>
+        ensures left { HaveLeft self.old.2 result self.new.2 }
+    {
         waits.seek();
         let mut leavers = LinkedList::new(alloc);
         let mut found = self.core.first_waiter(|seat| seat.is_left());
@@ -245,8 +251,7 @@ impl<T: Drop, H: History<T>> State<T, H> {
                 return leavers;
             };
             let Some(waiter) = self.withdraw_by_nobody(board, ticket) else {
-                drop(room);
-                return leavers;
+                unreachable!()
             };
             leavers = room.keep(waiter, leavers);
         }

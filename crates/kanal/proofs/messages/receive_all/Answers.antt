@@ -1,5 +1,5 @@
 use Rattle.std.proofs.Common.{of_calls, Err, [], ◌∷◌, refl, subst}
-use Rattle.kanal_history.specs.Handles.{Receives}
+use Rattle.kanal_state.specs.Handles.{Receives}
 use Rattle.kanal.proofs.messages.receive_all.Goals as goal
 
 pub loop-init : goal.loop-init

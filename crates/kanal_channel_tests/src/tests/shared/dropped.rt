@@ -4,7 +4,7 @@ use crate::tests::given::{common, equal, holds, new_task};
 use futures::task::Poll;
 use kanal_channel::Shared;
 use kanal_futures::send_future;
-use kanal_history::NoHistory;
+use kanal_state::NoHistory;
 use std::alloc::{AllocGlobal, Global};
 use std::process::Abort;
 use std::sync::Arc;

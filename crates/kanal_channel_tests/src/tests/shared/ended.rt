@@ -3,7 +3,7 @@ use crate::tests::given::{common, equal, handles, holds};
 use kanal_channel::Shared;
 use kanal_core::error::{ReceiveError, SendError};
 use kanal_given::{Counted, Drops};
-use kanal_history::NoHistory;
+use kanal_state::NoHistory;
 use std::sync::Wait;
 use std::thread;
 

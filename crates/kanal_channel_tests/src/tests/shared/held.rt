@@ -6,7 +6,7 @@ use kanal_channel::Shared;
 use kanal_core::error::{ReceiveError, SendError};
 use kanal_futures::{ReceiveFuture, receive_future};
 use kanal_given::{Counted, Drops};
-use kanal_history::NoHistory;
+use kanal_state::NoHistory;
 use std::alloc::AllocGlobal;
 use std::process::Abort;
 use std::sync::Wait;

@@ -3,7 +3,7 @@ use crate::tests::given::{channel, equal, holds, tell_late};
 use crate::tests::shared::ended::begins;
 use kanal_channel::{Clock, Shared};
 use kanal_events::event::{Event, Reply};
-use kanal_history::NoHistory;
+use kanal_state::NoHistory;
 use std::sync::Wait;
 use std::sync::atomic::AtomicU64;
 use std::sync::atomic::Ordering::SeqCst;

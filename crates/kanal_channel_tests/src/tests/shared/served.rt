@@ -5,9 +5,8 @@ use kanal::AsyncSender;
 use kanal_channel::Shared;
 use kanal_core::error::{ReceiveError, SendError};
 use kanal_events::event::{Event, Reply};
-use kanal_events::made::Tried;
 use kanal_futures::{receive_future, send_future};
-use kanal_history::NoHistory;
+use kanal_state::NoHistory;
 use std::process::Abort;
 use std::sync::Wait;
 
@@ -103,19 +102,22 @@ fn a_poll_of_a_send_applies_the_notices_that_it_finds(rt: HostRuntime) {
     );
 }
 
-/// Two futures wait; one is dropped under the lock, and the other still waits after it.
+/// Three futures wait; two are dropped under the lock, and the third still waits after it, alone.
 #[test]
 fn who_did_not_leave_waits_on(rt: HostRuntime) {
     let shared = channel::<u64>(&rt, 0);
     let task = new_task(&rt);
     let (mut first, mut second) = (receive_future(&shared), receive_future(&shared));
+    let mut third = receive_future(&shared);
     equal(&rt, task.poll(&mut first), Poll::Pending);
     equal(&rt, task.poll(&mut second), Poll::Pending);
+    equal(&rt, task.poll(&mut third), Poll::Pending);
     let locked = shared.hold(&rt);
     drop(first);
+    drop(second);
     locked.give_back_quiet();
     holds(&rt, shared.try_send(&rt, &mut (), 7) == Ok(true));
-    equal(&rt, task.poll(&mut second), Poll::Ready(Ok(7)));
+    equal(&rt, task.poll(&mut third), Poll::Ready(Ok(7)));
 }
 
 /// The message of a send that waits is taken, and the send is settled only after its next poll.
@@ -153,13 +155,13 @@ fn serve_beside_a_notice<R: Abort>(
         .state
         .start(shared.board(), &mut pass, Event::Send(7))
     {
-        Tried::Told(answered) => {
+        Ok(answered) => {
             drop(sender);
             let made = answered.into_made();
             let reply = shared.give_back_tried(locked, left, &mut pass, made);
             holds(rt, matches!(reply, Reply::Sent));
         },
-        Tried::MustWait(_event) => {
+        Err(_event) => {
             let released = locked.release();
             shared.tell_left(left, &released);
             equal(rt, "it must wait", "it is told");

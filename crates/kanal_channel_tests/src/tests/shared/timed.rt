@@ -5,7 +5,7 @@ use kanal::AsyncSender;
 use kanal_channel::{Clock, Shared, TestClock};
 use kanal_core::error::SendErrorTimeout;
 use kanal_futures::send_future;
-use kanal_history::NoHistory;
+use kanal_state::NoHistory;
 use std::cell::Cell;
 use std::time::Duration;
 

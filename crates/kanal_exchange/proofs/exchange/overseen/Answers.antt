@@ -1,8 +1,8 @@
 use Rattle.std.proofs.Common.{◌≡◌, ◌++◌, ap, ◌∙◌, subst}
 use mathlib.Core.List.{IsPrefix}
 use Rattle.kanal_board.specs.Views.{Known, OwnsAllButQuiet}
-use Rattle.kanal_history.specs.declared.call.Call.{Call}
-use Rattle.kanal_history.specs.Calls.{IsSilent}
+use Rattle.kanal_state.specs.declared.call.Call.{Call}
+use Rattle.kanal_state.specs.Calls.{IsSilent}
 use Rattle.kanal_exchange.proofs.Telling.{exchanged}
 use Rattle.kanal_exchange.proofs.exchange.overseen.Goals as goal
 

@@ -2,8 +2,8 @@ use Rattle.std.proofs.Common.{◌≡◌, ◌++◌, ap, ◌∙◌, subst}
 use mathlib.Core.List.{IsPrefix}
 use Rattle.kanal_board.specs.Views.{AreApart, Known, OwnsAllButQuiet}
 use Rattle.kanal_board.proofs.Fronts.{prefix_trans}
-use Rattle.kanal_history.specs.declared.call.Call.{Call}
-use Rattle.kanal_history.specs.Calls.{IsSilent}
+use Rattle.kanal_state.specs.declared.call.Call.{Call}
+use Rattle.kanal_state.specs.Calls.{IsSilent}
 use Rattle.kanal_exchange.proofs.Merging.{merged}
 use Rattle.kanal_exchange.proofs.gathering.overseen.Goals as goal
 

@@ -1,4 +1,4 @@
-use Rattle.kanal_history.specs.Handles.{Receives}
+use Rattle.kanal_state.specs.Handles.{Receives}
 use Rattle.kanal.proofs.Calling.{by_caller}
 use Rattle.kanal.proofs.receiver_view.ReceiverView.recv.Goals as goal
 

@@ -1,5 +1,5 @@
 use Rattle.std.specs.Duration.{as_nanos}
-use Rattle.kanal_history.specs.Handles.{ReceivesInTime}
+use Rattle.kanal_state.specs.Handles.{ReceivesInTime}
 use Rattle.kanal.proofs.Calling.{by_caller}
 use Rattle.kanal.proofs.receiver_view.ReceiverView.recv_timeout.Goals as goal
 

@@ -1,4 +1,4 @@
-use Rattle.kanal_history.specs.Handles.{Sends}
+use Rattle.kanal_state.specs.Handles.{Sends}
 use Rattle.kanal.proofs.Calling.{by_caller}
 use Rattle.kanal.proofs.sender_view.SenderView.send.Goals as goal
 

@@ -1,6 +1,6 @@
 use Rattle.std.proofs.Common.{IfSome}
 use Rattle.std.specs.Duration.{as_nanos}
-use Rattle.kanal_history.specs.Handles.{SendsInTime}
+use Rattle.kanal_state.specs.Handles.{SendsInTime}
 use Rattle.kanal.proofs.Calling.{by_caller}
 use Rattle.kanal.proofs.sender_view.SenderView.send_option_timeout.Goals as goal
 

@@ -1,5 +1,5 @@
 use Rattle.std.specs.Duration.{as_nanos}
-use Rattle.kanal_history.specs.Handles.{SendsInTime}
+use Rattle.kanal_state.specs.Handles.{SendsInTime}
 use Rattle.kanal.proofs.Calling.{by_caller}
 use Rattle.kanal.proofs.sender_view.SenderView.send_timeout.Goals as goal
 

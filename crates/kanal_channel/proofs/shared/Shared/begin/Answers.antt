@@ -1,7 +1,12 @@
-use Rattle.kanal_channel.proofs.Starting.{begun_from}
+use Rattle.kanal_channel.proofs.Starting.{begun_on, refused_on}
 use Rattle.kanal_channel.proofs.shared.Shared.begin.Goals as goal
 
-pub returns-in-Err : goal.returns-in-Err
-returns-in-Err g c =
-    let looked = c.in-Err.ensures in
-    record { begun = begun_from g.H.History.words g.met.H.History.sound c.args.pass.now c.look_once.new.pass c.begin_held-in-Err.new.pass c.args.event c.in-Err.event c.begin_held-in-Err.result looked.back.1 looked.looks c.begin_held-in-Err.ensures.begun }
+pub returns-clause-begun : goal.returns-clause-begun
+returns-clause-begun g c =
+    let started = c.in_ok-locked.ensures in
+    begun_on g.H.History.words g.met.H.History.sound c.args.pass.now c.start.new.pass c.begin_held-2.new.pass c.args.event c.in_ok-locked.event started.looks started.back.1 c.begin_held-2.result c.begin_held-2.ensures.begun
+
+pub returns-clause-replied : goal.returns-clause-replied
+returns-clause-replied g c =
+    let started = c.in_ok-locked.ensures in
+    refused_on g.H.History.words g.met.H.History.sound c.args.pass.now c.start.new.pass c.begin_held-2.new.pass c.args.event c.in_ok-locked.event started.looks started.back.1 c.begin_held-2.result c.begin_held-2.ensures.replied

@@ -1,5 +1,5 @@
 use Rattle.std.proofs.Common.{Ok}
-use Rattle.kanal_history.proofs.Exchanging.{receives_got}
+use Rattle.kanal_state.proofs.Exchanging.{receives_got}
 use Rattle.kanal_state.proofs.Settling.{received_at_once, received_from}
 use Rattle.kanal_channel.proofs.shared.Shared.recv.Goals as goal
 

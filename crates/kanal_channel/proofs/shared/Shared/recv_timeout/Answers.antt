@@ -1,9 +1,9 @@
 use Rattle.std.proofs.Common.{◌<◌, ◌^◌, refl, inl, subst}
 use Rattle.kanal_events.specs.declared.event.Event.TheVariants.{Recv}
 use Rattle.std.specs.Duration.{as_nanos}
-use Rattle.kanal_history.specs.Handles.{ReceivesBy, ReceivesInTime}
-use Rattle.kanal_history.proofs.Exchanging.{receives_in_time_got}
-use Rattle.kanal_history.specs.Results.{receive_in_time}
+use Rattle.kanal_state.specs.Handles.{ReceivesBy, ReceivesInTime}
+use Rattle.kanal_state.proofs.Exchanging.{receives_in_time_got}
+use Rattle.kanal_state.specs.Results.{receive_in_time}
 use Rattle.kanal_channel.proofs.Ending.{finishes_by}
 use Rattle.kanal_channel.proofs.shared.Shared.recv_timeout.Goals as goal
 

@@ -1,5 +1,5 @@
 use Rattle.std.proofs.Common.{Ok}
-use Rattle.kanal_history.proofs.Exchanging.{sends_put}
+use Rattle.kanal_state.proofs.Exchanging.{sends_put}
 use Rattle.kanal_state.proofs.Settling.{sent_at_once, sent_from}
 use Rattle.kanal_channel.proofs.shared.Shared.send.Goals as goal
 

@@ -1,4 +1,4 @@
-use Rattle.kanal_history.proofs.Exchanging.{sends_in_time_put}
+use Rattle.kanal_state.proofs.Exchanging.{sends_in_time_put}
 use Rattle.kanal_channel.proofs.shared.Shared.send_timeout.Goals as goal
 
 pub returns-clause-put : goal.returns-clause-put

@@ -1,4 +1,4 @@
-use Rattle.kanal_history.proofs.Exchanging.{tries_put}
+use Rattle.kanal_state.proofs.Exchanging.{tries_put}
 use Rattle.kanal_channel.proofs.shared.Shared.try_send.Goals as goal
 
 pub returns-clause-put : goal.returns-clause-put

@@ -1,6 +1,6 @@
 use Rattle.std.proofs.Common.{subst, sym}
 use Rattle.kanal_events.specs.Made.{made_of, settled_of}
-use Rattle.kanal_history.specs.Words.{HaveSettled, nothing_told, nothing_sound}
+use Rattle.kanal_state.specs.Words.{HaveSettled, nothing_told, nothing_sound}
 use Rattle.kanal_state.proofs.Settling.{noted_settled}
 use Rattle.kanal_channel_tests.proofs.tests.given.tell_late.Goals as goal
 

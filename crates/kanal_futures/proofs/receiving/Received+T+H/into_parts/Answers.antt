@@ -1,4 +1,4 @@
-use Rattle.kanal_history.proofs.Exchanging.{receives_got}
+use Rattle.kanal_state.proofs.Exchanging.{receives_got}
 use Rattle.kanal_futures.proofs.receiving.Received+T+H.into_parts.Goals as goal
 
 pub returns-clause-got : goal.returns-clause-got

@@ -1,4 +1,4 @@
-use Rattle.kanal_history.proofs.Exchanging.{sends_put}
+use Rattle.kanal_state.proofs.Exchanging.{sends_put}
 use Rattle.kanal_futures.proofs.sending.Sent+T+H.into_parts.Goals as goal
 
 pub returns-clause-put : goal.returns-clause-put

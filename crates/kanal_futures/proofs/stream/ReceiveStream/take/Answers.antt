@@ -1,5 +1,5 @@
 use Rattle.std.proofs.Common.{Ok, Err, subst}
-use Rattle.kanal_history.specs.Handles.{Receives}
+use Rattle.kanal_state.specs.Handles.{Receives}
 use Rattle.kanal_futures.proofs.stream.ReceiveStream.take.Goals as goal
 
 pub returns-in-Ok-clause-received : goal.returns-in-Ok-clause-received

@@ -1,7 +1,7 @@
 use Rattle.std.proofs.Common.{subst, sym}
 use Rattle.kanal_board.specs.Shares.{HasShare}
 use Rattle.kanal_board.specs.Views.{Known}
-use Rattle.kanal_history.specs.declared.call.Call.{Call}
+use Rattle.kanal_state.specs.declared.call.Call.{Call}
 use Rattle.kanal_one_history.proofs.Telling.{legal-more, shown-more, line-more}
 use Rattle.kanal_one_history.proofs.history.GhostHistoryHistory.append.Goals as goal
 

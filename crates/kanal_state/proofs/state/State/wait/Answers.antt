@@ -1,7 +1,7 @@
 use Rattle.std.proofs.Common.{subst}
 use Rattle.kanal_events.specs.Made.{Keeps}
-use Rattle.kanal_history.specs.Entries.{replied}
-use Rattle.kanal_history.specs.Makes.{HasReplied}
+use Rattle.kanal_state.specs.Entries.{replied}
+use Rattle.kanal_state.specs.Makes.{HasReplied}
 use Rattle.kanal_state.proofs.Settling.{kept_replied}
 use Rattle.kanal_state.proofs.state.State.wait.Goals as goal
 

@@ -4,7 +4,7 @@ use Rattle.kanal_core.specs.Tickets.{number_of}
 use Rattle.kanal_events.specs.declared.event.Event.TheVariants.{Withdraw}
 use Rattle.kanal_events.specs.Made.{withdrawn}
 use Rattle.kanal_events.specs.Steps.{Tells}
-use Rattle.kanal_history.proofs.Telling.{tells_step}
+use Rattle.kanal_state.proofs.Telling.{tells_step}
 use Rattle.kanal_state.specs.Counts.{ticket_of}
 use Rattle.kanal_state.proofs.Noting.{told-on}
 use Rattle.kanal_state.proofs.state.State.withdraw.Goals as goal

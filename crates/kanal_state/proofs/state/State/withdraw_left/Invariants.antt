@@ -1,6 +1,7 @@
 use Rattle.std.proofs.Common.{◌≤◌, length}
+use Rattle.kanal_state.specs.Seats.{HaveLeft}
 use Rattle.kanal_state.proofs.state.State.withdraw_left.Given as goal
 
--- at most one is kept a round
+-- at most one is kept a round, and those that are kept have left
 abbrev pub invariant-loop-count : goal.invariant-loop-count
-invariant-loop-count g l = length l.leavers ≤ l._count
+invariant-loop-count g l = (length l.leavers ≤ l._count) × HaveLeft l.initial.self.2 l.leavers l.self.2

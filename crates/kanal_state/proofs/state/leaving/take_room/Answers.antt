@@ -1,5 +1,13 @@
-use Rattle.kanal_state.proofs.Renewing.{line-with}
+use Rattle.std.proofs.Common.{ap, sym, ◌∙◌}
+use Rattle.std.specs.Option.{option_copied_mut}
+use Rattle.kanal_state.proofs.Renewing.{line-with, takes_room}
 use Rattle.kanal_state.proofs.state.leaving.take_room.Goals as goal
 
-pub returns : goal.returns
-returns g c = record { line = line-with c.args.core.now c.args.ticket _ }
+pub returns-clause-line : goal.returns-clause-line
+returns-clause-line g c = line-with c.args.core.now _ _
+
+pub returns-clause-taken : goal.returns-clause-taken
+returns-clause-taken g c =
+    let was = ap option_copied_mut (sym c.in_ok-waiting.was) ∙ c.waiting.ensures.value in
+    takes_room c.args.ticket c.args.core.now.waiters c.in_ok-waiting.field-0.now c.take_room.new.self _
+    was c.take_room.ensures.taken c.take_room.ensures.stays

@@ -1,0 +1,76 @@
+//! The waiting end of a blocked call, before and after the cell knows that it sleeps.
+//!
+//! Stands on the cell, on whose own word a call sleeps, so that it asks for no memory. The types keep that
+//! an end is polled only before it left, and put to sleep once.
+ghost use Rattle.std.specs.Prelude.{◌≡◌};
+ghost use Rattle.kanal_cell.specs.CellRule.{HasNotLeft, MaySleep};
+ghost use Rattle.kanal_cell.specs.CellEnds.{wait_view};
+
+use crate::signal::WaitEnd;
+use std::sync::Wait;
+use std::time::Duration;
+
+/// A waiting end that has neither slept nor had its outcome.
+#[derive(Drop)]
+pub(super) struct Awake<P> {
+    end: WaitEnd<P>,
+    ghost unspent: { MaySleep (wait_view end) },
+}
+
+/// A waiting end whose cell may know that it sleeps.
+#[derive(Drop)]
+pub(super) struct Asleep<P> {
+    end: WaitEnd<P>,
+    ghost unspent: { HasNotLeft (wait_view end) },
+}
+
+impl<P: Drop> Awake<P> {
+    /// Over an end that may still sleep.
+    pub(super) fn new(end: WaitEnd<P>) -> Self
+        requires { MaySleep (wait_view end) }
+        ensures { result.end ≡ end }
+    {
+        Awake { end }
+    }
+
+    /// Whether the outcome is worth a poll.
+    #[inline(always)]
+    pub(super) fn is_settled(&self) -> bool {
+        self.end.is_settled()
+    }
+
+    /// The outcome, or the end back.
+    pub(super) fn poll(self) -> Result<P, Self> {
+        let Awake { mut end } = self;
+        match end.poll() {
+            Some(outcome) => Ok(outcome),
+            None => Err(Awake { end }),
+        }
+    }
+
+    /// The outcome, or the end that the settle will wake.
+    pub(super) fn sleep(self) -> Result<P, Asleep<P>> {
+        let Awake { mut end } = self;
+        match end.sleep_here() {
+            Some(outcome) => Ok(outcome),
+            None => Err(Asleep { end }),
+        }
+    }
+}
+
+impl<P: Drop> Asleep<P> {
+    /// The outcome, if it is there.
+    pub(super) fn poll(&mut self) -> Option<P> {
+        self.end.poll()
+    }
+
+    /// Sleeps until the settle wakes it, or for no reason.
+    pub(super) fn park<R: Wait>(&self, rt: &R) {
+        self.end.park(rt);
+    }
+
+    /// The same, for no longer than the duration.
+    pub(super) fn park_timeout<R: Wait>(&self, rt: &R, duration: Duration) {
+        self.end.park_timeout(rt, duration);
+    }
+}

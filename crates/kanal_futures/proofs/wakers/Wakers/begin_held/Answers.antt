@@ -1,0 +1,23 @@
+use Rattle.std.proofs.Common.{◌≡◌, Result, Ok, Err, IfErr, subst, sym}
+use Rattle.std.specs.Result.{IsErrAnd}
+use Rattle.kanal_state.specs.Makes.{HasReplied}
+use Rattle.kanal_state.proofs.Settling.{replied_on, waiting_on}
+use Rattle.kanal_futures.proofs.wakers.Wakers.begin_held.Goals as goal
+
+handed-on : {A E : Type 0} (r : Result A E) (x : E) (P : E → Type 0) → IsErrAnd r (λ e. e ≡ x) → P x → IfErr r P
+handed-on (Ok a) x P is p = tt
+handed-on (Err e) x P is p = subst P (sym is) p
+
+pub returns-in_err-counted-clause-replied : goal.returns-in_err-counted-clause-replied
+returns-in_err-counted-clause-replied g c =
+    let w = g.H.History.words in
+    let started = c.in_ok-locked.ensures in
+    let old = c.args.pass.now in
+    let new = c.wait.new.pass in
+    let replied = replied_on w g.met.H.History.sound old c.start.new.pass new c.args.event c.in_ok-locked.event _ started.looks started.back.1 c.in_err-counted.ensures.replied in
+    handed-on c.from_residual-in_err-counted.result _ (HasReplied w old new c.args.event) c.from_residual-in_err-counted.ensures.1 replied
+
+pub returns-clause-begun : goal.returns-clause-begun
+returns-clause-begun g c =
+    let started = c.in_ok-locked.ensures in
+    waiting_on g.H.History.words g.met.H.History.sound c.args.pass.now c.start.new.pass c.wait.new.pass c.args.event c.in_ok-locked.event c.in_ok-counted.counted started.looks started.back.1 c.in_ok-counted.ensures.waiting

@@ -1,0 +1,58 @@
+//! Who makes a call of a handle, or of a stream.
+//!
+//! The pass of no content is made here alone. A handle's call is generic in its caller: it gets one pass, knows
+//! nothing of it, and gives it back at the end. So each call that it makes on the channel shows in that pass,
+//! and the prover refuses one more than its clause names.
+ghost use Rattle.std.specs.Prelude.{◌≡◌};
+
+use std::sync::Wait;
+
+/// Who makes a call: `&rt`, the runtime value.
+///
+/// To contracts a caller is the pass of the channel's history, as it was before the call and as it is after
+/// it. The pass has no content where the channel has no history. A call by a pass of content is one of
+/// `channel`, which is lent the pass.
+pub trait Caller<P> {
+    /// What the call waits by.
+    type Runtime: Wait + Drop;
+    /// What takes the pass back. It can't be let go otherwise.
+    type End;
+
+    /// The pass before the call.
+    ghost before: { Self → P };
+
+    /// The pass after the call.
+    ghost after: { Self → P };
+
+    /// The pass that is to come back.
+    ghost owed: { Self.End → P };
+
+    /// Begins a call: what it waits by, the pass, and what takes the pass back.
+    fn begin(self) -> (Self::Runtime, P, Self::End)
+        ensures before { result.1 ≡ before self }
+        ensures owed { owed result.2 ≡ after self };
+
+    /// Ends the call, with its pass.
+    fn end(end: Self::End, pass: P)
+        ensures back { pass ≡ owed end };
+}
+
+impl<'r, R: Wait> Caller<()> for &'r R {
+    type Runtime = &'r R;
+
+    type End = ();
+
+    ghost before = { λ _. tt };
+
+    ghost after = { λ _. tt };
+
+    ghost owed = { λ _. tt };
+
+    #[inline(always)]
+    fn begin(self) -> (&'r R, (), ()) {
+        (self, (), ())
+    }
+
+    #[inline(always)]
+    fn end(_end: (), _pass: ()) {}
+}

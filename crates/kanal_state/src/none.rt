@@ -1,0 +1,74 @@
+//! No history: nothing is kept of calls, and nobody needs a pass.
+//!
+//! Stands on the trait. It has no bytes, and neither has what it gives out.
+ghost use Rattle.std.specs.Prelude.{◌≡◌};
+
+use crate::call::Call;
+use crate::history::History;
+use kanal_board::EntryOf;
+
+/// Nothing is kept of calls. It is the history of a channel of plain handles.
+#[derive(Drop)]
+pub struct NoHistory;
+
+impl<T> History<T> for NoHistory {
+    ghost use Rattle.kanal_state.specs.Exchanges.{nothing_exchanged};
+    ghost use Rattle.kanal_state.specs.Words.{nothing_told, nothing_sound};
+
+    type Pass = ();
+
+    type Board = ();
+
+    type Prefix = ();
+
+    type Cleanup = ();
+
+    ghost stands = { λ _ _. Unit {0} };
+
+    ghost words = { nothing_told };
+
+    ghost cleans = { nothing_told };
+
+    ghost exchanges = { λ _ _ _ _. Unit {0} };
+
+    ghost shows = { λ _ _. Unit {0} };
+
+    #[inline(always)]
+    fn append<X, Y, M: EntryOf<X, Y, Call<T>>>(
+        &mut self,
+        _board: &(),
+        _pass: &mut (),
+        _about: &X,
+        _answer: &Y,
+    ) {}
+
+    #[inline(always)]
+    fn append_silent<X, Y, M: EntryOf<X, Y, Call<T>>>(
+        &mut self,
+        _board: &(),
+        _cleanup: &mut (),
+        _about: &X,
+        _answer: &Y,
+    ) {}
+
+    #[inline(always)]
+    fn cleanup_prefix(_board: &(), _cleanup: &mut ()) {}
+
+    #[inline(always)]
+    fn show(&mut self, _board: &(), _pass: &mut ()) {}
+
+    #[inline(always)]
+    fn prefix(_board: &(), _pass: &mut ()) {}
+
+    #[inline(always)]
+    fn again(_board: &(), _prefix: &mut ()) {}
+
+    #[inline(always)]
+    fn learn(_board: &(), _pass: &mut (), _prefix: ()) {}
+
+    ghost sound = { nothing_sound };
+
+    ghost cleans_sound = { nothing_sound };
+
+    ghost tells_exchanges = { nothing_exchanged };
+}

@@ -1,5 +1,6 @@
 -- What a receiver's iterator hands out, and how a loop over its messages ends.
 use Rattle.std.specs.Prelude.{◌≡◌, List, [], ◌∷◌, Option, Result, Ok, Err, MatchOption, MatchResult}
+use denote.Param.Members.{Mut, Called}
 use Rattle.kanal_core.specs.declared.error.ReceiveError.{ReceiveError}
 use Rattle.kanal_core.specs.declared.error.ReceiveError.TheVariants.{SendClosed}
 use Rattle.kanal_state.specs.Handles.{Receives}
@@ -14,15 +15,33 @@ module _ {T P : Type 0} (w : Words T P) where
   abbrev pub ReceivesNext : P → P → Option T → Type 0
   ReceivesNext old new item = MatchOption item (IsRefused old new) (λ message. Receives w old new (Ok message))
 
-  -- the messages were received one after the other, the last of them first in the list
-  abbrev pub ReceivesEach : P → P → List T → Type 0
-  ReceivesEach old new [] = old ≡ new
-  ReceivesEach old new (message ∷ earlier) = (mid : P) × ReceivesEach old mid earlier × Receives w mid new (Ok message)
+module _ {T P F R : Type 0} (w : Words T P) (call : Mut F (T × Unit {0}) R) where
+  -- the messages were received one after the other, the last of them first in the list, and each was handed to the call, which answered so
+  abbrev pub HandsEach : R → P → F → List T → P → F → Type 0
+  HandsEach went old first [] new last = (old ≡ new) × (first ≡ last)
+  HandsEach went old first (message ∷ earlier) new last =
+      (mid : P) × (f : F) × HandsEach went old first earlier mid f × Receives w mid new (Ok message) × Called call f (message, tt) went last
 
-  -- messages were received one after the other, and the next receive was refused so
-  abbrev pub EndsBy : P → P → ReceiveError → Type 0
-  EndsBy old new error = (messages : List T) × (mid : P) × ReceivesEach old mid messages × Receives w mid new (Err error)
+  -- each message that was received was handed to the call, which answered so, and the next receive was refused with this error
+  abbrev pub EndsBy : R → P → P → F → ReceiveError → Type 0
+  EndsBy went old new first error =
+      (messages : List T) × (mid : P) × (last : F) × HandsEach went old first messages mid last × Receives w mid new (Err error)
 
-  -- the last receive was refused: since no sender is left where the loop answers `Ok`, and otherwise as it answers
-  abbrev pub ReceivesAll : P → P → Result (Unit {0}) ReceiveError → Type 0
-  ReceivesAll old new answer = MatchResult answer (λ _. EndsBy old new SendClosed) (λ error. EndsBy old new error)
+module _ {T P F : Type 0} (w : Words T P) (call : Mut F (T × Unit {0}) (Unit {0})) where
+  -- each message was handed to the call, until a receive was refused: since no sender is left where the loop answers `Ok`, and otherwise as it answers
+  abbrev pub ReceivesAll : P → P → F → Result (Unit {0}) ReceiveError → Type 0
+  ReceivesAll old new first answer = MatchResult answer (λ _. EndsBy w call tt old new first SendClosed) (λ error. EndsBy w call tt old new first error)
+
+module _ {T P F E : Type 0} (w : Words T P) (call : Mut F (T × Unit {0}) (Result (Unit {0}) E)) where
+  -- the call answered `Ok` of each message that was received before the last, and this error of the last
+  abbrev pub BreaksOff : P → P → F → E → Type 0
+  BreaksOff old new first error =
+      (earlier : List T) × (mid : P) × (f : F) × (message : T) × (last : F)
+      × HandsEach w call (Ok tt) old first earlier mid f × Receives w mid new (Ok message) × Called call f (message, tt) (Err error) last
+
+  -- as `ReceivesAll`, where the call answered `Ok` each time; or it broke off at an error of the call
+  abbrev pub ReceivesUntil : P → P → F → Result (Result (Unit {0}) E) ReceiveError → Type 0
+  ReceivesUntil old new first answer =
+      MatchResult answer
+      (λ ended. MatchResult ended (λ _. EndsBy w call (Ok tt) old new first SendClosed) (λ error. BreaksOff old new first error))
+      (λ error. EndsBy w call (Ok tt) old new first error)

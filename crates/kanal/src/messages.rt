@@ -1,13 +1,12 @@
-//! The messages that a receiver goes through.
+//! The messages that a receiver goes through: the iterator, and the loops of `for_each` and `try_for_each`.
 //!
-//! Stands on the receiver for tasks and on who makes a call.
+//! No other module receives more than one message in a call.
 ghost use Rattle.std.specs.Prelude.{IsErrOf};
 ghost use Rattle.kanal.specs.Handles.{pass_of};
-ghost use Rattle.kanal.specs.Messages.{ReceivesAll, ReceivesNext};
+ghost use Rattle.kanal.specs.Messages.{ReceivesAll, ReceivesNext, ReceivesUntil};
 
 use crate::async_receiver::AsyncReceiver;
 use kanal_core::error::ReceiveError;
-
 use kanal_state::{Caller, History, NoHistory};
 use std::sync::Wait;
 
@@ -49,7 +48,7 @@ pub(crate) fn for_each<T: Drop, H: History<T>, R: Caller<H::Pass>, F: FnMut(T)>(
     call: F,
 ) -> Result<(), ReceiveError>
     requires callable { F.IsAlwaysCallable call }
-    ensures received { ReceivesAll H.words (R.before rt) (R.after rt) result }
+    ensures received { ReceivesAll H.words F.FnMut (R.before rt) (R.after rt) call result }
     ensures ended { IsErrOf result ReceiveError.SendClosed → ⊥ }
 {
     let (rt, mut pass, end) = rt.begin();
@@ -58,7 +57,49 @@ pub(crate) fn for_each<T: Drop, H: History<T>, R: Caller<H::Pass>, F: FnMut(T)>(
     answer
 }
 
+/// Hands each message that comes to the call, until a receive is refused or the call answers an error.
+pub(crate) fn try_for_each<
+    T: Drop,
+    E: Drop,
+    H: History<T>,
+    R: Caller<H::Pass>,
+    F: FnMut(T) -> Result<(), E>,
+>(rt: R, receiver: &AsyncReceiver<T, H>, call: F) -> Result<Result<(), E>, ReceiveError>
+    requires callable { F.IsAlwaysCallable call }
+    ensures received { ReceivesUntil H.words F.FnMut (R.before rt) (R.after rt) call result }
+    ensures ended { IsErrOf result ReceiveError.SendClosed → ⊥ }
+{
+    let (rt, mut pass, end) = rt.begin();
+    let answer = receive_until(&rt, receiver, &mut pass, call);
+    R::end(end, pass);
+    answer
+}
+
 /// The same, by this pass.
+fn receive_until<T: Drop, E: Drop, H: History<T>, R: Wait, F: FnMut(T) -> Result<(), E>>(
+    rt: &R,
+    receiver: &AsyncReceiver<T, H>,
+    pass: &mut H::Pass,
+    mut call: F,
+) -> Result<Result<(), E>, ReceiveError>
+    requires callable { F.IsAlwaysCallable call }
+    ensures received { ReceivesUntil H.words F.FnMut pass.old pass.new call result }
+    ensures ended { IsErrOf result ReceiveError.SendClosed → ⊥ }
+{
+    for _ in rt.forever() {
+        match receiver.channel().recv(rt, pass) {
+            Ok(message) => match call(message) {
+                Ok(()) => {},
+                Err(error) => return Ok(Err(error)),
+            },
+            Err(ReceiveError::SendClosed) => return Ok(Ok(())),
+            Err(error) => return Err(error),
+        }
+    }
+    unreachable!()
+}
+
+/// The same as `for_each`, by this pass.
 fn receive_all<T: Drop, H: History<T>, R: Wait, F: FnMut(T)>(
     rt: &R,
     receiver: &AsyncReceiver<T, H>,
@@ -66,7 +107,7 @@ fn receive_all<T: Drop, H: History<T>, R: Wait, F: FnMut(T)>(
     mut call: F,
 ) -> Result<(), ReceiveError>
     requires callable { F.IsAlwaysCallable call }
-    ensures received { ReceivesAll H.words pass.old pass.new result }
+    ensures received { ReceivesAll H.words F.FnMut pass.old pass.new call result }
     ensures ended { IsErrOf result ReceiveError.SendClosed → ⊥ }
 {
     for _ in rt.forever() {

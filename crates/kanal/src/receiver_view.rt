@@ -5,11 +5,11 @@
 ghost use Rattle.std.specs.Prelude.{◌≡◌, IsErrOf};
 ghost use Rattle.std.specs.Duration.{as_nanos};
 ghost use Rattle.kanal.specs.Handles.{viewed_receiver};
-ghost use Rattle.kanal.specs.Messages.{ReceivesAll};
+ghost use Rattle.kanal.specs.Messages.{ReceivesAll, ReceivesUntil};
 ghost use Rattle.kanal_state.specs.Handles.{Receives, ReceivesInTime};
 
 use crate::async_receiver::AsyncReceiver;
-use crate::messages::{Messages, for_each};
+use crate::messages::{Messages, for_each, try_for_each};
 use kanal_channel::Clock;
 use kanal_core::error::{ReceiveError, ReceiveErrorTimeout};
 use kanal_state::{Caller, History, NoHistory};
@@ -104,10 +104,36 @@ impl<T: Drop, H: History<T>> ReceiverView<'_, T, H> {
         call: F,
     ) -> Result<(), ReceiveError>
         requires callable { F.IsAlwaysCallable call }
-        ensures received { ReceivesAll H.words (R.before rt) (R.after rt) result }
+        ensures received { ReceivesAll H.words F.FnMut (R.before rt) (R.after rt) call result }
         ensures ended { IsErrOf result ReceiveError.SendClosed → ⊥ }
     {
         for_each(rt, self.receiver, call)
+    }
+
+    /// Hands each message that comes to the call, until no more come or the call answers an error, which is
+    /// handed on. Each receive waits as a `recv` does, and the call runs with the lock released.
+    ///
+    /// The answer is `Ok(Ok(()))` where it ended since no sender is left and nothing is in the line, and
+    /// `Ok(Err(error))` where the call answered that error. The call owned its message then; what is still in
+    /// the line stays there, and may be received.
+    ///
+    /// # Errors
+    /// As `for_each`. What was handed over before stays so.
+    ///
+    /// # Examples
+    /// ```text
+    /// view.try_for_each(&rt, |line| parse(line))??   goes on until a line can't be parsed
+    /// ```
+    pub fn try_for_each<E: Drop, R: Caller<H::Pass>, F: FnMut(T) -> Result<(), E>>(
+        &self,
+        rt: R,
+        call: F,
+    ) -> Result<Result<(), E>, ReceiveError>
+        requires callable { F.IsAlwaysCallable call }
+        ensures received { ReceivesUntil H.words F.FnMut (R.before rt) (R.after rt) call result }
+        ensures ended { IsErrOf result ReceiveError.SendClosed → ⊥ }
+    {
+        try_for_each(rt, self.receiver, call)
     }
 }
 

@@ -56,7 +56,7 @@ macro_rules! takes {
     }};
 }
 
-/// Receives 5 to 10, and then the end of a sealed channel, by the calls of handles for threads and views.
+/// Receives 5 to 11, and then the end of a sealed channel, by the calls of handles for threads and views.
 macro_rules! receives {
     ($rt:expr, $receiver:expr) => {{
         let (time, clock) = (Duration::from_nanos(1), TestClock::still(0));
@@ -67,8 +67,10 @@ macro_rules! receives {
             sum = sum.wrapping_add(message);
         }
         equal($rt, sum, 15);
+        let failed = $receiver.try_for_each($rt, |message| Err::<(), u64>(message));
+        equal($rt, failed, Ok(Err(9)));
         let ended = $receiver.for_each($rt, |message| sum = sum.wrapping_add(message));
-        equal($rt, (sum, ended), (34, Ok(())));
+        equal($rt, (sum, ended), (36, Ok(())));
     }};
 }
 
@@ -135,10 +137,10 @@ fn a_sender_for_tasks(rt: HostRuntime) {
 
 #[test]
 fn a_receiver(rt: HostRuntime) {
-    let (sender, mut receiver) = ends::<u64>(&rt, 6);
+    let (sender, mut receiver) = ends::<u64>(&rt, 7);
     fill(&rt, &sender, 1..5);
     takes!(&rt, receiver);
-    fill(&rt, &sender, 5..11);
+    fill(&rt, &sender, 5..12);
     equal(&rt, receiver.seal(&rt), Ok(()));
     receives!(&rt, receiver);
     closes!(&rt, receiver);
@@ -150,7 +152,7 @@ fn a_view_of_a_receiver(rt: HostRuntime) {
     let mut view = receiver.as_async().as_sync();
     fill(&rt, &sender, 1..5);
     takes!(&rt, view);
-    fill(&rt, &sender, 5..11);
+    fill(&rt, &sender, 5..12);
     equal(&rt, view.seal(&rt), Ok(()));
     receives!(&rt, view);
     closes!(&rt, view);

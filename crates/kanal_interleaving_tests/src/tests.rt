@@ -2,7 +2,6 @@
 mod cell;
 mod counted;
 mod forgotten;
-mod given;
 mod line;
 mod lists;
 mod meeting;

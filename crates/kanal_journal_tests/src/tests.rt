@@ -1,4 +1,3 @@
 //! The tests, and what they share.
-mod given;
 mod recorded;
 mod scripts;

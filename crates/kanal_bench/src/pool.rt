@@ -21,7 +21,7 @@ impl Job for Number {
         Ok(self.0)
     }
 
-    ghost equal_is_same = { Prim.search rules };
+    ghost equal_values = { Prim.search rules };
 }
 
 /// How many workers the first of these words names: none, where it is `in-turn`.

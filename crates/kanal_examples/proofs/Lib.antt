@@ -1,1 +1,2 @@
 mod Dividing
+mod Reading

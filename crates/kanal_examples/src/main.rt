@@ -8,6 +8,7 @@
 mod actor;
 mod bridge;
 mod first_of;
+mod pieces;
 mod primes;
 mod two_threads;
 mod uses;
@@ -22,12 +23,13 @@ use std::thread::Threads;
 use std::time::Clock;
 
 /// The examples, in the order in which they run.
-const NAMES: [&str; 6] = [
+const NAMES: [&str; 7] = [
     "uses",
     "bridge",
     "actor",
     "first_of",
     "primes",
+    "pieces",
     "two_threads",
 ];
 
@@ -43,6 +45,7 @@ where
         "actor" => actor::show(rt),
         "first_of" => first_of::show(rt),
         "primes" => primes::show(&rt, ranges),
+        "pieces" => pieces::show(&rt),
         "two_threads" => two_threads::show(&rt),
         _ => bail!("no example has the name {name}"),
     }

@@ -7,8 +7,8 @@ use kanal::error::NoMemory;
 
 /// A piece of work whose answer is known from the job alone.
 ///
-/// `value` is that answer, as a definition; `work` finds it. Two jobs that are equal are the same value.
-/// A job whose work needs memory keeps its allocator.
+/// `value` is that answer, as a definition; `work` finds it. Two jobs that are equal have one value, so a
+/// job may borrow what it works on. A job whose work needs memory keeps its allocator.
 ///
 /// # Examples
 /// ```text
@@ -24,7 +24,7 @@ use kanal::error::NoMemory;
 ///         Ok(u64::from(self.0) * u64::from(self.0))
 ///     }
 ///
-///     ghost equal_is_same = { Prim.search rules };
+///     ghost equal_values = { Prim.search rules };
 /// }
 /// ```
 pub trait Job: Eq {
@@ -40,7 +40,7 @@ pub trait Job: Eq {
     fn work(&self) -> Result<Self::Answer, NoMemory>
         ensures value { IfOk result (λ answer. answer ≡ value self.now) };
 
-    ghost equal_is_same: { (one other : Self) → Self.eq one other ≡ true → one ≡ other };
+    ghost equal_values: { (one other : Self) → Self.eq one other ≡ true → value one ≡ value other };
 }
 
 /// What is told when a job's work begins and when it has ended, by the worker that does it.

@@ -3,7 +3,11 @@
 //! Each function here is the definition of its name in `specs/Results`: no other module reads a reply. A
 //! message that a reply gives back is dropped, but for the forms that are lent an option.
 ghost use Rattle.std.specs.Prelude.{◌≡◌, None};
-ghost use Rattle.kanal_state.specs.Results.{asked_by, back_after, back_by, closed_by, count_by, counted_by, drained_by, entered_by, flag_by, number_by, receive_error, received_after, received_by, send_error, sent_after, sent_by, timed_receive_error, timed_received_after, timed_received_by, timed_send_error, timed_sent_after, timed_sent_by};
+ghost use Rattle.kanal_state.specs.Results.{asked_by, back_after, back_by, closed_by, count_by, counted_by};
+ghost use Rattle.kanal_state.specs.Results.{drained_by, entered_by, flag_by, number_by, receive_error};
+ghost use Rattle.kanal_state.specs.Results.{received_after, received_by, send_error, sent_after, sent_by};
+ghost use Rattle.kanal_state.specs.Results.{timed_receive_error, timed_received_after, timed_received_by};
+ghost use Rattle.kanal_state.specs.Results.{timed_send_error, timed_sent_after, timed_sent_by};
 
 use kanal_core::error::{
     CloseError, ReceiveError, ReceiveErrorTimeout, SendError, SendErrorTimeout, TooMany,

@@ -90,7 +90,7 @@ impl Job for Square {
         Ok(u64::from(self.0) * u64::from(self.0))
     }
 
-    ghost equal_is_same = { Prim.search rules };
+    ghost equal_values = { Prim.search rules };
 }
 
 /// A number to halve.
@@ -111,7 +111,7 @@ impl Job for Half {
         }
     }
 
-    ghost equal_is_same = { Prim.search rules };
+    ghost equal_values = { Prim.search rules };
 }
 
 /// The values of all jobs, by two workers.

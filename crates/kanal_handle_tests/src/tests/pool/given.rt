@@ -20,7 +20,7 @@ impl Job for Square {
         Ok(side * side)
     }
 
-    ghost equal_is_same = { Prim.search rules };
+    ghost equal_values = { Prim.search rules };
 }
 
 /// A job whose work never finds memory.
@@ -36,7 +36,7 @@ impl Job for Starved {
         Err(NoMemory)
     }
 
-    ghost equal_is_same = { Prim.search rules };
+    ghost equal_values = { Prim.search rules };
 }
 
 /// The squares to be found, of 0 up to the number before the end.

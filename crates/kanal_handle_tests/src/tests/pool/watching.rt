@@ -1,6 +1,6 @@
 //! Jobs whose gate and work are counted, each for itself.
 ghost use Rattle.std.specs.Prelude.{◌==◌, ◌≡◌, true};
-ghost use Rattle.std.proofs.Common.{ap, rules};
+ghost use Rattle.std.proofs.Common.{rules};
 ghost use Rattle.std.proofs.lemmas.Bool.{eqb-true};
 ghost use Rattle.std.specs.Cmp.Rules.{comparing};
 
@@ -69,8 +69,7 @@ impl Job for Watched {
         Ok(self.number)
     }
 
-    ghost equal_is_same = { λ one other equal.
-        ap (λ n. record one { number = n }) (eqb-true one.number other.number equal) };
+    ghost equal_values = { λ one other equal. eqb-true one.number other.number equal };
 }
 
 /// The job with this number, to which nothing has happened.
@@ -101,20 +100,7 @@ fn counts_of<R: Threads + Wait + Abort + AllocGlobal + Sync>(
 const ONCE: [u64; 4] = [1, 1, 0, 1];
 
 #[test]
-fn a_gate_is_told_each_job_once(rt: HostRuntime) {
-    for [entered, _worked, _outside, left] in counts_of(&rt, 2) {
-        equal(&rt, (entered, left), (1, 1));
-    }
-}
-
-#[test]
-fn the_work_lies_between_enter_and_leave(rt: HostRuntime) {
-    for [_entered, worked, outside, _left] in counts_of(&rt, 1) {
-        equal(&rt, (worked > 0, outside), (true, 0));
-    }
-}
-
-#[test]
-fn each_job_is_worked_once(rt: HostRuntime) {
+fn each_job_is_entered_worked_on_and_left_once(rt: HostRuntime) {
+    equal(&rt, counts_of(&rt, 1), [ONCE; JOBS]);
     equal(&rt, counts_of(&rt, 2), [ONCE; JOBS]);
 }

@@ -1,35 +1,12 @@
-//! What the tests of several crates are given: how a test ends, counters, tasks, and messages that count their
-//! drops. Only tests, and programs that test, use it.
+//! What the tests of several crates are given: messages that count their drops.
+//!
+//! Stands on nothing. Only tests, and programs that test, use it.
 #![tactic(auto)]
 
-use futures::test::MockTask;
-use std::alloc::{AllocError, AllocGlobal, Global};
-use std::fmt::Debug;
-use std::process::Abort;
-use std::random::RandomSource;
+use std::alloc::{AllocError, Global};
 use std::sync::Arc;
 use std::sync::atomic::AtomicU64;
 use std::sync::atomic::Ordering::SeqCst;
-
-/// Ends the test, and shows both values, unless the answer is the expected one.
-pub fn equal<A: PartialEq + Debug + Drop>(rt: &impl Abort, answer: A, expected: A) {
-    assert_eq!(rt; answer, expected);
-}
-
-/// Ends the test unless the fact holds.
-pub fn holds(rt: &impl Abort, fact: bool) {
-    assert!(rt; fact);
-}
-
-/// A counter at 0.
-pub fn counter(rt: &(impl Abort + AllocGlobal)) -> Arc<AtomicU64, Global> {
-    Arc::new(rt.alloc(), AtomicU64::new(0)).expect(rt, "memory for a counter")
-}
-
-/// A task that is polled by hand.
-pub fn new_task(rt: &(impl Abort + RandomSource + AllocGlobal)) -> MockTask {
-    MockTask::new(rt).expect(rt, "a task")
-}
 
 /// How many messages were dropped.
 #[derive(Drop)]

@@ -2,6 +2,7 @@
 mod cell;
 mod counted;
 mod forgotten;
+mod given;
 mod line;
 mod lists;
 mod meeting;

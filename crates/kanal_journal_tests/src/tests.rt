@@ -1,3 +1,4 @@
 //! The tests, and what they share.
+mod given;
 mod recorded;
 mod scripts;

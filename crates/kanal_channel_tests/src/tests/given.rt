@@ -4,15 +4,27 @@
 ghost use Rattle.std.specs.Prelude.{◌≡◌, true};
 ghost use Rattle.kanal_events.specs.Made.{may_wait};
 
+use futures::test::MockTask;
 use kanal::{AsyncReceiver, AsyncSender};
 use kanal_channel::{CountedReceiver, CountedSender, Shared};
 use kanal_core::internal::ChannelInternal;
 use kanal_events::event::{Ask, Event, Reply, Side};
-pub use kanal_given::{equal, holds, new_task};
 use kanal_state::NoHistory;
 use std::alloc::AllocGlobal;
+use std::fmt::Debug;
 use std::process::Abort;
+use std::random::RandomSource;
 use std::sync::{Arc, Wait};
+
+/// Ends the test, and shows both values, unless the answer is the expected one.
+pub fn equal<A: PartialEq + Debug + Drop>(rt: &impl Abort, answer: A, expected: A) {
+    assert_eq!(rt; answer, expected);
+}
+
+/// Ends the test unless the fact holds.
+pub fn holds(rt: &impl Abort, fact: bool) {
+    assert!(rt; fact);
+}
 
 /// A channel with so many places, one sender and one receiver.
 pub fn channel<T: Drop>(rt: &(impl Abort + AllocGlobal), capacity: usize) -> Shared<T, NoHistory> {
@@ -89,4 +101,9 @@ pub fn tell_late<R: Wait, T: Drop, F: FnOnce(), G: FnOnce()>(
             None
         },
     }
+}
+
+/// A task that is polled by hand.
+pub fn new_task(rt: &(impl Abort + RandomSource + AllocGlobal)) -> MockTask {
+    MockTask::new(rt).expect(rt, "a task")
 }

@@ -10,13 +10,23 @@ use crossbeam_utils::sync::{Parker, Unparker};
 use kanal_cell::signal;
 use kanal_cell::signal::{SettleEnd, WaitEnd};
 use kanal_core::internal::ChannelInternal;
-pub use kanal_given::{counter, equal, holds};
 use std::alloc::{AllocGlobal, Global};
+use std::fmt::Debug;
 use std::process::Abort;
 use std::sync::atomic::{AtomicU64, Ordering};
 use std::sync::{Arc, Wait};
 use std::thread;
 use std::thread::Threads;
+
+/// Ends the test, and shows both values, unless the answer is the expected one.
+pub fn equal<A: PartialEq + Debug + Drop>(rt: &impl Abort, answer: A, expected: A) {
+    assert_eq!(rt; answer, expected);
+}
+
+/// Ends the test unless the fact holds.
+pub fn holds(rt: &impl Abort, fact: bool) {
+    assert!(rt; fact);
+}
 
 /// A core with so many places.
 pub fn core_of<T: Drop, W: Drop>(
@@ -76,6 +86,11 @@ pub fn park_woken<R: Threads + Wait + Abort + AllocGlobal>(rt: &R, parker: &Park
     parker.park(rt);
     stage.store(PASSED, Ordering::SeqCst);
     holds(rt, other.join(rt));
+}
+
+/// A counter at 0.
+pub fn counter(rt: &(impl Abort + AllocGlobal)) -> Arc<AtomicU64, Global> {
+    Arc::new(rt.alloc(), AtomicU64::new(0)).expect(rt, "memory for a counter")
 }
 
 /// The same counter once more.

@@ -6,11 +6,11 @@ ghost use Rattle.std.specs.Prelude.{◌≡◌};
 ghost use Rattle.kanal_cell.specs.CellRule.{HasNotLeft, HasNotSettled, MaySleep};
 ghost use Rattle.kanal_cell.specs.CellEnds.{wait_view, settle_view};
 
+use crate::tests::given::equal;
 use crate::tests::lists::list_of;
 use crossbeam_utils::sync::{Parker, Unparker};
 use kanal_cell::signal;
 use kanal_cell::signal::{CellReply, CellStep, Owner, SettleEnd, WaitEnd, cell_run};
-use kanal_given::equal;
 use std::alloc::AllocGlobal;
 use std::mem;
 use std::process::Abort;

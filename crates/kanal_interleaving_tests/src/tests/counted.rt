@@ -1,5 +1,5 @@
 //! Numbered messages that count their drops, each number for itself.
-use kanal_given::equal;
+use crate::tests::given::equal;
 use std::alloc::{AllocGlobal, Global};
 use std::process::Abort;
 use std::sync::Arc;

@@ -1,8 +1,8 @@
 //! A receive that is forgotten while it waits: its entry stays in the line.
+use crate::tests::given::{equal, new_task};
 use futures::task::Poll;
 use futures::test::MockTask;
 use kanal::{AsyncReceiver, bounded_async};
-use kanal_given::{equal, new_task};
 use std::mem;
 use std::process::Abort;
 

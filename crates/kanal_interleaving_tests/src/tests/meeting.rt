@@ -1,5 +1,5 @@
 //! A meeting of threads: nobody goes on before all are there, and one that doesn't come fails the test.
-use kanal_given::holds;
+use crate::tests::given::holds;
 use std::alloc::{AllocGlobal, Global};
 use std::process::Abort;
 use std::sync::Arc;

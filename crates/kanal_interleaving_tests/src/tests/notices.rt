@@ -3,12 +3,12 @@
 //! Whoever had the lock, or left the notice, applies it: a receive that the last drop ends is told before
 //! anybody makes a further call. The threads meet right before: a round in which they don't fails the test.
 //! Whether a drop finds the lock held is left to the schedule.
+use crate::tests::given::{equal, holds, new_task};
 use crate::tests::meeting::{Meeting, shared};
 use crate::tests::watch::Watch;
 use futures::task::Poll;
 use kanal::error::ReceiveError;
 use kanal::{AsyncReceiver, AsyncSender, bounded_async};
-use kanal_given::{equal, holds, new_task};
 use std::alloc::{AllocGlobal, Global};
 use std::process::Abort;
 use std::random::RandomSource;

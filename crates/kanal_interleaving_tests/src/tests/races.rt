@@ -4,13 +4,13 @@
 //! is dropped once. The two threads meet right before: a round in which they don't fails the test. Who is
 //! first after that is left to the schedule, and a round that doesn't end fails the test, too.
 use crate::tests::counted::{Counted, Drops};
+use crate::tests::given::{equal, holds, new_task};
 use crate::tests::meeting::{Meeting, shared};
 use crate::tests::watch::Watch;
 use futures::task::Poll;
 use futures::test::MockTask;
 use kanal::error::{ReceiveError, SendError, SendErrorTimeout};
 use kanal::{AsyncSender, Receiver, Sender, TestClock, bounded};
-use kanal_given::{equal, holds, new_task};
 use std::alloc::{AllocGlobal, Global};
 use std::process::Abort;
 use std::random::RandomSource;

@@ -6,13 +6,13 @@
 //! from that is asked. In the rest the two threads meet right before, and the schedule has the order. A round
 //! in which they don't meet fails the test, and so does one that doesn't end.
 use crate::tests::counted::{Counted, Drops, number_of};
+use crate::tests::given::{equal, holds, new_task};
 use crate::tests::meeting::{Meeting, shared};
 use crate::tests::races::{End, ROUNDS, Round, end_sender};
 use crate::tests::watch::Watch;
 use futures::test::MockTask;
 use kanal::error::{ReceiveError, SendError};
 use kanal::{AsyncReceiver, ReceiveFuture, Sender, bounded};
-use kanal_given::{equal, holds, new_task};
 use std::alloc::{AllocGlobal, Global};
 use std::process::Abort;
 use std::random::RandomSource;

@@ -2,10 +2,10 @@
 //!
 //! The passes agree with the journal each time, and its events, run on a new channel, get its replies. The
 //! threads meet before their first calls: a round in which they don't fails the test.
+use crate::tests::given::equal;
 use crate::tests::meeting::Meeting;
 use crate::tests::watch::Watch;
 use kanal_core::mutex::Mutex;
-use kanal_given::equal;
 use kanal_journal::journal::{Ask, Event, Journal, Reply, Side, run};
 use kanal_recorded::{Pass, Recorded, Seen};
 use std::alloc::{AllocGlobal, Global};

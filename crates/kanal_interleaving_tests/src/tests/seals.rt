@@ -5,11 +5,11 @@
 //! before: a round in which they don't fails the test, and so does one that doesn't end. Who is first after
 //! that is left to the schedule.
 use crate::tests::counted::{Counted, Drops};
+use crate::tests::given::{equal, holds};
 use crate::tests::meeting::{Meeting, shared};
 use crate::tests::watch::Watch;
 use kanal::error::{ReceiveError, SendError};
 use kanal::{Receiver, Sender, bounded};
-use kanal_given::{equal, holds};
 use std::alloc::{AllocGlobal, Global};
 use std::process::Abort;
 use std::sync::{Arc, Wait};

@@ -3,11 +3,11 @@
 //! Each step's answer, the option that it was lent, the length and both counts are those of a plain
 //! line; at the end each message was dropped once.
 use crate::tests::counted::{Counted, Drops, number_of};
+use crate::tests::given::equal;
 use crate::tests::line::{Line, Offer, Take, Told};
 use crate::tests::lists::{ALL, LISTS, Tally, list_of};
 use kanal::error::{CloseError, ReceiveError, SendError};
 use kanal::{Receiver, Sender, bounded, unbounded};
-use kanal_given::equal;
 use std::alloc::{AllocGlobal, Global};
 use std::collections::VecDeque;
 use std::process::Abort;

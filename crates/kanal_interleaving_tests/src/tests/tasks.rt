@@ -4,13 +4,13 @@
 //! Each poll's answer, the length and both counts are those of a plain line; at the end both messages
 //! were dropped once. A future may be polled after its answer, and a step of a dropped one does nothing.
 use crate::tests::counted::{Counted, Drops, number_of};
+use crate::tests::given::{equal, new_task};
 use crate::tests::line::{Line, Offer, Take, Told};
 use crate::tests::lists::{ALL, LISTS, Tally, list_of};
 use futures::task::Poll;
 use futures::test::MockTask;
 use kanal::error::{CloseError, ReceiveError, SendError};
 use kanal::{AsyncReceiver, AsyncSender, ReceiveFuture, SendFuture, bounded_async};
-use kanal_given::{equal, new_task};
 use std::alloc::{AllocGlobal, Global};
 use std::process::Abort;
 use std::random::RandomSource;

@@ -1,5 +1,5 @@
 //! A thread that fails the test where one of its rounds doesn't end, as where a wake-up was lost.
-use kanal_given::holds;
+use crate::tests::given::holds;
 use std::alloc::{AllocGlobal, Global};
 use std::process::Abort;
 use std::sync::Arc;

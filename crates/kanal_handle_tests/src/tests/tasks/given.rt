@@ -8,7 +8,6 @@ use futures::task::Poll;
 use futures::test::MockTask;
 use kanal::error::{ReceiveError, SendError};
 use kanal::{AsyncReceiver, AsyncSender, ReceiveFuture, ReceiveStream, SendFuture, bounded_async};
-pub use kanal_given::new_task;
 use std::alloc::AllocGlobal;
 use std::process::Abort;
 use std::random::RandomSource;
@@ -20,6 +19,11 @@ pub fn ends<T: Drop>(
     capacity: usize,
 ) -> (AsyncSender<T>, AsyncReceiver<T>) {
     bounded_async(rt.alloc(), capacity).expect(rt, "a channel")
+}
+
+/// A task that is polled by hand.
+pub fn new_task(rt: &(impl Abort + RandomSource + AllocGlobal)) -> MockTask {
+    MockTask::new(rt).expect(rt, "a task")
 }
 
 /// The ends, for tasks, of a channel with so many places, and a task that is polled by hand.

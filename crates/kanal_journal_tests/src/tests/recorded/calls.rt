@@ -1,7 +1,7 @@
 //! Each call of a pass with ample memory, what a pass keeps of its calls, and how passes are numbered.
+use crate::tests::given::{equal, holds};
 use crate::tests::recorded::parties::{channel, pass};
 use crate::tests::recorded::rows::{Row, ends_with, played};
-use kanal_given::{equal, holds};
 use kanal_journal::journal::Event::*;
 use kanal_journal::journal::{Ask, Refusal, Reply, Side};
 

@@ -1,7 +1,7 @@
 //! Histories that agree: what is heard, the outcomes of waits, and more passes or entries than two passes make in a row.
+use crate::tests::given::{equal, holds};
 use crate::tests::recorded::parties::{add, channel, end, finish_with, pass, recorded};
 use kanal_core::internal::{Outcome, Reason};
-use kanal_given::{equal, holds};
 use kanal_journal::journal::{Ask, Reply, Side};
 use std::alloc::AllocGlobal;
 

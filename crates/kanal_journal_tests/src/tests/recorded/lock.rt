@@ -1,6 +1,6 @@
 //! The lock: one try while it is held and while it is free.
+use crate::tests::given::equal;
 use kanal_core::mutex::Mutex;
-use kanal_given::equal;
 
 /// What one try of the lock reads.
 fn read(shared: &Mutex<u64>) -> Option<u64> {

@@ -1,7 +1,7 @@
 //! Lists that don't agree with the journal.
+use crate::tests::given::{equal, holds};
 use crate::tests::recorded::parties::{Parties, add, both, channel, finish, pass};
 use crate::tests::recorded::rows::{Row, played};
-use kanal_given::{equal, holds};
 use kanal_journal::journal::{Ask, Event, Reply, Side};
 use kanal_recorded::{Mismatch, Pass, Recorded};
 use std::alloc::AllocGlobal;

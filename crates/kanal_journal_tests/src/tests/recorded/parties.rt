@@ -1,5 +1,5 @@
 //! Recorded channels with their passes. Each call ends the test by itself where something is missing.
-use kanal_given::equal;
+use crate::tests::given::equal;
 use kanal_journal::journal::Journal;
 use kanal_recorded::{Pass, Recorded};
 use std::alloc::AllocGlobal;

@@ -1,6 +1,6 @@
 //! Calls of two passes as data, each with its answer, and the one driver that makes them.
+use crate::tests::given::equal;
 use crate::tests::recorded::parties::{Parties, end, recorded};
-use kanal_given::equal;
 use kanal_journal::journal::{Event, Reply};
 use kanal_recorded::{Pass, Recorded};
 use std::alloc::AllocGlobal;

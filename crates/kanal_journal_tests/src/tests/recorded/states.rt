@@ -1,6 +1,6 @@
 //! The state alone, without a lock.
+use crate::tests::given::{equal, holds};
 use kanal_core::error::NewError;
-use kanal_given::{equal, holds};
 use kanal_journal::journal::{Event, RecordedState, Reply};
 use std::alloc::AllocGlobal;
 

@@ -1,6 +1,6 @@
 //! Two threads on one recorded channel.
+use crate::tests::given::equal;
 use crate::tests::recorded::parties::{Parties, recorded};
-use kanal_given::equal;
 use kanal_journal::journal::Reply;
 use kanal_recorded::{Pass, Recorded};
 use std::sync::Wait;

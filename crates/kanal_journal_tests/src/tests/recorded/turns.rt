@@ -1,6 +1,6 @@
 //! Histories with more entries, and with more passes, than are compared in one turn.
+use crate::tests::given::equal;
 use crate::tests::recorded::parties::{add, channel, finish_with, pass};
-use kanal_given::equal;
 use kanal_journal::journal::Reply;
 use kanal_recorded::{Pass, Recorded};
 use std::alloc::AllocGlobal;

@@ -3,15 +3,20 @@ use super::given::new;
 use crate::tests::given::equal;
 use futures::StreamExt;
 use futures::task::Poll;
+use futures::test::MockTask;
 use kanal::error::{ReceiveError, SendError};
 use kanal::{ReceiveFuture, ReceiveStream, SendFuture};
-use kanal_given::new_task;
 use std::alloc::AllocGlobal;
 use std::process::Abort;
 use std::random::RandomSource;
 use std::sync::Wait;
 use std::thread;
 use std::thread::Threads;
+
+/// A task that is polled by hand.
+fn new_task(rt: &(impl Abort + RandomSource + AllocGlobal)) -> MockTask {
+    MockTask::new(rt).expect(rt, "a task")
+}
 
 /// Polls the send once, in a scoped thread of its own, which is joined.
 fn send_there<R: Threads + Wait + Abort + RandomSource + AllocGlobal + Sync>(

@@ -22,7 +22,7 @@ impl Job for Number {
         Ok(self.0)
     }
 
-    ghost equal_is_same = { Prim.search rules };
+    ghost equal_values = { Prim.search rules };
 }
 
 /// How many jobs were begun, and how many have ended.

@@ -6,5 +6,5 @@ use Rattle.kanal_channel_tests.proofs.tests.given.tell_late.Goals as goal
 
 pub settle-reply-requires : goal.settle-reply-requires
 settle-reply-requires g c =
-    let seen = noted_settled nothing_told nothing_sound tt tt c.args.event (made_of c.in-Told.answered) c.in-Told.ensures.tried.0 in
+    let seen = noted_settled nothing_told nothing_sound tt tt c.args.event (made_of c.in-Ok.answered) c.in-Ok.ensures.tried.0 in
     record { seen = subst (λ made. HaveSettled nothing_told tt (settled_of made)) (sym c.into_made.ensures) seen }

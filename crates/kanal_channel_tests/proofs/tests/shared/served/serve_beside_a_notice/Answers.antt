@@ -6,5 +6,5 @@ use Rattle.kanal_channel_tests.proofs.tests.shared.served.serve_beside_a_notice.
 
 pub give_back_tried-reply-requires-clause-seen : goal.give_back_tried-reply-requires-clause-seen
 give_back_tried-reply-requires-clause-seen g c =
-    let seen = noted_settled nothing_told nothing_sound tt tt _ (made_of c.in-Told.answered) c.in-Told.ensures.tried.0 in
+    let seen = noted_settled nothing_told nothing_sound tt tt _ (made_of c.in-Ok.answered) c.in-Ok.ensures.tried.0 in
     subst (λ made. HaveSettled nothing_told tt (settled_of made)) (sym c.into_made-made.ensures) seen

@@ -9,6 +9,7 @@ mod handles;
 mod loops;
 mod many;
 mod polls;
+mod several;
 mod tasks;
 mod threads;
 mod timed;
@@ -71,6 +72,8 @@ where
     polls::before_the_message_and_after_it(&rt)?;
     polls::two_channels_in_one_task(&rt)?;
     polls::many_channels_in_one_task(&rt)?;
+    several::two_channels_in_one_thread(&rt)?;
+    several::an_answer_of_a_scoped_thread(&rt)?;
     println!(rt; "{}", faults::each_by_a_question_mark(&rt)?)?;
     faults::a_sealed_one(&rt)?;
     facts::through_a_channel(&rt)?;

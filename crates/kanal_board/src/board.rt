@@ -1,7 +1,7 @@
 //! The board, and the keeper that writes its history.
 //!
-//! Stands on the rule. Who has the keeper, under a lock, adds entries; each is shown to the front of
-//! the call that it is the entry of, and its place is that front's own. A quiet entry is nobody's.
+//! Who has the keeper, under a lock, adds entries; each is shown to the front of the call that it is the entry of,
+//! and its place is that front's own. A quiet entry is nobody's.
 ghost use Rattle.std.specs.Prelude.{◌≡◌, ◌<◌, ◌++◌, ◌∷◌, [], length};
 ghost use mathlib.Core.List.{IsPrefix};
 ghost use Rattle.kanal_board.specs.Shares.{HasShare, IsWhole, nothing, whole};

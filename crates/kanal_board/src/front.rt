@@ -1,6 +1,6 @@
 //! The fronts: how far each of those who call has seen the history, and which of its entries are its own.
 //!
-//! Stands on the rule. Fronts step their seats on the board that their type names, and on no other.
+//! Fronts step their seats on the board that their type names, and on no other.
 ghost use Rattle.std.specs.Prelude.{◌≡◌, ◌++◌, ◌⊎◌, []};
 ghost use mathlib.Core.List.{IsPrefix};
 ghost use Rattle.kanal_board.specs.Shares.{both, half, IsWhole, nothing};

@@ -1,8 +1,7 @@
 //! Clocks for timed calls: the trait by which one is handed in, the system's, and one for tests.
 //!
-//! Stands on nothing of the channel. A timed call reads its clock with the lock released. Of a clock's word
-//! `answers` a timed call knows one thing, that it holds of what `now` answered: so a clause that says it of
-//! a moment can be met by such a moment alone.
+//! A timed call reads its clock with the lock released. Of a clock's word `answers` a timed call knows one thing,
+//! that it holds of what `now` answered: so a clause that says it of a moment can be met by such a moment alone.
 ghost use Rattle.std.specs.Prelude.{◌≡◌, ◌≤◌, ◌<◌, ◌+◌, ◌^◌, MatchOption, ℕ};
 ghost use Rattle.std.specs.Duration.{as_nanos};
 

@@ -5,10 +5,9 @@
 //! receivers may wait. Each call is one step of that line, waits for nobody, and says in its
 //! contract which step it is.
 //!
-//! Stands on its two rooms, `buffer` and `wait_list`, which nothing else may use. The calls on
-//! counts and the close are in `handles`, the drain is in `draining`, and what can be asked is in
-//! `questions`. Whoever shares a core puts it behind a lock, and settles or drops what a call hands
-//! out only after the release.
+//! No other module uses `buffer` and `wait_list`. The calls on counts and the close are in `handles`, the drain is in
+//! `draining`, and what can be asked is in `questions`. Whoever shares a core puts it behind a lock, and settles or
+//! drops what a call hands out only after the release.
 ghost use Rattle.std.specs.Prelude.{◌≡◌, ◌≢◌, ◌⊎◌, ◌≤◌, ℕ, false, ◌↔◌, [], true, length, map, IfOk, IfErr, IfNone, IsErr, IsErrOf, IsOk, IsSome, Some, None};
 ghost use Rattle.std.specs.Borrow.{sem};
 ghost use Rattle.std.specs.Fn.{FnReturnsAt};

@@ -1,9 +1,9 @@
 //! What a step told, as it leaves the core, and what it owes to those whose waits it settled.
 //!
-//! Stands on what the core hands out. A value here holds all that left the core at one step: nothing of it
-//! is settled, noted or dropped while the lock is held. Only `steps` makes one that settled a wait. Such a wait
-//! is owed to who waits: it leaves a `Made` by `next` alone and an `Answered` by `into_parts` alone, and the
-//! prover refuses to let go one of them that may still have one, or an `Owed` that nobody was told of.
+//! A value here holds all that left the core at one step: nothing of it is settled, noted or dropped while the lock
+//! is held. Only `steps` makes one that settled a wait. Such a wait is owed to who waits: it leaves a `Made` by
+//! `next` alone and an `Answered` by `into_parts` alone, and the prover refuses to let go one of them that may still
+//! have one, or an `Owed` that nobody was told of.
 ghost use Rattle.std.specs.Prelude.{◌≡◌, ℕ, [], ◌∷◌, None, true, MatchOption};
 ghost use Rattle.kanal_core.specs.Channel.{settlements};
 ghost use Rattle.kanal_core.specs.declared.internal.outcome.Outcome.{Outcome};

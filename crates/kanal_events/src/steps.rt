@@ -1,9 +1,8 @@
 //! The steps of a channel, each a function that is lent the core.
 //!
-//! Stands on the core's contracts. A step makes one call on the core (a send or a receive that waits:
-//! two), says in the line's terms what that told, and which ticket it gave, and hands out all that left
-//! the core. Nothing is settled, noted or dropped here, since whoever shares a core has its lock. `W` is
-//! what a waiter brings: the steps don't look into it.
+//! A step makes one call on the core (a send or a receive that waits: two), says in the line's terms what that told,
+//! and which ticket it gave, and hands out all that left the core. Nothing is settled, noted or dropped here, since
+//! whoever shares a core has its lock. `W` is what a waiter brings: the steps don't look into it.
 ghost use Rattle.std.specs.Prelude.{◌≡◌, ◌==◌, ◌+◌, ◌<◌, ◌≤◌, ◌&&◌, ◌++◌, length, true, false, Some, None, IfErr, IfNone, IfOk, IfSome, OnOk};
 ghost use Rattle.std.specs.Vec.{vec_capacity, vec_len};
 ghost use Rattle.kanal_core.specs.Channel.{line_of};

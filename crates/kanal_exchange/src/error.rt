@@ -1,6 +1,6 @@
 //! Why an exchange came to nothing, with its exact text.
 //!
-//! Stands on the errors of a channel. Of the errors of several threads it picks the one that tells why.
+//! Of the errors of several threads it picks the one that tells why.
 ghost use Rattle.std.specs.Prelude.{◌≡◌, Some, Ok, Err, IfOk};
 ghost use Rattle.kanal_exchange.specs.Causes.{cause_of};
 ghost use Rattle.kanal_exchange.specs.declared.error.ExchangeError.{ExchangeError};

@@ -1,7 +1,7 @@
 //! The exchange: one thread sends, another receives.
 //!
-//! Stands on a channel with one history. `overseen` is handed the passes of both threads when they have
-//! ended, and says that what was received is what was sent first. No other module sends or receives a list.
+//! `overseen` is handed the passes of both threads when they have ended, and says that what was received is what was
+//! sent first. No other module sends or receives a list.
 ghost use Rattle.std.specs.Prelude.{◌≡◌, List, [], Ok, IfOk, take, length};
 ghost use Rattle.kanal_board.specs.Boards.{table_of};
 ghost use Rattle.kanal_board.specs.Shares.{IsWhole, both, half, whole};

@@ -1,7 +1,7 @@
 //! Gathering: two threads send, another receives from both.
 //!
-//! Stands on `exchange`. When the three threads have ended, their passes have all of the right to make calls
-//! between them. So what was received is a merge of what the two sent.
+//! When the three threads have ended, their passes have all of the right to make calls between them. So what was
+//! received is a merge of what the two sent.
 ghost use Rattle.std.specs.Prelude.{◌≡◌, ◌+◌, List, [], IfOk, length};
 ghost use Rattle.kanal_board.specs.Boards.{table_of};
 ghost use Rattle.kanal_board.specs.Shares.{IsWhole, both, half, whole};

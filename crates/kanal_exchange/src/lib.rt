@@ -6,10 +6,9 @@
 //! of its own, and what came out is what the stages make of it. Each holds for every capacity, and for every
 //! message type that a thread may send.
 //!
-//! Stands on `kanal_one_history`: each thread calls by a pass of its own, and when all have ended, the passes
-//! have all of the right to make calls between them. So nobody else put a message or took one, and in the
-//! history of the calls the i-th message that was kept went to the i-th receive. Nothing is recorded when it
-//! runs.
+//! Each thread calls by a pass of its own, and when all have ended, the passes have all of the right to make calls
+//! between them. So nobody else put a message or took one, and in the history of the calls the i-th message that was
+//! kept went to the i-th receive. Nothing is recorded when it runs.
 #![tactic(auto)]
 
 mod error;

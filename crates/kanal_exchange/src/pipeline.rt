@@ -1,8 +1,7 @@
 //! Pipelines: a thread for each stage, and a channel between each two.
 //!
-//! Stands on `exchange`. Who receives by a stage says what was made of the messages that came by its pass.
-//! So what the whole makes follows from what each channel's two passes tell, and one stage more is one thread
-//! and one channel more.
+//! Who receives by a stage says what was made of the messages that came by its pass. So what the whole makes follows
+//! from what each channel's two passes tell, and one stage more is one thread and one channel more.
 ghost use Rattle.std.specs.Prelude.{◌≡◌, [], Ok, IfOk, IfSome, map};
 ghost use Rattle.kanal_board.specs.Boards.{table_of};
 ghost use Rattle.kanal_board.specs.Shares.{half, whole};

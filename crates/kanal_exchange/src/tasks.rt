@@ -1,8 +1,7 @@
 //! The exchange between a thread and a task.
 //!
-//! Stands on `exchange`, and on the futures that carry a pass. A task makes its calls one after the other. The
-//! executor may refuse a future, whose pass is gone then; so a second pass lies beside it, which closes the
-//! channel.
+//! A task makes its calls one after the other. The executor may refuse a future, whose pass is gone then; so a second
+//! pass lies beside it, which closes the channel.
 ghost use Rattle.std.specs.Prelude.{◌≡◌, ◌∷◌, [], IfOk, length};
 ghost use Rattle.kanal_board.specs.Boards.{table_of};
 ghost use Rattle.kanal_board.specs.Shares.{both, half, whole};

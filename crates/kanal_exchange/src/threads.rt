@@ -1,7 +1,6 @@
 //! Two calls at once: one in a new thread, the other in this one.
 //!
-//! Stands on a scope of threads and on the error that tells why two threads came to nothing. No other module
-//! starts a thread.
+//! No other module starts a thread.
 ghost use Rattle.std.specs.Prelude.{Result, Ok, IfOk};
 ghost use Rattle.kanal_exchange.specs.declared.error.ExchangeError.{ExchangeError};
 

@@ -1,6 +1,6 @@
 //! Each exchange of a list, on channels of its own that all have one capacity.
 //!
-//! Stands on `kanal_exchange`. The name of each channel is picked here, in proofs alone.
+//! The name of each channel is picked here, in proofs alone.
 use kanal_exchange::{
     Call, ExchangeError, Opened, Stage, exchanged, exchanged_from_task, exchanged_to_task,
     gathered, mapped, mapped_by_two,

@@ -1,10 +1,10 @@
 //! Runs each exchange at the capacities 0 and 4 and without limit, and prints what came out; and then counts
 //! the words of standard input in a pipeline.
 //!
-//! Stands on `kanal_exchange`, whose contracts say what comes out. How the two lists of `gathered` are merged
-//! differs from run to run, so only their number is printed of them. Of a refused one it prints the error, and
-//! how many messages were dropped. With the word `few` it runs each with a few messages instead, and prints
-//! what was refused for want of memory.
+//! The contracts of `kanal_exchange` say what comes out. How the two lists of `gathered` are merged differs from run
+//! to run, so only their number is printed of them. Of a refused one it prints the error, and how many messages were
+//! dropped. With the word `few` it runs each with a few messages instead, and prints what was refused for want of
+//! memory.
 #![tactic(auto)]
 
 mod calls;

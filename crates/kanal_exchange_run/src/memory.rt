@@ -1,7 +1,6 @@
 //! Each exchange of a few messages, in which any request for memory may be refused.
 //!
-//! Stands on the program's exchanges, and on messages that count their drops. `scripts/refuse-memory` refuses
-//! one request after another.
+//! `scripts/refuse-memory` refuses one request after another.
 use crate::calls::{exchange, exchange_from_task, exchange_to_task, gather, map_by, map_by_two};
 use crate::refusals::counted;
 use anyhow::{Result, bail};

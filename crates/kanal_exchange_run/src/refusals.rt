@@ -1,6 +1,4 @@
 //! What an exchange tells that is refused, and what becomes of its messages.
-//!
-//! Stands on the program's exchanges, and on messages that count their drops.
 use crate::calls::{exchange, map_by};
 use anyhow::{Result, bail};
 use kanal_exchange::{ExchangeError, Stage};

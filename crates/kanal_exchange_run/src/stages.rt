@@ -1,6 +1,4 @@
 //! The stages of the program's pipelines.
-//!
-//! Stands on `kanal_exchange` for what a stage is.
 use kanal_exchange::Stage;
 use std::fmt;
 

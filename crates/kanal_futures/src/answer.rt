@@ -1,6 +1,6 @@
 //! What a call in a task came to: the answer, with the pass that made it.
 //!
-//! Stands on what a task asks. Only who shows that the call was made so makes one.
+//! Only who shows that the call was made so makes one.
 ghost use Rattle.std.specs.Prelude.{◌≡◌};
 ghost use Rattle.kanal_futures.specs.Answers.{Answers};
 

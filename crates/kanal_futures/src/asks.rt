@@ -1,7 +1,6 @@
 //! What a task asks of a channel: to send a message, or to receive one.
 //!
-//! Stands on the events and the lock. All that differs between the two is said by `Asks`: a call is begun,
-//! waited for, left and answered once for both.
+//! All that differs between the two is said by `Asks`: a call is begun, waited for, left and answered once for both.
 ghost use Rattle.std.specs.Prelude.{◌≡◌, true, IfErr, IfOk};
 ghost use Rattle.kanal_core.specs.declared.internal.outcome.Outcome.{Outcome};
 ghost use Rattle.kanal_events.specs.declared.event.Event.{Event};

@@ -1,7 +1,7 @@
 //! A call in a task by a pass: a future that carries the pass between its polls, and answers with it.
 //!
-//! Stands on the wait of a task, and on what is asked. A call is made at once where it goes by itself; only
-//! where it doesn't the longer ways are gone. `Sending` and `Receiving` are its two cases.
+//! A call is made at once where it goes by itself; only where it doesn't the longer ways are gone. `Sending` and
+//! `Receiving` are its two cases.
 ghost use Rattle.std.specs.Prelude.{◌≡◌, ⊤, IfErr, IfNone, IfOk, IfSome, MatchOption, None, Option, Some, false, true};
 ghost use Rattle.std.specs.Option.{is_none};
 ghost use Rattle.futures.specs.Task.{Covers, Keeps};

@@ -1,8 +1,7 @@
 //! Sending and receiving in a task, for every history of a channel.
 //!
-//! Stands on the lock and the state of `kanal_channel`, and on the kit's futures. A future tries the lock and
-//! never waits for it. What it takes out of the core leaves the lock first; no waker is woken or dropped
-//! under the lock.
+//! A future tries the lock and never waits for it. What it takes out of the core leaves the lock first; no waker is
+//! woken or dropped under the lock.
 //!
 //! `Receiving` and `Sending` carry a pass between their polls, and answer with it: `into_parts` says in the
 //! history's own words which call the pass made. They are one future, in `call`. `ReceiveFuture` and

@@ -1,7 +1,7 @@
 //! A call in a task, with an answer and no pass.
 //!
-//! Stands on the call that carries its pass. The future keeps the pass when it has answered, so that each poll
-//! shows in it. `SendFuture` and `ReceiveFuture` are its two cases.
+//! The future keeps the pass when it has answered, so that each poll shows in it. `SendFuture` and `ReceiveFuture`
+//! are its two cases.
 ghost use Rattle.std.specs.Prelude.{◌≡◌, ⊤, true, false, IfSome, Some};
 ghost use Rattle.std.specs.Option.{is_none};
 ghost use Rattle.futures.specs.Task.{Covers, Keeps};

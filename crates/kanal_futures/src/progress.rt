@@ -1,7 +1,7 @@
 //! Where a call in a task is, and what it leaves behind when its future goes.
 //!
-//! Stands on the started wait. The prover refuses to let one go that still waits. A first poll takes the call
-//! out, and makes it where it needs no more than the lock; what more it needs is told by `Rest`.
+//! The prover refuses to let one go that still waits. A first poll takes the call out, and makes it where it needs no
+//! more than the lock; what more it needs is told by `Rest`.
 ghost use Rattle.std.specs.Prelude.{◌≡◌, false, true, IfNone, IfSome, IsSome, Some, None};
 ghost use Rattle.kanal_futures.specs.Tasks.{answered_by, begun_by, is_fresh, is_waiting, passes};
 

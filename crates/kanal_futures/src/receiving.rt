@@ -1,7 +1,6 @@
 //! Receiving in a task: the case of a call that is asked with nothing.
 //!
-//! Stands on the call of a task, with its pass and without it. What a receive alone does stands here: how a
-//! message leaves by itself, and how it is answered.
+//! What a receive alone does stands here: how a message leaves by itself, and how it is answered.
 ghost use Rattle.std.specs.Prelude.{◌≡◌, ◌∷◌, [], IfErr, IfOk, Err, Some, codes, false, true};
 ghost use Rattle.kanal_channel.specs.Locks.{IsQuiet};
 ghost use Rattle.kanal_core.specs.declared.error.ReceiveError.{ReceiveError};

@@ -1,7 +1,6 @@
 //! Sending in a task: the case of a call that is asked with a message.
 //!
-//! Stands on the call of a task, with its pass and without it. What a send alone does stands here: how its
-//! message enters by itself, and how it is answered.
+//! What a send alone does stands here: how its message enters by itself, and how it is answered.
 ghost use Rattle.std.specs.Prelude.{◌≡◌, ◌∷◌, [], IfErr, IfOk, Err, Some, codes, true};
 ghost use Rattle.kanal_channel.specs.Locks.{IsQuiet};
 ghost use Rattle.kanal_core.specs.declared.error.SendError.{SendError};

@@ -1,6 +1,6 @@
 //! The messages of a channel in a task, one after the other.
 //!
-//! Stands on `receiving`: each item is a receive of its own, by the pass that the stream carries.
+//! Each item is a receive of its own, by the pass that the stream carries.
 ghost use Rattle.std.specs.Prelude.{◌≡◌, ⊤, true, false, Some, None, Ok, Err, IfSome, IfNone, IsSome, OnSome, codes};
 ghost use Rattle.std.specs.Option.{option_copied};
 ghost use Rattle.futures.specs.Task.{Covers, Keeps};

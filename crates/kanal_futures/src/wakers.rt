@@ -1,7 +1,6 @@
 //! A task's wakers: the name of what it waits for, and one that is in no entry.
 //!
-//! Stands on the lock, the cell and the kit's futures. A waker wakes its task when it is dropped, so one that
-//! was displaced is kept.
+//! A waker wakes its task when it is dropped, so one that was displaced is kept.
 ghost use Rattle.std.specs.Prelude.{◌≡◌, IfSome};
 ghost use Rattle.futures.specs.Task.{Covers, Keeps};
 ghost use Rattle.kanal_cell.specs.CellRule.{HasNotLeft};

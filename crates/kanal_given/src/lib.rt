@@ -1,6 +1,6 @@
 //! What the tests of several crates are given: messages that count their drops.
 //!
-//! Stands on nothing. Only tests, and programs that test, use it.
+//! Only tests, and programs that test, use it.
 #![tactic(auto)]
 
 use std::alloc::{AllocError, Global};

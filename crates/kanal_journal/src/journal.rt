@@ -7,7 +7,7 @@
 //! `RecordedState` is a channel that keeps a journal of the calls made on it, and its type keeps that
 //! the journal explains it.
 //!
-//! Stands on the running channel, on which each event is made. Nothing here looks into the core.
+//! Nothing here looks into the core.
 ghost use Rattle.std.specs.Prelude.{◌≡◌, ◌↔◌, ℕ, ◌+◌, ◌<◌, IfOk, IsErrOf, Some, vec_len, vec_capacity};
 ghost use Rattle.kanal_core.specs.Line.{last_word};
 ghost use Rattle.kanal_journal.specs.Runs.{IsTold, Runs};

@@ -1,7 +1,6 @@
 //! Making a channel whose calls are in one history.
 //!
-//! Stands on the shared channel and on the ghost history. Such a channel is the shared one: its calls are those
-//! of `kanal_channel`, each of which takes a pass.
+//! Such a channel is the shared one: its calls are those of `kanal_channel`, each of which takes a pass.
 ghost use Rattle.std.specs.Prelude.{◌≡◌, ◌↔◌, [], IfOk, IsErrOf, None, Some};
 ghost use Rattle.kanal_board.specs.Boards.{table_of};
 ghost use Rattle.kanal_board.specs.Shares.{whole};

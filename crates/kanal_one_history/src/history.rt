@@ -1,7 +1,6 @@
 //! The history that keeps all calls, in proofs alone.
 //!
-//! Stands on a board's keeper. Its type keeps that the calls are legal; the line to which they led is the
-//! line after them.
+//! Its type keeps that the calls are legal; the line to which they led is the line after them.
 ghost use Rattle.std.specs.Prelude.{◌≡◌, []};
 ghost use Rattle.kanal_board.specs.Boards.{table_of};
 ghost use Rattle.kanal_board.specs.Shares.{whole};

@@ -1,7 +1,7 @@
 //! The passes by which threads call a channel with one history, and what of a pass goes to waiters.
 //!
-//! Stands on the fronts of a board. Its types keep that what was seen is legal. A pass makes no call by
-//! itself: the calls are the channel's, which has the board and the lock.
+//! Its types keep that what was seen is legal. A pass makes no call by itself: the calls are the channel's, which has
+//! the board and the lock.
 ghost use Rattle.std.specs.Prelude.{◌≡◌, ◌++◌, ℕ, [], take};
 ghost use mathlib.Core.List.{IsPrefix};
 ghost use Rattle.kanal_board.specs.Shares.{IsWhole, both, half};

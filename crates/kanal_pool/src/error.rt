@@ -1,6 +1,4 @@
 //! Why a pool has no answer, with its exact text.
-//!
-//! Stands on nothing.
 ghost use Rattle.std.specs.Prelude.{◌≡◌, Some};
 ghost use Rattle.kanal_pool.specs.Texts.{pool_error_text};
 

@@ -1,6 +1,4 @@
 //! What a pool works on: jobs, and the gate that each job's work passes.
-//!
-//! Stands on nothing.
 ghost use Rattle.std.specs.Prelude.{◌≡◌, true, IfOk, Bool};
 
 use kanal::error::NoMemory;

@@ -1,8 +1,8 @@
 //! A pool of workers whose answers are the jobs' answers, in the jobs' order.
 //!
-//! Stands on `kanal`: the jobs go to the workers by one channel, and the answers come back by another.
-//! Whoever works says what a job's value is (`Job`), and `map_jobs` answers with each job's value, for
-//! every number of workers; `map_in_turn` does so on one thread.
+//! The jobs go to the workers by one channel, and the answers come back by another. Whoever works says what a job's
+//! value is (`Job`), and `map_jobs` answers with each job's value, for every number of workers; `map_in_turn` does so
+//! on one thread.
 #![tactic(auto)]
 
 mod error;

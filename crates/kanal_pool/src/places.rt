@@ -1,6 +1,6 @@
 //! The places of the answers: one a job, each empty or with that job's value.
 //!
-//! Stands on `job`. `pool` alone uses it.
+//! `pool` alone uses it.
 ghost use Rattle.std.specs.Prelude.{◌≡◌, ◌⊎◌, IfOk, IfErr, OnOk, OnErr};
 ghost use Rattle.kanal_pool.specs.declared.error.PoolError.{PoolError};
 ghost use Rattle.kanal_pool.specs.Answers.{answers, AreInPlace, FillsEmpty};

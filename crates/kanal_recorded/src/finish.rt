@@ -1,7 +1,6 @@
 //! Whether the passes' lists and a journal agree.
 //!
-//! Stands on the passes' lists and on the journal's entries, and asks for no memory. It is the one
-//! place that compares messages, by the type's own `==`.
+//! It is the one place that compares messages, by the type's own `==`.
 ghost use Rattle.std.specs.Prelude.{◌≡◌, ◌≢◌, ◌<◌, ◌≤◌, true, length, IfSome};
 ghost use Rattle.std.specs.List.{All, AllPairs, sum_by};
 ghost use Rattle.kanal_recorded.specs.Merges.{IsMerged, IsAmong, IsApart, IsNoteOf, IsIdentity};

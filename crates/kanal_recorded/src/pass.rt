@@ -1,7 +1,7 @@
 //! The passes by which threads call a recorded channel.
 //!
-//! Stands on the recorded channel. A call gets the lock, makes room in the pass's own list, lends the
-//! state to one step, and notes what that answered.
+//! A call gets the lock, makes room in the pass's own list, lends the state to one step, and notes what that
+//! answered.
 ghost use Rattle.std.specs.Prelude.{◌≡◌};
 ghost use Rattle.kanal_recorded.specs.Passes.{Notes, NotesAt, heard, newcomer, seen_length};
 ghost use Rattle.kanal_journal.specs.Replays.{Records};

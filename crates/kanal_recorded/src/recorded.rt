@@ -1,6 +1,6 @@
 //! The recorded channel, which threads share, and the drawing of its passes.
 //!
-//! Stands on the lock, and on what lies under it. The lock is got where a pass is drawn, and by a pass.
+//! The lock is got where a pass is drawn, and by a pass.
 ghost use Rattle.std.specs.Prelude.{◌≡◌, ◌↔◌, ℕ, length, IfErr, IfOk, IsErrOf, Some};
 ghost use Rattle.std.specs.List.{sum_by};
 ghost use Rattle.kanal_core.specs.Line.{last_word};

@@ -1,7 +1,7 @@
 //! The waiting end of a blocked call, before and after the cell knows that it sleeps.
 //!
-//! Stands on the cell, on whose own word a call sleeps, so that it asks for no memory. The types keep that
-//! an end is polled only before it left, and put to sleep once.
+//! A call sleeps on the word of its cell, so it asks for no memory. The types keep that an end is polled only before
+//! it left, and put to sleep once.
 ghost use Rattle.std.specs.Prelude.{◌≡◌};
 ghost use Rattle.kanal_cell.specs.CellRule.{HasNotLeft, MaySleep};
 ghost use Rattle.kanal_cell.specs.CellEnds.{wait_view};

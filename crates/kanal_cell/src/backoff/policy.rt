@@ -1,11 +1,10 @@
 //! How a blocked call passes the time between its looks at its cell, and when it has looked enough.
 //!
-//! Stands on pauses and on the kit's yield. A pause spins: it keeps the processor, and ends by itself. A
-//! yield hands the processor to any thread that is ready. A thread of the same channel gives it back
-//! within a microsecond; a thread that computes keeps it for milliseconds. No call can know beforehand
-//! which of the two it will be. So a call yields only while the channel has credit for that, and the
-//! channel gets credit from waits that ended before they slept. On a busy machine few waits end so, and
-//! a call that is not told soon sleeps until it is told.
+//! A pause spins: it keeps the processor, and ends by itself. A yield hands the processor to any thread that is
+//! ready. A thread of the same channel gives it back within a microsecond; a thread that computes keeps it for
+//! milliseconds. No call can know beforehand which of the two it will be. So a call yields only while the channel has
+//! credit for that, and the channel gets credit from waits that ended before they slept. On a busy machine few waits
+//! end so, and a call that is not told soon sleeps until it is told.
 use crate::pauses::pause;
 use std::sync::atomic::AtomicU64;
 use std::sync::atomic::Ordering::SeqCst;

@@ -1,8 +1,7 @@
 //! The common way of an offer and of a take: where nobody waits.
 //!
-//! Stands on the core's two rooms. `Offer` and `Take` are large values, since they may hold a waiter that
-//! was settled. The calls here return small ones, so that the common way is cheap. Who gets nothing here
-//! makes the whole call.
+//! `Offer` and `Take` are large values, since they may hold a waiter that was settled. The calls here return small
+//! ones, so that the common way is cheap. Who gets nothing here makes the whole call.
 ghost use Rattle.std.specs.Prelude.{◌≡◌, [], IfErr, IfNone, IfSome, OnOk};
 ghost use Rattle.kanal_core.specs.Channel.{line_of};
 ghost use Rattle.kanal_core.specs.Calls.{Enters, TakesFront};

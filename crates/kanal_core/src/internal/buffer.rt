@@ -1,7 +1,7 @@
 //! The buffer: a first-in first-out room for messages, with a limit or without.
 //!
-//! Stands on the kit's ring and on a deque. A limited buffer has all its memory from the start, so
-//! that entering it is never refused for memory. Only the core holds one.
+//! A limited buffer has all its memory from the start, so that entering it is never refused for memory. Only the core
+//! holds one.
 ghost use Rattle.std.specs.Prelude.{◌≡◌, ◌+◌, ◌^◌, ◌<◌, ◌≤◌, [], ◌∷◌, ◌++◌, length, true, IfOk, IfErr, IsOk, OnOk, MatchOption, None, Some};
 ghost use Rattle.std.specs.Vec.{vec_capacity, vec_len};
 ghost use Rattle.kanal_core.specs.Line.{is_below};

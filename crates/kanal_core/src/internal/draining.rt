@@ -1,6 +1,6 @@
 //! The drain: the whole line moves to a vector's end.
 //!
-//! Stands on the two rooms. All room in the vector is there before the first message moves.
+//! All room in the vector is there before the first message moves.
 ghost use Rattle.std.specs.Prelude.{◌≡◌, ◌↔◌, ◌+◌, ◌<◌, ◌≤◌, ◌++◌, cond, [], length, map, IfErr, IfOk, IsErrOf, OnErr, OnOk};
 ghost use Rattle.std.specs.Vec.{vec_capacity, vec_len};
 ghost use Rattle.kanal_core.specs.Line.{messages};

@@ -1,6 +1,6 @@
 //! The handles of both sides: their counts, and what ends with the last handle or with a close.
 //!
-//! Stands on the core's fields. A count that is 0 stays 0, so a side that is gone never comes back.
+//! A count that is 0 stays 0, so a side that is gone never comes back.
 ghost use Rattle.std.specs.Prelude.{◌≡◌, ◌↔◌, ◌==◌, cond, [], map, IfErr, IfOk, IsErr, OnOk};
 ghost use Rattle.kanal_core.specs.Moves.{cleared, close, drop_receiver, drop_sender, last_count, raised, seal};
 ghost use Rattle.kanal_core.specs.Channel.{closed, ended_by, line_of, receiver_dropped, sealed, sender_dropped, settlement};

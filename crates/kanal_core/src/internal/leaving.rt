@@ -1,8 +1,8 @@
 //! What moves out of the core: the waits that a step ended or whose messages it took, the messages
 //! that a close cleared, and the messages that are left when a channel's life ends.
 //!
-//! Stands on the two rooms. Each value was moved out of the core as it stood, with no memory asked
-//! for, so that its waiters can be settled and its messages dropped after a lock was released.
+//! Each value was moved out of the core as it stood, with no memory asked for, so that its waiters can be settled and
+//! its messages dropped after a lock was released.
 ghost use Rattle.std.specs.Prelude.{◌≡◌, ◌+◌, ◌≤◌, [], ◌∷◌, ◌++◌, cond, length, map};
 ghost use Rattle.std.specs.Vec.{vec_capacity, vec_len};
 ghost use Rattle.kanal_core.specs.Calls.{TakesFirst};

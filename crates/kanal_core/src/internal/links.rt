@@ -1,6 +1,6 @@
 //! The links between slots: each names the place before it and the place after it.
 //!
-//! Stands on the slots. Only the list of waiters links them.
+//! Only the list of waiters links them.
 ghost use Rattle.std.specs.Prelude.{◌≡◌, ℕ};
 ghost use Rattle.slab.specs.Slab.{get, slab_len};
 ghost use Rattle.kanal_core.specs.Links.{end_after, front_with, link_after, link_before};

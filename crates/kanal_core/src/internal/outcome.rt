@@ -1,7 +1,7 @@
 //! The values that go in and out of the core: tickets, waiters and what became of them, and the
 //! answers of an offer and of a take.
 //!
-//! Stands on nothing. A `Ticket` is made by the list of waiters alone.
+//! A `Ticket` is made by the list of waiters alone.
 ghost use Rattle.std.specs.Prelude.{◌≡◌, IsSome, Some, None};
 ghost use Rattle.kanal_core.specs.Tickets.{number_of};
 

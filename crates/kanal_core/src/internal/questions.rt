@@ -1,6 +1,6 @@
 //! What can be asked of a core without changing it.
 //!
-//! Stands on the core's fields. An answer holds until the next call that changes the core.
+//! An answer holds until the next call that changes the core.
 ghost use Rattle.std.specs.Prelude.{◌≡◌, ◌==◌, ◌&&◌, not, length};
 ghost use Rattle.kanal_core.specs.Line.{buffered, capacity_word, is_at, is_bounded, last_word};
 ghost use Rattle.kanal_core.specs.Channel.{line_of};

@@ -1,8 +1,7 @@
 //! The slots that waiters stand in, each way to one of them counted.
 //!
-//! Stands on the kit's slab. Only the list of waiters holds slots. A slot in use is reached by
-//! `get`, `get_mut` and `try_remove` alone, and each of them is a visit, which raises the count that
-//! it is lent by one.
+//! Only the list of waiters holds slots. A slot in use is reached by `get`, `get_mut` and `try_remove` alone, and
+//! each of them is a visit, which raises the count that it is lent by one.
 ghost use Rattle.std.specs.Prelude.{◌≡◌, ◌+◌, [], IsSome, IfNone, OnOk, OnSome, None, Some, option_copied};
 ghost use Rattle.std.specs.Borrow.{sem};
 ghost use Rattle.std.specs.Option.{option_copied_mut, option_map};

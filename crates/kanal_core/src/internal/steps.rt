@@ -1,7 +1,6 @@
 //! A count of the visits that a call makes.
 //!
-//! Stands on the ledger alone, whose tokens take no bytes. Anybody may hold a count and lend it to a
-//! call that counts; a count that is idle counts nothing.
+//! Anybody may hold a count and lend it to a call that counts; a count that is idle counts nothing.
 ghost use Rattle.std.specs.Prelude.{◌≡◌, ◌+◌, ◌<◌, Some, None};
 ghost use Rattle.kanal_core.specs.Visits.{one_more};
 

@@ -1,9 +1,8 @@
 //! The list of those that wait, oldest first.
 //!
-//! Stands on linked slots alone. Only the core, and what it hands out at an end, hold one. A waiter
-//! is named by its ticket, which has the place of its slot, so that one which leaves is found at
-//! once; no other module reads that place. A place is used again after its waiter has left, and the
-//! ticket's number then tells the two apart.
+//! Only the core, and what it hands out at an end, hold one. A waiter is named by its ticket, which has the place of
+//! its slot, so that one which leaves is found at once; no other module reads that place. A place is used again after
+//! its waiter has left, and the ticket's number then tells the two apart.
 ghost use Rattle.std.specs.Prelude.{◌≡◌, ◌+◌, ◌≤◌, ◌↔◌, ℕ, [], ◌++◌, cond, true, drop, length, map, slice_get, IfErr, IfNone, IfOk, IfSome, option_copied};
 ghost use Rattle.std.specs.Vec.{vec_capacity, vec_len};
 ghost use Rattle.std.specs.Borrow.{sem};

@@ -1,6 +1,4 @@
 //! The slow stage, and what is told of who waits for it.
-//!
-//! Stands on `kanal_exchange`, which hands each count to it.
 use kanal_exchange::Stage;
 use std::sync::atomic::AtomicU64;
 use std::sync::atomic::Ordering::SeqCst;

@@ -1,6 +1,4 @@
 //! The stage: what becomes of a line.
-//!
-//! Stands on `kanal_exchange`, which hands each line to it.
 ghost use Rattle.std.specs.Prelude.{◌≡◌, ◌%◌, ◌^◌, cond};
 ghost use Rattle.kanal_exchange_run.specs.Words.{words_of};
 

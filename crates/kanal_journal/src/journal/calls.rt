@@ -1,8 +1,7 @@
 //! One event, made on a core.
 //!
-//! Stands on the steps of `kanal_events`, which make every event, and adds what a list of events has
-//! beside its core: the tickets that were given, at their numbers, and the live handles. What left the
-//! core comes back with the reply; nothing is settled or kept here.
+//! To the steps of `kanal_events` it adds the tickets that were given, at their numbers, and the live handles. What
+//! left the core comes back with the reply; nothing is settled or kept here.
 ghost use Rattle.std.specs.Prelude.{◌≡◌, ◌+◌, ◌<◌, ◌≤◌, true, length, vec_len, vec_capacity};
 ghost use Rattle.kanal_core.specs.Channel.{line_of};
 ghost use Rattle.kanal_events.specs.Steps.{Tells};

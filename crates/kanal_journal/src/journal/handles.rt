@@ -1,6 +1,6 @@
 //! The live handles of both sides, through which events are made.
 //!
-//! Stands on the events alone. A count of the channel falls to 0 at a close; the live handles do not.
+//! A count of the channel falls to 0 at a close; the live handles do not.
 ghost use Rattle.std.specs.Prelude.{◌≡◌};
 ghost use Rattle.kanal_journal.specs.Runs.{has_handle, has_side};
 

@@ -1,7 +1,6 @@
 //! What a step told, put at the end of the lists that keep it.
 //!
-//! Stands on what the core handed out. Every list has its room before, so that nothing is refused
-//! here.
+//! Every list has its room before, so that nothing is refused here.
 ghost use Rattle.std.specs.Prelude.{◌≡◌, ◌+◌, ◌<◌, ◌≤◌, [], ◌∷◌, ◌++◌, length, vec_len, vec_capacity};
 ghost use Rattle.kanal_events.specs.Made.{reply_of, settled_of, cleared_of, owed_of};
 ghost use Rattle.kanal_journal.specs.Runs.{numbered};

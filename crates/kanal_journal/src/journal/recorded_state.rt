@@ -1,7 +1,7 @@
 //! The recorded channel's state: a channel that keeps a journal of every call made on it.
 //!
-//! Stands on the recorder, which makes the calls. That the journal explains what is there is a fact
-//! of the type, so it holds each time that the state is got, from under a lock too.
+//! That the journal explains what is there is a fact of the type, so it holds each time that the state is got, from
+//! under a lock too.
 ghost use Rattle.std.specs.Prelude.{◌≡◌, ◌↔◌, ℕ, IfOk, IsErrOf, Some, length};
 ghost use Rattle.kanal_core.specs.Line.{last_word, messages};
 ghost use Rattle.kanal_journal.specs.Paired.{Paired, until, rest};

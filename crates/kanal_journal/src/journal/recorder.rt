@@ -1,8 +1,7 @@
 //! A channel with the journal of its calls, and all that it told along them.
 //!
-//! Stands on the running channel, which makes each event and notes what that told. Room for all that
-//! a step may add is made before the step. That the journal replays to what is there is a fact which each step
-//! is given and gives back; `RecordedState` keeps it, and nothing else has a recorder.
+//! Room for all that a step may add is made before the step. That the journal replays to what is there is a fact
+//! which each step is given and gives back; `RecordedState` keeps it, and nothing else has a recorder.
 ghost use Rattle.std.specs.Prelude.{◌≡◌, ◌↔◌, ◌+◌, ◌<◌, [], ◌∷◌, ◌++◌, IfOk, IsErrOf, Some, vec_len, vec_capacity};
 ghost use Rattle.kanal_core.specs.Line.{last_word};
 ghost use Rattle.kanal_journal.specs.Replays.{Records, opened, outcome_of};

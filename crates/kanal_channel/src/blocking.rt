@@ -174,8 +174,8 @@ impl<T: Drop, H: History<T>> Shared<T, H> {
             return Ok((locked, event));
         }
         let reply = locked.state.refuse(&self.board, pass, event);
-        locked.give_back_quiet();
-        Err(reply)
+        let released = locked.give_back_quiet();
+        Err(reply.open(&released))
     }
 
     /// Starts the wait of a call that the pass has seen must wait, with the seat, and gives the lock back.
@@ -203,12 +203,12 @@ impl<T: Drop, H: History<T>> Shared<T, H> {
     {
         let mut locked = locked;
         let start = locked.state.wait(&self.board, pass, event, seat);
-        locked.give_back_quiet();
+        let released = locked.give_back_quiet();
         match start {
             WaitStart::Waits(counted) => Ok(counted),
             WaitStart::Refused(reply, seat) => {
-                drop(seat);
-                Err(reply)
+                drop(seat.open(&released));
+                Err(reply.open(&released))
             },
         }
     }

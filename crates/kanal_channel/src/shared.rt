@@ -1,10 +1,9 @@
 //! What the handles of a channel share: the lock round the core and its history, and the notices of those
 //! that may not wait for the lock.
 //!
-//! Stands on the lock and the state. A call takes the lock, makes one step, and gives the lock back; only then
-//! it tells those whose waits the step settled. A call that may not wait leaves a notice where the lock is
-//! held, which whoever gets the lock next applies. `locked` alone takes the notices, and `release` alone
-//! gives the lock back and tells.
+//! A call takes the lock, makes one step, and gives the lock back; only then it tells those whose waits the step
+//! settled. A call that may not wait leaves a notice where the lock is held, which whoever gets the lock next
+//! applies. `locked` alone takes the notices, and `release` alone gives the lock back and tells.
 ghost use Rattle.std.specs.Prelude.{◌≡◌, IsErrOf};
 ghost use Rattle.kanal_core.specs.Channel.{line_of};
 

@@ -1,7 +1,6 @@
 //! The counts of both sides, what ends them, and the questions.
 //!
-//! Stands on `blocking`. Each call here is one event, and waits for the lock alone. A handle is counted by a
-//! token, which `count` gives.
+//! Each call here is one event, and waits for the lock alone. A handle is counted by a token, which `count` gives.
 ghost use Rattle.std.specs.Prelude.{◌≡◌};
 ghost use Rattle.kanal_state.specs.Handles.{Asks, AsksForTheEnd, Closes, Seals};
 ghost use Rattle.kanal_state.specs.Makes.{IsReplied};

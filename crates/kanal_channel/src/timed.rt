@@ -94,14 +94,14 @@ impl<T: Drop, H: History<T>> Shared<T, H> {
     {
         let mut locked = self.hold(rt);
         let withdrawn = locked.state.withdraw(&self.board, pass, counted);
-        locked.give_back_quiet();
+        let released = locked.give_back_quiet();
         match withdrawn {
             Ok(waiter) => {
                 let Waiter {
                     ticket: _,
                     message,
                     w,
-                } = waiter;
+                } = waiter.open(&released);
                 drop(w);
                 Came::Withdrawn(message)
             },

@@ -11,9 +11,10 @@ use Rattle.kanal_core.specs.declared.error.SendError.TheVariants.{NoMemory as Se
 use Rattle.kanal_core.specs.declared.error.SendErrorTimeout.{SendErrorTimeout}
 use Rattle.kanal_core.specs.declared.error.SendErrorTimeout.TheVariants.{DeadlineOutOfRange as SendOutOfRange}
 use Rattle.kanal_events.specs.declared.event.Ask.{Ask}
-use Rattle.kanal_events.specs.declared.event.Event.TheVariants.{Send, TrySend, Recv, TryRecv, Drain, Seal, Close, CloneTx, CloneRx, Ask as AskOf, Terminated}
+use Rattle.kanal_events.specs.declared.event.Event.TheVariants.{Send, TrySend, Recv, TryRecv, Drain, Seal, Close, Ask as AskOf, Terminated}
 use Rattle.kanal_events.specs.declared.event.Reply.{Reply}
 use Rattle.kanal_events.specs.declared.event.Side.{Side}
+use Rattle.kanal_state.specs.Counts.{one_more}
 use Rattle.kanal_state.specs.Makes.{Comes, Finishes, HasDrained, IsReplied, Lacks}
 use Rattle.kanal_state.specs.Results.{asked_by, closed_by, counted_by, entered_by, flag_by, receive_in_time, received_after, received_by, send_in_time, sent_after, sent_by}
 use Rattle.kanal_state.specs.Timed.{FinishesBy, MeasuresFrom, ReceivesLate}
@@ -73,13 +74,9 @@ module _ {T P : Type 0} (w : Words T P) (old new : P) where
   abbrev pub Closes : Result (Unit {0}) CloseError → Type 0
   Closes answer = IsReplied w old new Close closed_by answer
 
-  -- one more sender
-  abbrev pub CountsSender : Result (Unit {0}) NoMore → Type 0
-  CountsSender answer = IsReplied w old new CloneTx counted_by answer
-
-  -- one more receiver
-  abbrev pub CountsReceiver : Result (Unit {0}) NoMore → Type 0
-  CountsReceiver answer = IsReplied w old new CloneRx counted_by answer
+  -- one more handle of a side
+  abbrev pub Counts : Side → Result (Unit {0}) NoMore → Type 0
+  Counts side answer = IsReplied w old new (one_more side) counted_by answer
 
   -- a question through a side
   abbrev pub Asks : {R : Type 0} → Side → Ask → (Reply T → R) → R → Type 0

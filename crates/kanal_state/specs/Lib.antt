@@ -7,6 +7,8 @@ pub mod Timed
 pub mod Handles
 pub mod Refusals
 pub mod Exchanges
+pub mod Frames
+pub mod Deferred
 pub mod Counts
 pub mod Renewing
 pub mod Seats

@@ -1,10 +1,10 @@
 //! That a handle is counted, and that a call waits: tokens of no bytes, each of which has to be counted out.
 //!
-//! Stands on the kit's tag. The prover refuses to let one go. A handle's is counted out by evidence that its
-//! drop was made as a call of nobody's, or into its channel's notices; a wait's by evidence of what became of
-//! it, or into the notices. Who takes the notices has the handles' tokens again. Nothing else makes a handle's
-//! token but a new channel, and the state, by evidence that a call counted one more; nothing makes a wait's
-//! but the state, which hands it out where it starts the wait.
+//! The prover refuses to let one go. A handle's is counted out by evidence that its drop was made as a call of
+//! nobody's, or into its channel's notices; a wait's by evidence of what became of it, or into the notices. Who takes
+//! the notices has the handles' tokens again. Nothing else makes a handle's token but a new channel, and the state,
+//! by evidence that a call counted one more; nothing makes a wait's but the state, which hands it out where it starts
+//! the wait.
 ghost use Rattle.std.specs.Prelude.{◌≡◌, false, IfErr, IfNone, IfOk, IfSome, Ok};
 ghost use Rattle.kanal_core.specs.Channel.{line_of};
 ghost use Rattle.kanal_core.specs.Tickets.{number_of};

@@ -1,6 +1,4 @@
 //! The trait of a history of the calls on a channel's line.
-//!
-//! Stands on calls and on what passes tell of them.
 ghost use Rattle.std.specs.Prelude.{◌≡◌, ℕ, List};
 ghost use Rattle.kanal_core.specs.Line.{Line};
 ghost use Rattle.kanal_core.specs.declared.internal.outcome.Outcome.{Outcome};

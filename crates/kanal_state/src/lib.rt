@@ -29,7 +29,7 @@ pub use counted::{
 pub use delivered::Delivered;
 pub use history::History;
 pub use none::NoHistory;
-pub use released::Released;
+pub use released::{Deferred, Released};
 pub use seat::{Core, Leavers, Seat, ends};
 pub use side::{OfSide, ReceiveSide, SendSide};
 pub use state::{Gone, State, WaitStart};

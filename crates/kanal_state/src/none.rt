@@ -1,6 +1,6 @@
 //! No history: nothing is kept of calls, and nobody needs a pass.
 //!
-//! Stands on the trait. It has no bytes, and neither has what it gives out.
+//! It has no bytes, and neither has what it gives out.
 ghost use Rattle.std.specs.Prelude.{◌≡◌};
 
 use crate::call::Call;

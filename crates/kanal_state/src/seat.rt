@@ -1,8 +1,7 @@
 //! What a waiter brings to the core: the end that settles its wait, and, for a task, a room of its own, in
 //! which its entry is kept when it leaves by notice.
 //!
-//! Stands on the settling end and on the kit's linked list. What leaves the core is told or let go only after
-//! the lock was released.
+//! What leaves the core is told or let go only after the lock was released.
 ghost use Rattle.std.specs.Prelude.{◌≡◌, ◌<◌, ◌^◌, None, false, is_some, length, true, IfSome};
 ghost use Rattle.kanal_cell.specs.CellRule.{HasNotSettled, MaySleep};
 ghost use Rattle.kanal_cell.specs.CellEnds.{kept_waker, settle_cell, settle_view, wait_cell, wait_view};

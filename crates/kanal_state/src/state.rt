@@ -1,7 +1,7 @@
 //! What lies under the lock: the core, and the history of the calls on its line.
 //!
-//! Stands on the one set of steps. Each call lends the core to one step and has the call that was made kept,
-//! before the lock is given back; a call that is refused for memory is not kept. Nothing else changes a core.
+//! Each call lends the core to one step and has the call that was made kept, before the lock is given back; a call
+//! that is refused for memory is not kept. Nothing else changes a core.
 ghost use Rattle.std.specs.Prelude.{◌≡◌, ◌↔◌, ◌==◌, ◌++◌, true, false, not, None, Some, IsSome, IfErr, IfNone, IfOk, IfSome, OnOk};
 ghost use Rattle.std.specs.Vec.{vec_capacity, vec_len};
 ghost use Rattle.kanal_core.specs.Channel.{line_of};
@@ -15,6 +15,7 @@ ghost use Rattle.kanal_state.specs.Calls.{IsTold};
 ghost use Rattle.kanal_state.specs.Entries.{entry, receipt, replied, told_by, tried_entry, tried_receipt, withdrawal};
 ghost use Rattle.kanal_state.specs.Makes.{HasTooLittleRoom, IsKept, IsNoted, IsTried};
 ghost use Rattle.kanal_state.specs.Counts.{count_of, counts_handle, ticket_of};
+ghost use Rattle.kanal_state.specs.Frames.{OnlyLineMoves};
 ghost use Rattle.kanal_state.specs.Renewing.{Renews};
 ghost use Rattle.kanal_state.specs.Waits.{HasStarted, Joins, reply_at};
 
@@ -24,6 +25,7 @@ mod leaving;
 
 use crate::History;
 use crate::counted::{CountedWait, FirstHandles, Notices};
+use crate::released::Deferred;
 use crate::seat::{Core, Seat};
 use futures::task::Waker;
 use kanal_core::internal::{Ticket, Waiter};
@@ -68,7 +70,7 @@ pub enum WaitStart<T, H: History<T>> {
     /// The call waits. That has to be counted out.
     Waits(CountedWait),
     /// It was refused so, and the seat that it brought is back.
-    Refused(Reply<T>, Seat<T, H>),
+    Refused(Deferred<Reply<T>>, Deferred<Seat<T, H>>),
 }
 
 /// The reply to a call that must wait, where the tickets are used up.
@@ -166,7 +168,7 @@ impl<T: Drop, H: History<T>> State<T, H> {
         board: &H::Board,
         pass: &mut H::Pass,
         event: Event<T>,
-    ) -> Made<T, Seat<T, H>>
+    ) -> Deferred<Made<T, Seat<T, H>>>
         requires plain { is_plain event ≡ true }
         requires uncounted { counts_handle event ≡ false }
         ensures noted { IsNoted H.words pass.old pass.new event result }
@@ -174,7 +176,9 @@ impl<T: Drop, H: History<T>> State<T, H> {
         ensures leave { Leave self.old.2 (gone_of result) self.new.2 }
         ensures cleanup { self.new.0 ≡ self.old.0 }
     {
-        self.make(board, pass, event)
+        Deferred {
+            inside: self.make(board, pass, event),
+        }
     }
 
     /// Makes a call that never waits.
@@ -199,8 +203,7 @@ impl<T: Drop, H: History<T>> State<T, H> {
         ensures refused { IfErr result (λ back. (back ≡ message) × (pass.new ≡ pass.old)) }
         ensures step { OnOk result (Tells self.old.1 (Event.Send message) (entered self.new.1)) }
         ensures same { IfErr result (λ _. self.new.1 ≡ self.old.1) }
-        ensures waiters { self.new.2 ≡ self.old.2 }
-        ensures cleanup { self.new.0 ≡ self.old.0 }
+        ensures rest { OnlyLineMoves self.old self.new }
     {
         let asked = Snapshot::of(&message);
         steps::push(&mut self.core, message)?;
@@ -217,8 +220,7 @@ impl<T: Drop, H: History<T>> State<T, H> {
         ensures refused { IfNone result (pass.new ≡ pass.old) }
         ensures step { IfSome result (λ m. Tells self.old.1 Event.Recv (got m self.new.1)) }
         ensures same { IfNone result (self.new.1 ≡ self.old.1) }
-        ensures waiters { self.new.2 ≡ self.old.2 }
-        ensures cleanup { self.new.0 ≡ self.old.0 }
+        ensures rest { OnlyLineMoves self.old self.new }
     {
         let message = steps::pop(&mut self.core)?;
         let history = &mut self.history;
@@ -238,8 +240,7 @@ impl<T: Drop, H: History<T>> State<T, H> {
         ensures made { OnOk result (H.words.makes pass.old pass.new (tried_entry message)) }
         ensures told { OnOk result (IsTold (tried_entry message)) }
         ensures refused { IfErr result (λ back. (back ≡ message) × (pass.new ≡ pass.old)) }
-        ensures waiters { self.new.2 ≡ self.old.2 }
-        ensures cleanup { self.new.0 ≡ self.old.0 }
+        ensures rest { OnlyLineMoves self.old self.new }
     {
         let asked = Snapshot::of(&message);
         steps::push(&mut self.core, message)?;
@@ -260,8 +261,7 @@ impl<T: Drop, H: History<T>> State<T, H> {
         ensures made { IfSome result (λ m. H.words.makes pass.old pass.new (tried_receipt m)) }
         ensures told { IfSome result (λ m. IsTold (tried_receipt m)) }
         ensures refused { IfNone result (pass.new ≡ pass.old) }
-        ensures waiters { self.new.2 ≡ self.old.2 }
-        ensures cleanup { self.new.0 ≡ self.old.0 }
+        ensures rest { OnlyLineMoves self.old self.new }
     {
         let message = steps::pop(&mut self.core)?;
         let history = &mut self.history;
@@ -278,7 +278,7 @@ impl<T: Drop, H: History<T>> State<T, H> {
         board: &H::Board,
         pass: &mut H::Pass,
         event: Event<T>,
-    ) -> Result<Answered<T, Seat<T, H>>, Event<T>>
+    ) -> Result<Deferred<Answered<T, Seat<T, H>>>, Event<T>>
         requires waits { may_wait event ≡ true }
         ensures tried { IsTried H.words pass.old pass.new event result }
         ensures step { Tries self.old.1 event result self.new.1 }
@@ -288,16 +288,19 @@ impl<T: Drop, H: History<T>> State<T, H> {
         let asked = Snapshot::of(&event);
         let tried = steps::start(&mut self.core, event);
         let history = &mut self.history;
-        match &tried {
+        match tried {
             Ok(answered) => {
                 let lacks = answered.lacks_memory();
                 note::<T, Answered<T, Seat<T, H>>, OfAnswer, H>(
-                    history, board, pass, &asked, answered, lacks,
+                    history, board, pass, &asked, &answered, lacks,
                 );
+                Ok(Deferred { inside: answered })
             },
-            Err(_back) => history.show(board, pass),
+            Err(back) => {
+                history.show(board, pass);
+                Err(back)
+            },
         }
-        tried
     }
 
     /// Whether there is a ticket for one more wait.
@@ -330,21 +333,25 @@ impl<T: Drop, H: History<T>> State<T, H> {
     }
 
     /// Refuses a call that must wait, since the tickets are used up. That is a call, too.
-    pub fn refuse(&mut self, board: &H::Board, pass: &mut H::Pass, event: Event<T>) -> Reply<T>
+    pub fn refuse(
+        &mut self,
+        board: &H::Board,
+        pass: &mut H::Pass,
+        event: Event<T>,
+    ) -> Deferred<Reply<T>>
         requires waits { may_wait event ≡ true }
         requires must { MustWait self.old.1 event }
         requires used_up { self.old.1.next ≡ last_word }
         ensures made { IsKept H.words pass.old pass.new event (replied event result) }
         ensures clear { IsWait result → ⊥ }
         ensures step { Tells self.old.1 event (only self.new.1 result) }
-        ensures waiters { self.new.2 ≡ self.old.2 }
-        ensures cleanup { self.new.0 ≡ self.old.0 }
+        ensures rest { OnlyLineMoves self.old self.new }
     {
         let asked = Snapshot::of(&event);
         let reply = too_many(&self.core, event);
         let lacks = reply.is_no_memory();
         note::<T, Reply<T>, OfReply, H>(&mut self.history, board, pass, &asked, &reply, lacks);
-        reply
+        Deferred { inside: reply }
     }
 
     /// Starts the wait of a call that must, with the seat. It settles nobody. The wait has to be counted out.
@@ -377,7 +384,10 @@ impl<T: Drop, H: History<T>> State<T, H> {
         note::<T, Reply<T>, OfReply, H>(&mut self.history, board, pass, &asked, &reply, lacks);
         match kept {
             Kept::Ticket(ticket) => WaitStart::Waits(CountedWait::new(ticket)),
-            Kept::Back(seat) => WaitStart::Refused(reply, seat),
+            Kept::Back(seat) => WaitStart::Refused(
+                Deferred { inside: reply },
+                Deferred { inside: seat },
+            ),
         }
     }
 
@@ -393,7 +403,7 @@ impl<T: Drop, H: History<T>> State<T, H> {
         board: &H::Board,
         pass: &mut H::Pass,
         counted: CountedWait,
-    ) -> Result<Waiter<T, Seat<T, H>>, CountedWait>
+    ) -> Result<Deferred<Waiter<T, Seat<T, H>>>, CountedWait>
         ensures made { IfOk result (λ w. H.words.makes pass.old pass.new
             (withdrawal (number_of (ticket_of counted)) w.message)) }
         ensures told { IfOk result (λ w. IsTold
@@ -416,7 +426,7 @@ impl<T: Drop, H: History<T>> State<T, H> {
             board, pass, &ticket, &waiter,
         );
         counted.withdrawn::<T, Seat<T, H>, H>(&before, pass, &waiter);
-        Ok(waiter)
+        Ok(Deferred { inside: waiter })
     }
 
     /// Moves the whole line to the vector's end.
@@ -430,7 +440,7 @@ impl<T: Drop, H: History<T>> State<T, H> {
         board: &H::Board,
         pass: &mut H::Pass,
         into: &mut Vec<T>,
-    ) -> Made<T, Seat<T, H>>
+    ) -> Deferred<Made<T, Seat<T, H>>>
         ensures noted { IsNoted H.words pass.old pass.new Event.Drain result }
         ensures moved { into.new.items ≡ into.old.items ++ drained_of result }
         ensures memory { is_no_memory (reply_of result) ≡ true
@@ -444,7 +454,7 @@ impl<T: Drop, H: History<T>> State<T, H> {
         let asked = Snapshot::of(&Event::Drain);
         let made = steps::drain(&mut self.core, into);
         note_made(&mut self.history, board, pass, &asked, &made);
-        made
+        Deferred { inside: made }
     }
 
     /// How many senders and how many receivers there are.

@@ -8,7 +8,7 @@ ghost use Rattle.kanal_channel.specs.Locks.{IsQuiet, is_held, takes_nothing};
 
 use super::Shared;
 use kanal_cell::{Contention, LOCK_TRIES};
-use kanal_state::{Gone, History, Leavers, ReceiveSide, Released, SendSide, State};
+use kanal_state::{Deferred, Gone, History, Leavers, ReceiveSide, Released, SendSide, State};
 use std::snapshot::Snapshot;
 use std::sync::{MutexGuard, Wait};
 
@@ -25,7 +25,7 @@ pub struct Locked<'a, T, H: History<T>> {
 
 /// What applying the notices took out of the core. It has to be told.
 pub(super) struct Taken<T, H: History<T>> {
-    pub(super) gone: Option<Leavers<T, H>>,
+    pub(super) gone: Option<Deferred<Leavers<T, H>>>,
     pub(super) senders: Option<Gone<T, H>>,
     pub(super) receivers: Option<Gone<T, H>>,
 }
@@ -71,7 +71,8 @@ impl<T: Drop, H: History<T>> Drop for Locked<'_, T, H> {
 }
 
 impl<T: Drop, H: History<T>> Locked<'_, T, H> {
-    /// Releases the lock after a step that settled no wait, and looks for new notices.
+    /// Releases the lock after a step that settled no wait, and looks for new notices. What left the core may be
+    /// opened then, by the answer.
     ///
     /// # Examples
     /// ```text
@@ -79,14 +80,15 @@ impl<T: Drop, H: History<T>> Locked<'_, T, H> {
     /// locked.give_back_quiet();
     /// ```
     #[inline]
-    pub fn give_back_quiet(self)
+    pub fn give_back_quiet(self) -> Released
         requires quiet { IsQuiet self }
     {
         let shared = self.shared;
-        drop(self.release());
+        let released = self.release();
         if !shared.is_quiet() {
             shared.look();
         }
+        released
     }
 
     /// Releases the lock after a call of a caller's pass: no call of nobody's was made. What was settled may be

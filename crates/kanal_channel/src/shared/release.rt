@@ -13,7 +13,7 @@ use super::locked::{Left, Locked, Taken};
 use kanal_core::internal::Waiter;
 use kanal_events::event::Reply;
 use kanal_events::made::{Answered, Made};
-use kanal_state::{Gone, History, Released, Seat};
+use kanal_state::{Deferred, Gone, History, Released, Seat};
 
 /// How often a call looks for notices after it released the lock.
 const LOOKS: u32 = 64;
@@ -25,7 +25,7 @@ impl<T: Drop, H: History<T>> Shared<T, H> {
         &self,
         locked: Locked<'_, T, H>,
         pass: &mut H::Pass,
-        made: Made<T, Seat<T, H>>,
+        made: Deferred<Made<T, Seat<T, H>>>,
     ) -> Reply<T>
         requires quiet { IsQuiet locked }
         requires seen { HaveSettled H.words pass.old (settled_of made) }
@@ -33,7 +33,7 @@ impl<T: Drop, H: History<T>> Shared<T, H> {
         ensures same { pass.new ≡ pass.old }
     {
         let released = locked.release();
-        let reply = self.settle(pass, made, &released);
+        let reply = self.settle(pass, made.open(&released), &released);
         self.look();
         reply
     }
@@ -51,7 +51,7 @@ impl<T: Drop, H: History<T>> Shared<T, H> {
         locked: Locked<'_, T, H>,
         left: Left<T, H>,
         pass: &mut H::Pass,
-        made: Made<T, Seat<T, H>>,
+        made: Deferred<Made<T, Seat<T, H>>>,
     ) -> Reply<T>
         requires quiet { IsQuiet locked }
         requires seen { HaveSettled H.words pass.old (settled_of made) }
@@ -60,7 +60,7 @@ impl<T: Drop, H: History<T>> Shared<T, H> {
     {
         let released = locked.release();
         self.tell_left(left, &released);
-        let reply = self.settle(pass, made, &released);
+        let reply = self.settle(pass, made.open(&released), &released);
         self.look();
         reply
     }
@@ -79,7 +79,7 @@ impl<T: Drop, H: History<T>> Shared<T, H> {
         &self,
         locked: Locked<'_, T, H>,
         pass: &mut H::Pass,
-        answered: Answered<T, Seat<T, H>>,
+        answered: Deferred<Answered<T, Seat<T, H>>>,
     ) -> Reply<T>
         requires quiet { IsQuiet locked }
         requires seen { HaveSettled H.words pass.old (settled_of (made_of answered)) }
@@ -87,7 +87,7 @@ impl<T: Drop, H: History<T>> Shared<T, H> {
         ensures same { pass.new ≡ pass.old }
     {
         let released = locked.release();
-        let (reply, owed) = answered.into_parts();
+        let (reply, owed) = answered.open(&released).into_parts();
         if let Some(owed) = owed {
             drop(owed.tell(H::prefix(&self.board, pass), &released));
         }
@@ -116,11 +116,13 @@ impl<T: Drop, H: History<T>> Shared<T, H> {
         &self,
         locked: Locked<'_, T, H>,
         left: Left<T, H>,
-        found: Option<Waiter<T, Seat<T, H>>>,
+        found: Option<Deferred<Waiter<T, Seat<T, H>>>>,
     ) {
         let released = locked.release_after();
         self.tell_left(left, &released);
-        drop(found);
+        if let Some(waiter) = found {
+            drop(waiter.open(&released));
+        }
         self.look();
     }
 
@@ -129,7 +131,7 @@ impl<T: Drop, H: History<T>> Shared<T, H> {
     /// # Examples
     /// ```text
     /// let released = locked.release();
-    /// let reply = shared.settle(&mut pass, made, &released);
+    /// let reply = shared.settle(&mut pass, made.open(&released), &released);
     /// shared.look();
     /// ```
     pub fn settle(
@@ -188,7 +190,9 @@ impl<T: Drop, H: History<T>> Shared<T, H> {
             senders,
             receivers,
         } = taken;
-        drop(gone);
+        if let Some(gone) = gone {
+            drop(gone.open(released));
+        }
         if let Some(senders) = senders {
             self.tell_gone(senders, released);
         }
@@ -199,7 +203,7 @@ impl<T: Drop, H: History<T>> Shared<T, H> {
 
     /// Tells those whose waits the drop of a handle ended.
     fn tell_gone(&self, gone: Gone<T, H>, released: &Released) {
-        let (made, prefix) = gone.into_parts();
+        let (made, prefix) = gone.into_parts(released);
         let _reply = self.hand_out(prefix, made, released);
     }
 

@@ -1,8 +1,8 @@
 //! The notices of a channel: of handles that went away, and of waits that were left, while the lock was held.
 //!
-//! Stands on the tokens of `counted`. A notice counts a token out; who takes the handles' notices has the
-//! tokens again, one after the other, and has to count each out by a call, or puts it back. Of waits alone it is
-//! kept that they are sought. Notices go with their channel alone, so none is added where nobody looks.
+//! A notice counts a token out; who takes the handles' notices has the tokens again, one after the other, and has to
+//! count each out by a call, or puts it back. Of waits alone it is kept that they are sought. Notices go with their
+//! channel alone, so none is added where nobody looks.
 ghost use Rattle.std.specs.Prelude.{◌≡◌, ◌<◌, false, true, IfNone, IfSome};
 ghost use Rattle.kanal_state.specs.Counts.{are_sought, gone_handles, has_channel};
 

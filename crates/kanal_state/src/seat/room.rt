@@ -1,6 +1,4 @@
 //! Where the entry of a wait is kept that was left by notice, until the lock is released.
-//!
-//! Stands on the settling end and on the kit's linked list.
 ghost use Rattle.std.specs.Prelude.{◌≡◌, length};
 
 use crate::History;

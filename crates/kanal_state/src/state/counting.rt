@@ -1,8 +1,8 @@
 //! The calls that count a handle in.
 //!
-//! Stands on the state and on the tokens of `counted`. Who counts one more has its token, which has to be
-//! counted out. No other call counts a handle in.
+//! Who counts one more has its token, which has to be counted out. No other call counts a handle in.
 ghost use Rattle.std.specs.Prelude.{◌≡◌};
+ghost use Rattle.kanal_state.specs.Frames.{OnlyLineMoves};
 ghost use Rattle.kanal_state.specs.Makes.{IsReplied};
 ghost use Rattle.kanal_state.specs.Results.{counted_by};
 ghost use Rattle.kanal_state.specs.Counts.{one_less, one_more, whether_counted};
@@ -40,8 +40,7 @@ impl<T: Drop, H: History<T>> State<T, H> {
     /// Counts one more of a side.
     fn count_in(&mut self, board: &H::Board, pass: &mut H::Pass, side: Side) -> Result<(), TooMany>
         ensures counted { IsReplied H.words pass.old pass.new (one_more side) counted_by result }
-        ensures waiters { self.new.2 ≡ self.old.2 }
-        ensures cleanup { self.new.0 ≡ self.old.0 }
+        ensures rest { OnlyLineMoves self.old self.new }
     {
         let made = self.make(board, pass, one_more(side));
         let (reply, cleared) = made.into_parts();
@@ -65,8 +64,7 @@ impl<T: Drop, H: History<T>> State<T, H> {
     ) -> Result<Counted<S>, TooMany>
         ensures counted { IsReplied H.words pass.old pass.new (one_more S.side) counted_by
             (whether_counted result) }
-        ensures waiters { self.new.2 ≡ self.old.2 }
-        ensures cleanup { self.new.0 ≡ self.old.0 }
+        ensures rest { OnlyLineMoves self.old self.new }
     {
         let before = Snapshot::of(pass);
         self.count_in(board, pass, S::side())?;

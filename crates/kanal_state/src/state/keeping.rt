@@ -1,7 +1,6 @@
 //! How a call is kept: which entry of the line each step makes, and how it comes into the history.
 //!
-//! Stands on the steps and on the history. Only the state and the calls that are nobody's use it: each has its
-//! call kept before the lock is given back.
+//! Only the state and the calls that are nobody's use it: each has its call kept before the lock is given back.
 ghost use Rattle.std.specs.Prelude.{◌≡◌, true};
 ghost use Rattle.kanal_core.specs.Line.{Line};
 ghost use Rattle.kanal_events.specs.Steps.{Tells, is_no_memory};

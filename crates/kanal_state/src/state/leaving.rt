@@ -1,7 +1,6 @@
 //! The calls that are nobody's: of a handle that is gone, and of a wait that was left.
 //!
-//! Stands on the state and on the tokens of `counted`. They are made here alone: what a handle's drop or a
-//! notice counts out, it counts out by such a call.
+//! They are made here alone: what a handle's drop or a notice counts out, it counts out by such a call.
 ghost use Rattle.std.specs.Prelude.{◌≡◌, IfNone, IfSome, Some, is_some};
 ghost use Rattle.kanal_core.specs.Channel.{line_of};
 ghost use Rattle.kanal_core.specs.Tickets.{number_of};
@@ -21,6 +20,7 @@ use super::counting::one_less;
 use super::keeping::{Asked, OfCall, OfWithdrawal};
 use crate::History;
 use crate::counted::{Counted, CountedWait, GoneHandles, GoneWaits};
+use crate::released::{Deferred, Released};
 use crate::seat::{Core, Leavers, Room, Seat};
 use crate::side::OfSide;
 use kanal_core::internal::{Ticket, Waiter};
@@ -56,13 +56,13 @@ impl<T, H: History<T>> Model for Gone<T, H> {
 }
 
 impl<T: Drop, H: History<T>> Gone<T, H> {
-    /// What was made, and what was seen of it.
+    /// What was made, and what was seen of it, once the lock was released.
     ///
     /// # Examples
     /// ```text
-    /// let (made, prefix) = gone.into_parts();
+    /// let (made, prefix) = gone.into_parts(&released);
     /// ```
-    pub fn into_parts(self) -> (Made<T, Seat<T, H>>, H::Prefix)
+    pub fn into_parts(self, _released: &Released) -> (Made<T, Seat<T, H>>, H::Prefix)
         ensures made { result.0 ≡ self }
         ensures seen { HaveShown H.shows result.1 (settled_of result.0) }
     {
@@ -130,7 +130,11 @@ impl<T: Drop, H: History<T>> State<T, H> {
     /// ```text
     /// locked.state.leave(board, counted)   answers  None   where its wait was settled
     /// ```
-    pub fn leave(&mut self, board: &H::Board, counted: CountedWait) -> Option<Waiter<T, Seat<T, H>>>
+    pub fn leave(
+        &mut self,
+        board: &H::Board,
+        counted: CountedWait,
+    ) -> Option<Deferred<Waiter<T, Seat<T, H>>>>
         ensures step { IfSome result (λ w. Tells self.old.1
             (Event.Withdraw (number_of (ticket_of counted))) (withdrawn self.new.1 w.message)) }
         ensures waiter { result ≡ waiter_of (ticket_of counted) self.old.2 }
@@ -151,7 +155,7 @@ impl<T: Drop, H: History<T>> State<T, H> {
             &waiter,
         );
         counted.taken_back::<T, Seat<T, H>, H>(&before, &self.cleanup, &waiter);
-        Some(waiter)
+        Some(Deferred { inside: waiter })
     }
 
     /// Makes the drop of this handle as a call of nobody's, and answers what was seen then.
@@ -236,7 +240,7 @@ impl<T: Drop, H: History<T>> State<T, H> {
         board: &H::Board,
         alloc: Global,
         waits: GoneWaits,
-    ) -> Leavers<T, H>
+    ) -> Deferred<Leavers<T, H>>
         ensures left { HaveLeft self.old.2 result self.new.2 }
     {
         waits.seek();
@@ -244,17 +248,17 @@ impl<T: Drop, H: History<T>> State<T, H> {
         let mut found = self.core.first_waiter(|seat| seat.is_left());
         for _count in 0..MOST {
             let Some(ticket) = found else {
-                return leavers;
+                return Deferred { inside: leavers };
             };
             found = self.core.next_waiter(ticket, |seat| seat.is_left());
             let Some(room) = take_room(&mut self.core, ticket) else {
-                return leavers;
+                return Deferred { inside: leavers };
             };
             let Some(waiter) = self.withdraw_by_nobody(board, ticket) else {
                 unreachable!()
             };
             leavers = room.keep(waiter, leavers);
         }
-        leavers
+        Deferred { inside: leavers }
     }
 }

@@ -15,4 +15,4 @@ returns-in-Ok-clause-replied g c =
 pub returns-clause-replied : goal.returns-clause-replied
 returns-clause-replied g c =
     let tried = c.in-Err.ensures.tried in
-    refused_replied g.H.History.words g.met.H.History.sound c.args.pass.now c.start.new.pass c.refuse-reply.new.pass c.args.event c.in-Err.event c.refuse-reply.result tried.1 tried.0 c.refuse-reply.ensures.made c.refuse-reply.ensures.clear
+    rw c.open.ensures (refused_replied g.H.History.words g.met.H.History.sound c.args.pass.now c.start.new.pass c.refuse-reply.new.pass c.args.event c.in-Err.event c.refuse-reply.result tried.1 tried.0 c.refuse-reply.ensures.made c.refuse-reply.ensures.clear)

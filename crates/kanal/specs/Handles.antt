@@ -1,10 +1,14 @@
 -- The handle for tasks that a handle for threads is, the one that a view is over, and what a clone does.
 use Rattle.std.specs.Prelude.{◌≡◌, ◌⊎◌, Result, Ok, Err, MatchResult}
 use Rattle.kanal_core.specs.declared.error.TooMany.{TooMany as NoMore}
-use Rattle.kanal_state.specs.Handles.{CountsReceiver, CountsSender}
+use Rattle.kanal_events.specs.declared.event.Side.{Side}
+use Rattle.kanal_state.specs.Handles.{Counts}
 use Rattle.kanal_state.specs.Words.{Words}
+use Rattle.kanal_state.specs.declared.side.ReceiveSide.{ReceiveSide}
+use Rattle.kanal_state.specs.declared.side.SendSide.{SendSide}
 use Rattle.kanal.specs.declared.async_receiver.AsyncReceiver.{AsyncReceiver}
 use Rattle.kanal.specs.declared.async_sender.AsyncSender.{AsyncSender}
+use Rattle.kanal.specs.declared.handle.Handle.{Handle}
 use Rattle.kanal.specs.declared.messages.Messages.{Messages}
 use Rattle.kanal.specs.declared.receiver.Receiver.{Receiver}
 use Rattle.kanal.specs.declared.receiver_view.ReceiverView.{ReceiverView}
@@ -20,9 +24,17 @@ module _ {T H P B S C : Type 0} where
   abbrev pub viewed_sender : SenderView T H P B S C → AsyncSender T H P B S C
   viewed_sender v = v.sender.now
 
+  -- what a sender shares with a receiver
+  abbrev pub handle_of_sender : AsyncSender T H P B S C → Handle T H SendSide P B S C
+  handle_of_sender s = s.handle
+
   -- a receiver for threads, as one for tasks
   abbrev pub receiver_for_tasks : Receiver T H P B S C → AsyncReceiver T H P B S C
   receiver_for_tasks r = r.inner
+
+  -- what a receiver shares with a sender
+  abbrev pub handle_of_receiver : AsyncReceiver T H P B S C → Handle T H ReceiveSide P B S C
+  handle_of_receiver r = r.handle
 
   -- the receiver that a view is over
   abbrev pub viewed_receiver : ReceiverView T H P B S C → AsyncReceiver T H P B S C
@@ -33,12 +45,7 @@ module _ {T H P B S C : Type 0} where
   pass_of m = m.pass
 
 module _ {T P A : Type 0} (w : Words T P) (old new : P) where
-  -- one more sender is counted; where the answer is an error, none is: no call was made, or it was refused
-  abbrev pub ClonesSender : Result A NoMore → Type 0
-  ClonesSender answer =
-      MatchResult answer (λ _. CountsSender w old new (Ok tt)) (λ error. (new ≡ old) ⊎ CountsSender w old new (Err error))
-
-  -- the same of a receiver
-  abbrev pub ClonesReceiver : Result A NoMore → Type 0
-  ClonesReceiver answer =
-      MatchResult answer (λ _. CountsReceiver w old new (Ok tt)) (λ error. (new ≡ old) ⊎ CountsReceiver w old new (Err error))
+  -- one more of the side is counted; where the answer is an error, none is: no call was made, or it was refused
+  abbrev pub Clones : Side → Result A NoMore → Type 0
+  Clones side answer =
+      MatchResult answer (λ _. Counts w old new side (Ok tt)) (λ error. (new ≡ old) ⊎ Counts w old new side (Err error))

@@ -1,62 +1,42 @@
-//! The receiver of a channel for tasks: the receiving handle that holds the channel.
+//! The receiver of a channel for tasks, over which the receiver for threads and the view are made.
 //!
-//! Stands on the shared channel; nothing is done here but handing on and counting. It alone has a
-//! receiver's drop; the receiver for threads and the view are made over it. A call is the channel's call by
-//! its caller's pass, of which the body knows nothing; a call that takes no caller is made by the pass of no
-//! content.
+//! A call is the channel's call by its caller's pass, of which the body knows nothing; a call that takes no caller
+//! is made by the pass of no content.
 ghost use Rattle.std.specs.Prelude.{◌≡◌, Some, IfErr, IsErrOf, OnErr, Ok, false, codes};
 ghost use Rattle.std.specs.Vec.{vec_capacity, vec_len};
-ghost use Rattle.kanal.specs.Handles.{ClonesReceiver, receiver_for_tasks, viewed_receiver};
-ghost use Rattle.kanal_events.specs.declared.event.Ask.{Ask};
+ghost use Rattle.kanal.specs.Handles.{Clones, handle_of_receiver, receiver_for_tasks, viewed_receiver};
 ghost use Rattle.kanal_events.specs.declared.event.Side.{Side};
 ghost use Rattle.kanal_futures.specs.Plain.{is_over};
 ghost use Rattle.kanal_futures.specs.Streams.{stream_is_over, stream_pass};
-ghost use Rattle.kanal_state.specs.Handles.{Asks, AsksForTheEnd, Closes, Drains, Seals, TriesToReceive, TriesToReceiveNow};
+ghost use Rattle.kanal_state.specs.Handles.{AsksForTheEnd, Drains, TriesToReceive, TriesToReceiveNow};
 ghost use Rattle.kanal_state.specs.Makes.{HasTooLittleRoom};
-ghost use Rattle.kanal_state.specs.Results.{count_by, flag_by, number_by};
 
-use crate::questions::{ask_count, ask_flag, ask_number};
+use crate::handle::Handle;
 use crate::receiver::Receiver;
 use crate::receiver_view::ReceiverView;
 use kanal_channel::{CountedReceiver, Shared};
-use kanal_core::error::{CloseError, ReceiveError, TooMany};
-use kanal_events::event::{Ask, Side};
+use kanal_core::error::{ReceiveError, TooMany};
 use kanal_futures::{ReceiveFuture, ReceiveStream, receive_future, receive_stream};
-use kanal_state::{Caller, History, NoHistory};
+use kanal_state::{Caller, History, NoHistory, ReceiveSide};
 use std::fmt;
+use std::ops::Deref;
 use std::sync::{Arc, Wait};
 
 /// Receives messages of a channel in a task.
 ///
 /// The channel's receive side is gone when the last receiver of either kind was dropped. A drop waits
 /// for nobody.
+#[derive(Drop)]
 pub struct AsyncReceiver<T, H: History<T> = NoHistory> {
-    shared: Arc<Shared<T, H>>,
-    counted: CountedReceiver,
-}
-
-impl<T: Drop, H: History<T>> Drop for AsyncReceiver<T, H> {
-    fn drop(self) {
-        let AsyncReceiver { shared, counted } = self;
-        shared.drop_handle(counted);
-    }
+    handle: Handle<T, H, ReceiveSide>,
 }
 
 impl<T: Drop, H: History<T>> AsyncReceiver<T, H> {
     /// A receiver of the channel that is counted.
     pub(crate) fn new(shared: Arc<Shared<T, H>>, counted: CountedReceiver) -> Self {
-        AsyncReceiver { shared, counted }
-    }
-
-    /// The channel, each call of which takes a pass. It is for channels with a history: whoever has none
-    /// calls the handle.
-    ///
-    /// # Examples
-    /// ```text
-    /// receiver.channel().recv(&rt, &mut pass)   answers  Ok(7)   where 7 was sent
-    /// ```
-    pub fn channel(&self) -> &Shared<T, H> {
-        &self.shared
+        AsyncReceiver {
+            handle: Handle::new(shared, counted),
+        }
     }
 
     /// One more receiver of the channel, as a call of this pass. Where no receiver is left it stays so, and
@@ -71,13 +51,11 @@ impl<T: Drop, H: History<T>> AsyncReceiver<T, H> {
     /// let other = receiver.clone_by(&rt, &mut pass)?;
     /// ```
     pub fn clone_by<R: Wait>(&self, rt: &R, pass: &mut H::Pass) -> Result<Self, TooMany>
-        ensures counted { ClonesReceiver H.words pass.old pass.new result }
+        ensures counted { Clones H.words pass.old pass.new Side.Rx result }
     {
-        let Ok(shared) = Arc::try_clone(&self.shared) else {
-            return Err(TooMany);
-        };
-        let counted = self.shared.count(rt, pass)?;
-        Ok(AsyncReceiver { shared, counted })
+        Ok(AsyncReceiver {
+            handle: self.handle.one_more(rt, pass)?,
+        })
     }
 
     /// The same receiver for threads: the counts stay. It waits for nobody.
@@ -119,7 +97,7 @@ impl<T: Drop, H: History<T>> AsyncReceiver<T, H> {
         ensures received { TriesToReceive H.words (R.before rt) (R.after rt) result }
     {
         let (rt, mut pass, end) = rt.begin();
-        let answer = self.shared.try_recv(&rt, &mut pass);
+        let answer = self.channel().try_recv(&rt, &mut pass);
         R::end(end, pass);
         answer
     }
@@ -147,7 +125,7 @@ impl<T: Drop, H: History<T>> AsyncReceiver<T, H> {
         ensures no_growth { OnErr result (vec_capacity into.new ≡ vec_capacity into.old) }
     {
         let (rt, mut pass, end) = rt.begin();
-        let answer = self.shared.drain_into(&rt, &mut pass, into);
+        let answer = self.channel().drain_into(&rt, &mut pass, into);
         R::end(end, pass);
         answer
     }
@@ -164,7 +142,7 @@ impl<T: Drop, H: History<T>> AsyncReceiver<T, H> {
     /// receiver.receiver_count(&rt)   answers  2   where it answered 1 before
     /// ```
     pub fn clone<R: Caller<H::Pass>>(&self, rt: R) -> Result<Self, TooMany>
-        ensures counted { ClonesReceiver H.words (R.before rt) (R.after rt) result }
+        ensures counted { Clones H.words (R.before rt) (R.after rt) Side.Rx result }
     {
         let (rt, mut pass, end) = rt.begin();
         let answer = self.clone_by(&rt, &mut pass);
@@ -183,22 +161,10 @@ impl<T: Drop, H: History<T>> AsyncReceiver<T, H> {
     /// other.receiver_count(&rt)   answers  2   where it answered 1 before
     /// ```
     pub fn clone_sync<R: Caller<H::Pass>>(&self, rt: R) -> Result<Receiver<T, H>, TooMany>
-        ensures counted { ClonesReceiver H.words (R.before rt) (R.after rt) result }
+        ensures counted { Clones H.words (R.before rt) (R.after rt) Side.Rx result }
     {
         let inner = self.clone(rt)?;
         Ok(inner.to_sync())
-    }
-
-    /// Whether no sender is left. It waits for the lock.
-    ///
-    /// # Examples
-    /// ```text
-    /// receiver.is_disconnected(&rt)   answers  true   after the last sender was dropped
-    /// ```
-    pub fn is_disconnected<R: Caller<H::Pass>>(&self, rt: R) -> bool
-        ensures asked { Asks H.words (R.before rt) (R.after rt) Side.Rx Ask.IsDisconnected flag_by result }
-    {
-        ask_flag(&self.shared, rt, Side::Rx, Ask::IsDisconnected)
     }
 
     /// Whether no sender is left and nothing is in the line, waiting senders' messages included, so that
@@ -212,148 +178,7 @@ impl<T: Drop, H: History<T>> AsyncReceiver<T, H> {
         ensures asked { AsksForTheEnd H.words (R.before rt) (R.after rt) result }
     {
         let (rt, mut pass, end) = rt.begin();
-        let answer = self.shared.is_terminated(&rt, &mut pass);
-        R::end(end, pass);
-        answer
-    }
-
-    /// How many messages are in the buffer. It waits for the lock.
-    ///
-    /// # Examples
-    /// ```text
-    /// receiver.len(&rt)   answers  1   after one message entered a bounded channel for two
-    /// ```
-    pub fn len<R: Caller<H::Pass>>(&self, rt: R) -> usize
-        ensures asked { Asks H.words (R.before rt) (R.after rt) Side.Rx Ask.Len number_by result }
-    {
-        ask_number(&self.shared, rt, Side::Rx, Ask::Len)
-    }
-
-    /// Whether no message is in the buffer, whoever waits. It waits for the lock.
-    ///
-    /// # Examples
-    /// ```text
-    /// receiver.is_empty(&rt)   answers  false   after one message entered
-    /// ```
-    pub fn is_empty<R: Caller<H::Pass>>(&self, rt: R) -> bool
-        ensures asked { Asks H.words (R.before rt) (R.after rt) Side.Rx Ask.IsEmpty flag_by result }
-    {
-        ask_flag(&self.shared, rt, Side::Rx, Ask::IsEmpty)
-    }
-
-    /// Whether the buffer is at the capacity: always at capacity 0, and never without a limit. It
-    /// waits for the lock.
-    ///
-    /// # Examples
-    /// ```text
-    /// receiver.is_full(&rt)   answers  true   after one message entered a bounded channel for one
-    /// ```
-    pub fn is_full<R: Caller<H::Pass>>(&self, rt: R) -> bool
-        ensures asked { Asks H.words (R.before rt) (R.after rt) Side.Rx Ask.IsFull flag_by result }
-    {
-        ask_flag(&self.shared, rt, Side::Rx, Ask::IsFull)
-    }
-
-    /// Whether the channel has a limit. It waits for the lock.
-    ///
-    /// # Examples
-    /// ```text
-    /// receiver.is_bounded(&rt)   answers  true   for a channel that `bounded` made
-    /// ```
-    pub fn is_bounded<R: Caller<H::Pass>>(&self, rt: R) -> bool
-        ensures asked { Asks H.words (R.before rt) (R.after rt) Side.Rx Ask.IsBounded flag_by result }
-    {
-        ask_flag(&self.shared, rt, Side::Rx, Ask::IsBounded)
-    }
-
-    /// How many messages the buffer may hold, which is `usize::MAX` without a limit. It waits for the
-    /// lock.
-    ///
-    /// # Examples
-    /// ```text
-    /// receiver.capacity(&rt)   answers  2   for a bounded channel for two
-    /// ```
-    pub fn capacity<R: Caller<H::Pass>>(&self, rt: R) -> usize
-        ensures asked { Asks H.words (R.before rt) (R.after rt) Side.Rx Ask.Capacity number_by result }
-    {
-        ask_number(&self.shared, rt, Side::Rx, Ask::Capacity)
-    }
-
-    /// How many receivers there are. It waits for the lock.
-    ///
-    /// # Examples
-    /// ```text
-    /// receiver.receiver_count(&rt)   answers  1   for a new channel
-    /// ```
-    pub fn receiver_count<R: Caller<H::Pass>>(&self, rt: R) -> u32
-        ensures asked { Asks H.words (R.before rt) (R.after rt) Side.Rx Ask.ReceiverCount count_by result }
-    {
-        ask_count(&self.shared, rt, Side::Rx, Ask::ReceiverCount)
-    }
-
-    /// How many senders there are. It waits for the lock.
-    ///
-    /// # Examples
-    /// ```text
-    /// receiver.sender_count(&rt)   answers  1   for a new channel
-    /// ```
-    pub fn sender_count<R: Caller<H::Pass>>(&self, rt: R) -> u32
-        ensures asked { Asks H.words (R.before rt) (R.after rt) Side.Rx Ask.SenderCount count_by result }
-    {
-        ask_count(&self.shared, rt, Side::Rx, Ask::SenderCount)
-    }
-
-    /// Whether both sides are gone. It waits for the lock.
-    ///
-    /// # Examples
-    /// ```text
-    /// receiver.is_closed(&rt)   answers  true   after a close
-    /// ```
-    pub fn is_closed<R: Caller<H::Pass>>(&self, rt: R) -> bool
-        ensures asked { Asks H.words (R.before rt) (R.after rt) Side.Rx Ask.IsClosed flag_by result }
-    {
-        ask_flag(&self.shared, rt, Side::Rx, Ask::IsClosed)
-    }
-
-    /// Lets the senders be done: nothing more enters, and the receivers take what is left. A receive
-    /// that waits ends with `SendClosed`, and so does each later one once nothing is left; a send that
-    /// waits is still served. Each later send is refused as `Sealed`. It waits for the lock.
-    ///
-    /// `close` throws away what is in the channel, and the last sender's drop needs every clone gone.
-    ///
-    /// # Errors
-    /// `CloseError` where the channel was sealed or closed already, or no sender is left.
-    ///
-    /// # Examples
-    /// ```text
-    /// receiver.seal(&rt)   answers  Ok(())
-    /// receiver.seal(&rt)   answers  Err(CloseError())   after that
-    /// ```
-    pub fn seal<R: Caller<H::Pass>>(&self, rt: R) -> Result<(), CloseError>
-        ensures sealed { Seals H.words (R.before rt) (R.after rt) result }
-    {
-        let (rt, mut pass, end) = rt.begin();
-        let answer = self.shared.seal(&rt, &mut pass);
-        R::end(end, pass);
-        answer
-    }
-
-    /// Closes the channel for both sides: all waits end with `Closed`, and the buffer's messages are
-    /// dropped after the lock was released. It waits for the lock.
-    ///
-    /// # Errors
-    /// `CloseError` where both sides were gone already.
-    ///
-    /// # Examples
-    /// ```text
-    /// receiver.close(&rt)   answers  Ok(())
-    /// receiver.close(&rt)   answers  Err(CloseError())   after that
-    /// ```
-    pub fn close<R: Caller<H::Pass>>(&self, rt: R) -> Result<(), CloseError>
-        ensures closed { Closes H.words (R.before rt) (R.after rt) result }
-    {
-        let (rt, mut pass, end) = rt.begin();
-        let answer = self.shared.close(&rt, &mut pass);
+        let answer = self.channel().is_terminated(&rt, &mut pass);
         R::end(end, pass);
         answer
     }
@@ -377,7 +202,7 @@ impl<T: Drop, H: History<T, Pass = ()>> AsyncReceiver<T, H> {
     pub fn recv(&self) -> ReceiveFuture<'_, T, H>
         ensures fresh { is_over result ≡ false }
     {
-        receive_future(&self.shared)
+        receive_future(self.channel())
     }
 
     /// The messages, one receive after the other, until one is refused. It waits for nobody.
@@ -391,7 +216,7 @@ impl<T: Drop, H: History<T, Pass = ()>> AsyncReceiver<T, H> {
         ensures fresh { stream_is_over result ≡ false }
         ensures pass { stream_pass result ≡ Some tt }
     {
-        receive_stream(&self.shared, ())
+        receive_stream(self.channel(), ())
     }
 
     /// Receives the front message, if there is one and the lock is free: it waits for nobody.
@@ -407,7 +232,7 @@ impl<T: Drop, H: History<T, Pass = ()>> AsyncReceiver<T, H> {
     pub fn try_recv_realtime(&self) -> Result<Option<T>, ReceiveError>
         ensures received { TriesToReceiveNow H.words tt tt result }
     {
-        self.shared.try_recv_realtime(&mut ())
+        self.channel().try_recv_realtime(&mut ())
     }
 }
 
@@ -416,5 +241,16 @@ impl<T: Drop, H: History<T>> fmt::Debug for AsyncReceiver<T, H> {
 
     fn fmt<W: fmt::Write>(&self, f: &mut fmt::Formatter<W>) -> fmt::Result {
         f.write_str("AsyncReceiver { .. }")
+    }
+}
+
+/// The calls that it shares with the sender for tasks.
+impl<T: Drop, H: History<T>> Deref for AsyncReceiver<T, H> {
+    type Target = Handle<T, H, ReceiveSide>;
+
+    ghost deref_gives = { λ tasks handle. handle ≡ handle_of_receiver tasks };
+
+    fn deref(&self) -> &Handle<T, H, ReceiveSide> {
+        &self.handle
     }
 }

@@ -1,59 +1,39 @@
-//! The sender of a channel for tasks: the sending handle that holds the channel.
+//! The sender of a channel for tasks, over which the sender for threads and the view are made.
 //!
-//! Stands on the shared channel; nothing is done here but handing on and counting. It alone has a
-//! sender's drop; the sender for threads and the view are made over it. A call is the channel's call by its
-//! caller's pass, of which the body knows nothing; a call that takes no caller is made by the pass of no
-//! content.
+//! A call is the channel's call by its caller's pass, of which the body knows nothing; a call that takes no caller
+//! is made by the pass of no content.
 ghost use Rattle.std.specs.Prelude.{◌≡◌, ◌≢◌, IfSome, IsSome, None, Ok, Some, true, codes};
-ghost use Rattle.kanal.specs.Handles.{ClonesSender, sender_for_tasks, viewed_sender};
-ghost use Rattle.kanal_events.specs.declared.event.Ask.{Ask};
+ghost use Rattle.kanal.specs.Handles.{Clones, handle_of_sender, sender_for_tasks, viewed_sender};
 ghost use Rattle.kanal_events.specs.declared.event.Side.{Side};
 ghost use Rattle.kanal_futures.specs.Plain.{message_in};
-ghost use Rattle.kanal_state.specs.Handles.{Asks, Closes, Seals, TriesToSend, TriesToSendNow};
-ghost use Rattle.kanal_state.specs.Results.{count_by, flag_by, number_by};
+ghost use Rattle.kanal_state.specs.Handles.{TriesToSend, TriesToSendNow};
 
-use crate::questions::{ask_count, ask_flag, ask_number};
+use crate::handle::Handle;
 use crate::sender::Sender;
 use crate::sender_view::SenderView;
 use kanal_channel::{CountedSender, Shared};
-use kanal_core::error::{CloseError, SendError, TooMany};
-use kanal_events::event::{Ask, Side};
+use kanal_core::error::{SendError, TooMany};
 use kanal_futures::{SendFuture, send_future};
-use kanal_state::{Caller, History, NoHistory};
+use kanal_state::{Caller, History, NoHistory, SendSide};
 use std::fmt;
+use std::ops::Deref;
 use std::sync::{Arc, Wait};
 
 /// Sends messages to a channel from a task.
 ///
 /// The channel's send side is gone when the last sender of either kind was dropped. A drop waits for
 /// nobody.
+#[derive(Drop)]
 pub struct AsyncSender<T, H: History<T> = NoHistory> {
-    shared: Arc<Shared<T, H>>,
-    counted: CountedSender,
-}
-
-impl<T: Drop, H: History<T>> Drop for AsyncSender<T, H> {
-    fn drop(self) {
-        let AsyncSender { shared, counted } = self;
-        shared.drop_handle(counted);
-    }
+    handle: Handle<T, H, SendSide>,
 }
 
 impl<T: Drop, H: History<T>> AsyncSender<T, H> {
     /// A sender of the channel that is counted.
     pub(crate) fn new(shared: Arc<Shared<T, H>>, counted: CountedSender) -> Self {
-        AsyncSender { shared, counted }
-    }
-
-    /// The channel, each call of which takes a pass. It is for channels with a history: whoever has none
-    /// calls the handle.
-    ///
-    /// # Examples
-    /// ```text
-    /// sender.channel().send(&rt, &mut pass, 7)   answers  Ok(())   in a channel with a place
-    /// ```
-    pub fn channel(&self) -> &Shared<T, H> {
-        &self.shared
+        AsyncSender {
+            handle: Handle::new(shared, counted),
+        }
     }
 
     /// One more sender of the channel, as a call of this pass. Where no sender is left it stays so, and the
@@ -68,13 +48,11 @@ impl<T: Drop, H: History<T>> AsyncSender<T, H> {
     /// let other = sender.clone_by(&rt, &mut pass)?;
     /// ```
     pub fn clone_by<R: Wait>(&self, rt: &R, pass: &mut H::Pass) -> Result<Self, TooMany>
-        ensures counted { ClonesSender H.words pass.old pass.new result }
+        ensures counted { Clones H.words pass.old pass.new Side.Tx result }
     {
-        let Ok(shared) = Arc::try_clone(&self.shared) else {
-            return Err(TooMany);
-        };
-        let counted = self.shared.count(rt, pass)?;
-        Ok(AsyncSender { shared, counted })
+        Ok(AsyncSender {
+            handle: self.handle.one_more(rt, pass)?,
+        })
     }
 
     /// The same sender for threads: the counts stay. It waits for nobody.
@@ -117,7 +95,7 @@ impl<T: Drop, H: History<T>> AsyncSender<T, H> {
         ensures sent { TriesToSend H.words (R.before rt) (R.after rt) message result }
     {
         let (rt, mut pass, end) = rt.begin();
-        let answer = self.shared.try_send(&rt, &mut pass, message);
+        let answer = self.channel().try_send(&rt, &mut pass, message);
         R::end(end, pass);
         answer
     }
@@ -147,7 +125,7 @@ impl<T: Drop, H: History<T>> AsyncSender<T, H> {
         ensures kept { result ≢ Ok true → option.new ≡ option.old }
     {
         let (rt, mut pass, end) = rt.begin();
-        let answer = self.shared.try_send_option(&rt, &mut pass, option);
+        let answer = self.channel().try_send_option(&rt, &mut pass, option);
         R::end(end, pass);
         answer
     }
@@ -164,7 +142,7 @@ impl<T: Drop, H: History<T>> AsyncSender<T, H> {
     /// sender.sender_count(&rt)   answers  2   where it answered 1 before
     /// ```
     pub fn clone<R: Caller<H::Pass>>(&self, rt: R) -> Result<Self, TooMany>
-        ensures counted { ClonesSender H.words (R.before rt) (R.after rt) result }
+        ensures counted { Clones H.words (R.before rt) (R.after rt) Side.Tx result }
     {
         let (rt, mut pass, end) = rt.begin();
         let answer = self.clone_by(&rt, &mut pass);
@@ -183,163 +161,10 @@ impl<T: Drop, H: History<T>> AsyncSender<T, H> {
     /// other.sender_count(&rt)   answers  2   where it answered 1 before
     /// ```
     pub fn clone_sync<R: Caller<H::Pass>>(&self, rt: R) -> Result<Sender<T, H>, TooMany>
-        ensures counted { ClonesSender H.words (R.before rt) (R.after rt) result }
+        ensures counted { Clones H.words (R.before rt) (R.after rt) Side.Tx result }
     {
         let inner = self.clone(rt)?;
         Ok(inner.to_sync())
-    }
-
-    /// Whether no receiver is left. It waits for the lock.
-    ///
-    /// # Examples
-    /// ```text
-    /// sender.is_disconnected(&rt)   answers  true   after the last receiver was dropped
-    /// ```
-    pub fn is_disconnected<R: Caller<H::Pass>>(&self, rt: R) -> bool
-        ensures asked { Asks H.words (R.before rt) (R.after rt) Side.Tx Ask.IsDisconnected flag_by result }
-    {
-        ask_flag(&self.shared, rt, Side::Tx, Ask::IsDisconnected)
-    }
-
-    /// How many messages are in the buffer. It waits for the lock.
-    ///
-    /// # Examples
-    /// ```text
-    /// sender.len(&rt)   answers  1   after one message entered a bounded channel for two
-    /// ```
-    pub fn len<R: Caller<H::Pass>>(&self, rt: R) -> usize
-        ensures asked { Asks H.words (R.before rt) (R.after rt) Side.Tx Ask.Len number_by result }
-    {
-        ask_number(&self.shared, rt, Side::Tx, Ask::Len)
-    }
-
-    /// Whether no message is in the buffer, whoever waits. It waits for the lock.
-    ///
-    /// # Examples
-    /// ```text
-    /// sender.is_empty(&rt)   answers  false   after one message entered
-    /// ```
-    pub fn is_empty<R: Caller<H::Pass>>(&self, rt: R) -> bool
-        ensures asked { Asks H.words (R.before rt) (R.after rt) Side.Tx Ask.IsEmpty flag_by result }
-    {
-        ask_flag(&self.shared, rt, Side::Tx, Ask::IsEmpty)
-    }
-
-    /// Whether the buffer is at the capacity: always at capacity 0, and never without a limit. It
-    /// waits for the lock.
-    ///
-    /// # Examples
-    /// ```text
-    /// sender.is_full(&rt)   answers  true   after one message entered a bounded channel for one
-    /// ```
-    pub fn is_full<R: Caller<H::Pass>>(&self, rt: R) -> bool
-        ensures asked { Asks H.words (R.before rt) (R.after rt) Side.Tx Ask.IsFull flag_by result }
-    {
-        ask_flag(&self.shared, rt, Side::Tx, Ask::IsFull)
-    }
-
-    /// Whether the channel has a limit. It waits for the lock.
-    ///
-    /// # Examples
-    /// ```text
-    /// sender.is_bounded(&rt)   answers  true   for a channel that `bounded` made
-    /// ```
-    pub fn is_bounded<R: Caller<H::Pass>>(&self, rt: R) -> bool
-        ensures asked { Asks H.words (R.before rt) (R.after rt) Side.Tx Ask.IsBounded flag_by result }
-    {
-        ask_flag(&self.shared, rt, Side::Tx, Ask::IsBounded)
-    }
-
-    /// How many messages the buffer may hold, which is `usize::MAX` without a limit. It waits for the
-    /// lock.
-    ///
-    /// # Examples
-    /// ```text
-    /// sender.capacity(&rt)   answers  2   for a bounded channel for two
-    /// ```
-    pub fn capacity<R: Caller<H::Pass>>(&self, rt: R) -> usize
-        ensures asked { Asks H.words (R.before rt) (R.after rt) Side.Tx Ask.Capacity number_by result }
-    {
-        ask_number(&self.shared, rt, Side::Tx, Ask::Capacity)
-    }
-
-    /// How many receivers there are. It waits for the lock.
-    ///
-    /// # Examples
-    /// ```text
-    /// sender.receiver_count(&rt)   answers  1   for a new channel
-    /// ```
-    pub fn receiver_count<R: Caller<H::Pass>>(&self, rt: R) -> u32
-        ensures asked { Asks H.words (R.before rt) (R.after rt) Side.Tx Ask.ReceiverCount count_by result }
-    {
-        ask_count(&self.shared, rt, Side::Tx, Ask::ReceiverCount)
-    }
-
-    /// How many senders there are. It waits for the lock.
-    ///
-    /// # Examples
-    /// ```text
-    /// sender.sender_count(&rt)   answers  1   for a new channel
-    /// ```
-    pub fn sender_count<R: Caller<H::Pass>>(&self, rt: R) -> u32
-        ensures asked { Asks H.words (R.before rt) (R.after rt) Side.Tx Ask.SenderCount count_by result }
-    {
-        ask_count(&self.shared, rt, Side::Tx, Ask::SenderCount)
-    }
-
-    /// Whether both sides are gone. It waits for the lock.
-    ///
-    /// # Examples
-    /// ```text
-    /// sender.is_closed(&rt)   answers  true   after a close
-    /// ```
-    pub fn is_closed<R: Caller<H::Pass>>(&self, rt: R) -> bool
-        ensures asked { Asks H.words (R.before rt) (R.after rt) Side.Tx Ask.IsClosed flag_by result }
-    {
-        ask_flag(&self.shared, rt, Side::Tx, Ask::IsClosed)
-    }
-
-    /// Lets the senders be done: nothing more enters, and the receivers take what is left. A receive
-    /// that waits ends with `SendClosed`, and so does each later one once nothing is left; a send that
-    /// waits is still served. Each later send is refused as `Sealed`. It waits for the lock.
-    ///
-    /// `close` throws away what is in the channel, and the last sender's drop needs every clone gone.
-    ///
-    /// # Errors
-    /// `CloseError` where the channel was sealed or closed already, or no sender is left.
-    ///
-    /// # Examples
-    /// ```text
-    /// sender.seal(&rt)   answers  Ok(())
-    /// sender.seal(&rt)   answers  Err(CloseError())   after that
-    /// ```
-    pub fn seal<R: Caller<H::Pass>>(&self, rt: R) -> Result<(), CloseError>
-        ensures sealed { Seals H.words (R.before rt) (R.after rt) result }
-    {
-        let (rt, mut pass, end) = rt.begin();
-        let answer = self.shared.seal(&rt, &mut pass);
-        R::end(end, pass);
-        answer
-    }
-
-    /// Closes the channel for both sides: all waits end with `Closed`, and the buffer's messages are
-    /// dropped after the lock was released. It waits for the lock.
-    ///
-    /// # Errors
-    /// `CloseError` where both sides were gone already.
-    ///
-    /// # Examples
-    /// ```text
-    /// sender.close(&rt)   answers  Ok(())
-    /// sender.close(&rt)   answers  Err(CloseError())   after that
-    /// ```
-    pub fn close<R: Caller<H::Pass>>(&self, rt: R) -> Result<(), CloseError>
-        ensures closed { Closes H.words (R.before rt) (R.after rt) result }
-    {
-        let (rt, mut pass, end) = rt.begin();
-        let answer = self.shared.close(&rt, &mut pass);
-        R::end(end, pass);
-        answer
     }
 }
 
@@ -363,7 +188,7 @@ impl<T: Drop, H: History<T, Pass = ()>> AsyncSender<T, H> {
     pub fn send(&self, message: T) -> SendFuture<'_, T, H>
         ensures message { message_in result ≡ Some message }
     {
-        send_future(&self.shared, message)
+        send_future(self.channel(), message)
     }
 
     /// Sends the message where there is a place for it and the lock is free: it waits for nobody.
@@ -379,7 +204,7 @@ impl<T: Drop, H: History<T, Pass = ()>> AsyncSender<T, H> {
     pub fn try_send_realtime(&self, message: T) -> Result<bool, SendError>
         ensures sent { TriesToSendNow H.words tt tt message result }
     {
-        self.shared.try_send_realtime(&mut (), message)
+        self.channel().try_send_realtime(&mut (), message)
     }
 
     /// Sends the option's message where there is a place for it and the lock is free, and empties
@@ -402,7 +227,7 @@ impl<T: Drop, H: History<T, Pass = ()>> AsyncSender<T, H> {
         ensures sent { result ≡ Ok true → option.new ≡ None }
         ensures kept { result ≢ Ok true → option.new ≡ option.old }
     {
-        self.shared.try_send_option_realtime(&mut (), option)
+        self.channel().try_send_option_realtime(&mut (), option)
     }
 }
 
@@ -411,5 +236,16 @@ impl<T: Drop, H: History<T>> fmt::Debug for AsyncSender<T, H> {
 
     fn fmt<W: fmt::Write>(&self, f: &mut fmt::Formatter<W>) -> fmt::Result {
         f.write_str("AsyncSender { .. }")
+    }
+}
+
+/// The calls that it shares with the receiver for tasks.
+impl<T: Drop, H: History<T>> Deref for AsyncSender<T, H> {
+    type Target = Handle<T, H, SendSide>;
+
+    ghost deref_gives = { λ tasks handle. handle ≡ handle_of_sender tasks };
+
+    fn deref(&self) -> &Handle<T, H, SendSide> {
+        &self.handle
     }
 }

@@ -1,6 +1,4 @@
 //! How a channel is made.
-//!
-//! Stands on the core and on the handles for tasks; those for threads are made of them.
 ghost use Rattle.std.specs.Prelude.{◌≡◌, ◌↔◌, IsErrOf};
 ghost use Rattle.kanal_core.specs.Channel.{line_of};
 ghost use Rattle.kanal_core.specs.Line.{last_word};

@@ -4,9 +4,7 @@
 //! cloned and dropped, for threads and for tasks, and each kind is made of the other. A thread's blocked
 //! call sleeps until its wait is settled; a task's future is polled, and waits for nobody.
 //!
-//! Stands on `kanal_channel`, the channel behind its lock, whose clocks it hands on, on `kanal_futures`, whose
-//! futures it hands on, and on `kanal_core` and `kanal_cell`, whose core, cells and errors it hands on. A
-//! handle counts itself and hands on each call; no lock is taken here.
+//! A handle counts itself and hands on each call to its channel; no lock is taken here.
 //!
 //! Each handle has a history, `NoHistory` where none is named. A call's contract says which step of a line of
 //! messages it was, in the words of every history. Its body is proved for every caller, of whose pass it knows
@@ -28,8 +26,8 @@ pub mod error {
 mod async_receiver;
 mod async_sender;
 mod channel;
+mod handle;
 mod messages;
-mod questions;
 mod receiver;
 mod receiver_view;
 mod sender;
@@ -42,6 +40,7 @@ pub use error::{
     CloseError, DrainError, NewError, NoMemory, ReceiveError, ReceiveErrorTimeout, SendError,
     SendErrorTimeout, TooMany, WaitError,
 };
+pub use handle::Handle;
 pub use kanal_channel::{Clock, Shared, SystemClock, TestClock};
 pub use kanal_futures::{ReceiveFuture, ReceiveStream, SendFuture};
 pub use kanal_state::{Caller, History, NoHistory};

@@ -4,8 +4,9 @@
 //! stream, the clones and the conversions. Nothing is done here but handing on.
 ghost use Rattle.std.specs.Prelude.{◌≡◌, IsErrOf, Some, codes};
 ghost use Rattle.std.specs.Duration.{as_nanos};
-ghost use Rattle.kanal.specs.Handles.{ClonesReceiver, receiver_for_tasks};
+ghost use Rattle.kanal.specs.Handles.{Clones, receiver_for_tasks};
 ghost use Rattle.kanal.specs.Messages.{ReceivesAll, ReceivesUntil};
+ghost use Rattle.kanal_events.specs.declared.event.Side.{Side};
 ghost use Rattle.kanal_state.specs.Handles.{Receives, ReceivesInTime};
 
 use crate::async_receiver::AsyncReceiver;
@@ -175,7 +176,7 @@ impl<T: Drop, H: History<T>> Receiver<T, H> {
     /// receiver.receiver_count(&rt)   answers  2   where it answered 1 before
     /// ```
     pub fn clone<R: Caller<H::Pass>>(&self, rt: R) -> Result<Self, TooMany>
-        ensures counted { ClonesReceiver H.words (R.before rt) (R.after rt) result }
+        ensures counted { Clones H.words (R.before rt) (R.after rt) Side.Rx result }
     {
         self.inner.clone_sync(rt)
     }
@@ -191,7 +192,7 @@ impl<T: Drop, H: History<T>> Receiver<T, H> {
     /// other.receiver_count(&rt)   answers  2   where it answered 1 before
     /// ```
     pub fn clone_async<R: Caller<H::Pass>>(&self, rt: R) -> Result<AsyncReceiver<T, H>, TooMany>
-        ensures counted { ClonesReceiver H.words (R.before rt) (R.after rt) result }
+        ensures counted { Clones H.words (R.before rt) (R.after rt) Side.Rx result }
     {
         self.inner.clone(rt)
     }

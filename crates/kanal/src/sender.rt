@@ -5,7 +5,8 @@
 //! for the call that is lent an option.
 ghost use Rattle.std.specs.Prelude.{◌≡◌, IfErr, IfSome, IsSome, None, Ok, Some, codes};
 ghost use Rattle.std.specs.Duration.{as_nanos};
-ghost use Rattle.kanal.specs.Handles.{ClonesSender, sender_for_tasks};
+ghost use Rattle.kanal.specs.Handles.{Clones, sender_for_tasks};
+ghost use Rattle.kanal_events.specs.declared.event.Side.{Side};
 ghost use Rattle.kanal_state.specs.Handles.{Sends, SendsInTime};
 ghost use Rattle.kanal_state.specs.Refusals.{StartedNoWait};
 
@@ -157,7 +158,7 @@ impl<T: Drop, H: History<T>> Sender<T, H> {
     /// sender.sender_count(&rt)   answers  2   where it answered 1 before
     /// ```
     pub fn clone<R: Caller<H::Pass>>(&self, rt: R) -> Result<Self, TooMany>
-        ensures counted { ClonesSender H.words (R.before rt) (R.after rt) result }
+        ensures counted { Clones H.words (R.before rt) (R.after rt) Side.Tx result }
     {
         self.inner.clone_sync(rt)
     }
@@ -173,7 +174,7 @@ impl<T: Drop, H: History<T>> Sender<T, H> {
     /// other.sender_count(&rt)   answers  2   where it answered 1 before
     /// ```
     pub fn clone_async<R: Caller<H::Pass>>(&self, rt: R) -> Result<AsyncSender<T, H>, TooMany>
-        ensures counted { ClonesSender H.words (R.before rt) (R.after rt) result }
+        ensures counted { Clones H.words (R.before rt) (R.after rt) Side.Tx result }
     {
         self.inner.clone(rt)
     }

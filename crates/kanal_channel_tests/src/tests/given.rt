@@ -92,7 +92,7 @@ pub fn tell_late<R: Wait, T: Drop, F: FnOnce(), G: FnOnce()>(
             held();
             let released = locked.release();
             between();
-            let reply = shared.settle(&mut pass, answered.into_made(), &released);
+            let reply = shared.settle(&mut pass, answered.open(&released).into_made(), &released);
             shared.look();
             Some(reply)
         },

@@ -104,17 +104,13 @@ fn arrived<R: Abort + Wait + AllocGlobal>(rt: &R, receiver: &Receiver<u64>, expe
 }
 
 #[test]
-fn a_sender(rt: HostRuntime) {
+fn a_sender_and_a_view_of_one(rt: HostRuntime) {
     let (sender, receiver) = ends::<u64>(&rt, 7);
     tries!(&rt, sender);
     sends!(&rt, sender);
     arrived(&rt, &receiver, &[1, 2, 3, 4, 5, 6, 7]);
     equal(&rt, sender.seal(&rt), Ok(()));
     closes!(&rt, sender);
-}
-
-#[test]
-fn a_view_of_a_sender(rt: HostRuntime) {
     let (sender, receiver) = ends::<u64>(&rt, 7);
     let view = sender.as_async().as_sync();
     tries!(&rt, view);

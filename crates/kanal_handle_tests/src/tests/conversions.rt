@@ -34,15 +34,11 @@ macro_rules! counts_to_sync {
 }
 
 #[test]
-fn handles_for_threads_are_converted_and_cloned(rt: HostRuntime) {
+fn handles_are_converted_and_cloned(rt: HostRuntime) {
     let (sender, receiver) = sync_ends::<u64>(&rt, 1);
     let senders = counts_to_async!(&rt, sender, sender_count);
     let receivers = counts_to_async!(&rt, receiver, receiver_count);
     equal(&rt, [senders, receivers], [[2, 2, 1, 1], [2, 2, 1, 1]]);
-}
-
-#[test]
-fn handles_for_tasks_are_converted_and_cloned(rt: HostRuntime) {
     let (sender, receiver) = ends::<u64>(&rt, 1);
     let senders = counts_to_sync!(&rt, sender, sender_count);
     let receivers = counts_to_sync!(&rt, receiver, receiver_count);

@@ -5,11 +5,6 @@ use kanal_given::{Counted, Drops};
 use std::alloc::AllocGlobal;
 use std::process::Abort;
 
-/// A counter at 0.
-pub(crate) fn counter(rt: &(impl Abort + AllocGlobal)) -> Drops {
-    Drops::new(rt.alloc()).expect(rt, "memory for a counter")
-}
-
 /// The same counter once more.
 pub(crate) fn shared(rt: &impl Abort, drops: &Drops) -> Drops {
     drops.try_clone().expect(rt, "a count of the counter")
@@ -26,5 +21,9 @@ pub(crate) fn counted_ends(
     capacity: usize,
 ) -> (Sender<Counted>, Receiver<Counted>, Drops) {
     let (sender, receiver) = ends(rt, capacity);
-    (sender, receiver, counter(rt))
+    (
+        sender,
+        receiver,
+        Drops::new(rt.alloc()).expect(rt, "memory for a counter"),
+    )
 }

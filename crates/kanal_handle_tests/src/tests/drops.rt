@@ -3,7 +3,7 @@ use crate::tests::counted::{counted_ends, message};
 use crate::tests::given::{equal, holds};
 use futures::task::Poll;
 use futures::test::MockTask;
-use kanal::{Receiver, Sender};
+use kanal::Sender;
 use kanal_given::{Counted, Drops};
 use std::process::Abort;
 use std::sync::Wait;
@@ -15,27 +15,19 @@ fn send<R: Abort + Wait>(rt: &R, sender: &Sender<Counted>, drops: &Drops, count:
     }
 }
 
-/// Receives so many messages, and drops each.
-fn receive<R: Abort + Wait>(rt: &R, receiver: &Receiver<Counted>, count: u32) {
-    for _ in 0..count {
-        holds(rt, receiver.recv(rt).is_ok());
-    }
-}
-
+/// A close drops the messages of a buffer that went round, and the last handle those of another.
 #[test]
-fn a_close_drops_a_buffer_that_went_round(rt: HostRuntime) {
+fn an_end_drops_the_buffer(rt: HostRuntime) {
     let (sender, receiver, drops) = counted_ends(&rt, 10);
     send(&rt, &sender, &drops, 7);
-    receive(&rt, &receiver, 7);
+    for _ in 0..7u32 {
+        holds(&rt, receiver.recv(&rt).is_ok());
+    }
     equal(&rt, drops.count(), 7);
     send(&rt, &sender, &drops, 10);
     equal(&rt, drops.count(), 7);
     equal(&rt, receiver.close(&rt), Ok(()));
     equal(&rt, drops.count(), 17);
-}
-
-#[test]
-fn the_last_handle_drops_the_buffer(rt: HostRuntime) {
     let (sender, receiver, drops) = counted_ends(&rt, 10);
     send(&rt, &sender, &drops, 10);
     drop(receiver);

@@ -52,15 +52,6 @@ const TWO_SENDERS: Answers = Answers {
     is_disconnected: false,
 };
 
-#[test]
-fn a_channel_with_two_senders(rt: HostRuntime) {
-    let (sender, receiver) = ends::<u64>(&rt, 2);
-    let _other = sender.clone(&rt).expect(&rt, "a clone");
-    equal(&rt, sender.send(&rt, 7), Ok(()));
-    senders_answer(&rt, &sender, TWO_SENDERS);
-    receivers_answer(&rt, &receiver, TWO_SENDERS, false);
-}
-
 /// No message and no place, and one handle of each side.
 const NONE_WITHOUT_PLACES: Answers = Answers {
     len: 0,
@@ -73,13 +64,6 @@ const NONE_WITHOUT_PLACES: Answers = Answers {
     is_closed: false,
     is_disconnected: false,
 };
-
-#[test]
-fn a_channel_without_places(rt: HostRuntime) {
-    let (sender, receiver) = ends::<u64>(&rt, 0);
-    senders_answer(&rt, &sender, NONE_WITHOUT_PLACES);
-    receivers_answer(&rt, &receiver, NONE_WITHOUT_PLACES, false);
-}
 
 /// One message without limit, and no sender.
 const NO_SENDER: Answers = Answers {
@@ -97,30 +81,12 @@ const NO_SENDER_NO_MESSAGE: Answers = Answers {
     ..NO_SENDER
 };
 
-#[test]
-fn a_channel_whose_senders_are_gone(rt: HostRuntime) {
-    let (sender, receiver) = unbounded::<u64>(rt.alloc()).expect(&rt, "a channel");
-    equal(&rt, sender.send(&rt, 7), Ok(()));
-    drop(sender);
-    receivers_answer(&rt, &receiver, NO_SENDER, false);
-    equal(&rt, receiver.recv(&rt), Ok(7));
-    receivers_answer(&rt, &receiver, NO_SENDER_NO_MESSAGE, true);
-}
-
 /// One message without limit, and no receiver.
 const NO_RECEIVER: Answers = Answers {
     receiver_count: 0,
     sender_count: 1,
     ..NO_SENDER
 };
-
-#[test]
-fn a_channel_whose_receivers_are_gone(rt: HostRuntime) {
-    let (sender, receiver) = unbounded::<u64>(rt.alloc()).expect(&rt, "a channel");
-    equal(&rt, sender.send(&rt, 7), Ok(()));
-    drop(receiver);
-    senders_answer(&rt, &sender, NO_RECEIVER);
-}
 
 /// No message in one place, after a close.
 const CLOSED: Answers = Answers {
@@ -135,7 +101,29 @@ const CLOSED: Answers = Answers {
 };
 
 #[test]
-fn a_closed_channel(rt: HostRuntime) {
+fn channels_with_both_sides(rt: HostRuntime) {
+    let (sender, receiver) = ends::<u64>(&rt, 2);
+    let _other = sender.clone(&rt).expect(&rt, "a clone");
+    equal(&rt, sender.send(&rt, 7), Ok(()));
+    senders_answer(&rt, &sender, TWO_SENDERS);
+    receivers_answer(&rt, &receiver, TWO_SENDERS, false);
+    let (sender, receiver) = ends::<u64>(&rt, 0);
+    senders_answer(&rt, &sender, NONE_WITHOUT_PLACES);
+    receivers_answer(&rt, &receiver, NONE_WITHOUT_PLACES, false);
+}
+
+#[test]
+fn channels_that_one_side_left_or_that_were_closed(rt: HostRuntime) {
+    let (sender, receiver) = unbounded::<u64>(rt.alloc()).expect(&rt, "a channel");
+    equal(&rt, sender.send(&rt, 7), Ok(()));
+    drop(sender);
+    receivers_answer(&rt, &receiver, NO_SENDER, false);
+    equal(&rt, receiver.recv(&rt), Ok(7));
+    receivers_answer(&rt, &receiver, NO_SENDER_NO_MESSAGE, true);
+    let (sender, receiver) = unbounded::<u64>(rt.alloc()).expect(&rt, "a channel");
+    equal(&rt, sender.send(&rt, 7), Ok(()));
+    drop(receiver);
+    senders_answer(&rt, &sender, NO_RECEIVER);
     let (sender, receiver) = ends::<u64>(&rt, 1);
     equal(&rt, sender.send(&rt, 7), Ok(()));
     equal(&rt, sender.close(&rt), Ok(()));

@@ -58,24 +58,15 @@ struct Places {
     outcome: u64,
 }
 
-/// The first place of a step of this kind.
+/// The first place of a step of this kind. A settle is such whatever it brings.
 fn first(steps: &[CellStep], kind: CellStep) -> Place {
     for (place, step) in steps.iter().enumerate() {
-        if *step == kind {
+        let are_settles = matches!((step, kind), (CellStep::Settle(_), CellStep::Settle(_)));
+        if *step == kind || are_settles {
             return Some(place);
         }
     }
     None
-}
-
-/// The first place of a settle, and what it brings.
-fn first_settle(steps: &[CellStep]) -> (Place, u64) {
-    for (place, step) in steps.iter().enumerate() {
-        if let CellStep::Settle(outcome) = step {
-            return (Some(place), *outcome);
-        }
-    }
-    (None, 0)
 }
 
 /// The first place after the settle that holds a poll or a leave or is the first sleep.
@@ -92,7 +83,7 @@ fn first_taker(steps: &[CellStep], settle: Place, sleep: Place) -> Place {
 impl Places {
     /// Those of this list. A leave before the settle leaves it without a taker.
     fn new(steps: &[CellStep]) -> Self {
-        let (settle, outcome) = first_settle(steps);
+        let settle = first(steps, CellStep::Settle(0));
         let sleep = first(steps, CellStep::Sleep);
         let leave = first(steps, CellStep::Leave);
         let is_settled_late = settle.is_some_and(|settle| is_before(leave, settle));
@@ -106,7 +97,7 @@ impl Places {
             settle,
             leave,
             taker,
-            outcome,
+            outcome: settle.map_or(0, |place| place as u64),
         }
     }
 
@@ -178,8 +169,8 @@ impl Places {
     }
 }
 
-/// What the steps are replied, by their history.
-fn replies_of(rt: &(impl Abort + AllocGlobal), steps: &[CellStep]) -> Vec<CellReply> {
+/// Runs the list on the plain cell. Ends the test unless all is as its history tells; the replies.
+fn run_plain(rt: &(impl Abort + AllocGlobal), steps: &[CellStep]) -> Vec<CellReply> {
     let places = Places::new(steps);
     let mut replies = Vec::new(rt.alloc());
     for (place, step) in steps.iter().enumerate() {
@@ -187,13 +178,6 @@ fn replies_of(rt: &(impl Abort + AllocGlobal), steps: &[CellStep]) -> Vec<CellRe
             .push(places.reply(place, *step))
             .expect(rt, "memory for a reply");
     }
-    replies
-}
-
-/// Runs the list on the plain cell. Ends the test unless all is as its history tells; the replies.
-fn run_plain(rt: &(impl Abort + AllocGlobal), steps: &[CellStep]) -> Vec<CellReply> {
-    let replies = replies_of(rt, steps);
-    let places = Places::new(steps);
     let report = cell_run(rt.alloc(), steps).expect(rt, "memory for a report");
     let is_same = report.replies == replies;
     assert!(rt; is_same, "the replies to {steps:?}");
@@ -259,51 +243,6 @@ enum Waiting {
     Gone,
 }
 
-impl Awake {
-    fn sleep(self, sleeper: Unparker) -> (Waiting, Option<u64>) {
-        let Awake { mut end } = self;
-        let outcome = end.sleep(sleeper);
-        (Waiting::Staying(Staying { end }), outcome)
-    }
-
-    fn poll(self) -> (Waiting, Option<u64>) {
-        let Awake { mut end } = self;
-        match end.poll() {
-            Some(outcome) => (Waiting::Staying(Staying { end }), Some(outcome)),
-            None => (Waiting::Awake(Awake { end }), None),
-        }
-    }
-
-    fn leave(self) -> Option<u64> {
-        let Awake { mut end } = self;
-        end.leave()
-    }
-}
-
-impl Staying {
-    fn poll(self) -> (Waiting, Option<u64>) {
-        let Staying { mut end } = self;
-        let outcome = end.poll();
-        (Waiting::Staying(Staying { end }), outcome)
-    }
-
-    fn leave(self) -> Option<u64> {
-        let Staying { mut end } = self;
-        end.leave()
-    }
-}
-
-impl Settling {
-    fn settle(self, outcome: u64) -> Option<u64> {
-        let Settling { mut end } = self;
-        end.settle(outcome)
-    }
-
-    fn is_left(&self) -> bool {
-        self.end.is_left()
-    }
-}
-
 /// A running cell, by its ends.
 #[derive(Drop)]
 struct Running {
@@ -325,48 +264,53 @@ impl Running {
     fn step(&mut self, step: CellStep, sleeper: Unparker) -> Answer {
         match step {
             CellStep::Sleep => self.sleep(sleeper),
-            CellStep::Settle(outcome) => self.settle(outcome),
+            CellStep::Settle(outcome) => match self.settling.take() {
+                Some(Settling { mut end }) => Answer::Back(end.settle(outcome)),
+                None => Answer::Spent,
+            },
             CellStep::Poll => self.poll(),
-            CellStep::Leave => self.leave(),
+            CellStep::Leave => match mem::replace(&mut self.waiting, Waiting::Gone) {
+                Waiting::Awake(Awake { mut end }) => Answer::Outcome(end.leave()),
+                Waiting::Staying(Staying { mut end }) => Answer::Outcome(end.leave()),
+                Waiting::Gone => Answer::Spent,
+            },
             CellStep::IsLeft => match &self.settling {
-                Some(settling) => Answer::IsLeft(settling.is_left()),
+                Some(settling) => Answer::IsLeft(settling.end.is_left()),
                 None => Answer::Spent,
             },
         }
     }
 
+    /// Sleeps, unless that was done, or the outcome was had, or the end has left.
     fn sleep(&mut self, sleeper: Unparker) -> Answer {
         match mem::replace(&mut self.waiting, Waiting::Gone) {
-            Waiting::Awake(awake) => {
-                let (waiting, outcome) = awake.sleep(sleeper);
-                self.waiting = waiting;
+            Waiting::Awake(Awake { mut end }) => {
+                let outcome = end.sleep(sleeper);
+                self.waiting = Waiting::Staying(Staying { end });
                 Answer::Outcome(outcome)
             },
             Waiting::Staying(_) | Waiting::Gone => Answer::Spent,
         }
     }
 
-    fn settle(&mut self, outcome: u64) -> Answer {
-        match self.settling.take() {
-            Some(settling) => Answer::Back(settling.settle(outcome)),
-            None => Answer::Spent,
-        }
-    }
-
+    /// Polls, unless the end has left. It can't sleep any more once it has the outcome.
     fn poll(&mut self) -> Answer {
-        let (waiting, outcome) = match mem::replace(&mut self.waiting, Waiting::Gone) {
-            Waiting::Awake(awake) => awake.poll(),
-            Waiting::Staying(staying) => staying.poll(),
-            Waiting::Gone => return Answer::Spent,
-        };
-        self.waiting = waiting;
-        Answer::Outcome(outcome)
-    }
-
-    fn leave(&mut self) -> Answer {
         match mem::replace(&mut self.waiting, Waiting::Gone) {
-            Waiting::Awake(awake) => Answer::Outcome(awake.leave()),
-            Waiting::Staying(staying) => Answer::Outcome(staying.leave()),
+            Waiting::Awake(Awake { mut end }) => match end.poll() {
+                Some(outcome) => {
+                    self.waiting = Waiting::Staying(Staying { end });
+                    Answer::Outcome(Some(outcome))
+                },
+                None => {
+                    self.waiting = Waiting::Awake(Awake { end });
+                    Answer::Outcome(None)
+                },
+            },
+            Waiting::Staying(Staying { mut end }) => {
+                let outcome = end.poll();
+                self.waiting = Waiting::Staying(Staying { end });
+                Answer::Outcome(outcome)
+            },
             Waiting::Gone => Answer::Spent,
         }
     }
@@ -387,41 +331,21 @@ fn run_running(
     }
 }
 
-/// How many lists were run on the plain cell, and how many on the running one.
-#[derive(Debug, PartialEq, Eq, Drop)]
-struct Counts {
-    plain: u64,
-    running: u64,
-}
-
-/// The lists of at most eight of five steps, and those in which each end may still make each of its
+/// The plain cell runs all lists. The running one runs those in which each end may still make each of its
 /// steps: one settle at most, and no question after it; one leave at most, and no poll or sleep after
 /// it; one sleep at most, and none after the outcome was had.
-const ALL: Counts = Counts {
-    plain: 488_281,
-    running: 7_795,
-};
-
-/// Runs all lists.
-fn run_lists(rt: &(impl Abort + AllocGlobal)) -> Counts {
-    let parker = Parker::new(rt.alloc()).expect(rt, "a parker");
-    let mut counts = Counts {
-        plain: 0,
-        running: 0,
-    };
-    for number in 0..LISTS {
-        let steps = steps_of(rt, number);
-        let replies = run_plain(rt, steps.as_slice());
-        counts.plain = counts.plain.wrapping_add(1);
-        if !replies.contains(&CellReply::Spent) {
-            run_running(rt, &parker, steps.as_slice(), replies.as_slice());
-            counts.running = counts.running.wrapping_add(1);
-        }
-    }
-    counts
-}
-
 #[test]
 fn lists_of_eight_steps(rt: HostRuntime) {
-    equal(&rt, run_lists(&rt), ALL);
+    let parker = Parker::new(rt.alloc()).expect(&rt, "a parker");
+    let (mut plain, mut running) = (0u64, 0u64);
+    for number in 0..LISTS {
+        let steps = steps_of(&rt, number);
+        let replies = run_plain(&rt, steps.as_slice());
+        plain = plain.wrapping_add(1);
+        if !replies.contains(&CellReply::Spent) {
+            run_running(&rt, &parker, steps.as_slice(), replies.as_slice());
+            running = running.wrapping_add(1);
+        }
+    }
+    equal(&rt, (plain, running), (488_281, 7_795));
 }

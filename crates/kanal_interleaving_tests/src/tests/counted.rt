@@ -27,13 +27,6 @@ impl Drops {
         Arc::new(rt.alloc(), drops).expect(rt, "memory for counters")
     }
 
-    /// Counts one drop.
-    fn count(&self, number: usize) {
-        if let Some(count) = self.counts.get(number) {
-            count.fetch_add(1, SeqCst);
-        }
-    }
-
     /// Ends the test unless each message below this number was dropped once, and no other. The counts
     /// are 0 afterwards.
     pub fn were_once(&self, rt: &impl Abort, made: usize) {
@@ -53,7 +46,9 @@ pub struct Counted {
 impl Drop for Counted {
     fn drop(self) {
         let Counted { number, drops } = self;
-        drops.count(number);
+        if let Some(count) = drops.counts.get(number) {
+            count.fetch_add(1, SeqCst);
+        }
     }
 }
 
@@ -68,9 +63,4 @@ impl Counted {
     pub fn number(&self) -> usize {
         self.number
     }
-}
-
-/// The message's number; the message is dropped.
-pub fn number_of(message: Counted) -> usize {
-    message.number
 }

@@ -78,20 +78,6 @@ impl Line {
         }
     }
 
-    /// Whether a message finds no place in the buffer.
-    fn is_full(&self) -> bool {
-        match self.capacity {
-            Some(capacity) => self.messages.len() >= capacity,
-            None => false,
-        }
-    }
-
-    /// The send that waits longest: its message is the first one behind the buffer.
-    fn oldest_send(&self) -> Option<usize> {
-        let capacity = self.capacity?;
-        self.messages.get(capacity).copied()
-    }
-
     /// Offers a message: to the receiver that waits longest, or to the buffer.
     pub fn offer(&mut self, rt: &impl Abort, message: usize) -> Offer {
         match (self.senders, self.receivers) {
@@ -103,20 +89,26 @@ impl Line {
         if let Some(receiver) = self.demands.pop_front() {
             return Offer::Handed(receiver);
         }
-        if self.is_full() {
+        if self
+            .capacity
+            .is_some_and(|capacity| self.messages.len() >= capacity)
+        {
             return Offer::Full;
         }
         add(rt, &mut self.messages, message);
         Offer::Entered
     }
 
-    /// Takes the front of the line. The send that waits longest is done then: its message has moved up
-    /// into the buffer, or was the one taken.
+    /// Takes the front of the line. The send that waits longest, whose message is the first one behind the
+    /// buffer, is done then: its message has moved up into the buffer, or was the one taken.
     pub fn take(&mut self) -> Take {
         if self.receivers == 0 {
             return Take::Refused(ReceiveError::Closed);
         }
-        let served = self.oldest_send();
+        let served = match self.capacity {
+            Some(capacity) => self.messages.get(capacity).copied(),
+            None => None,
+        };
         match self.messages.pop_front() {
             Some(message) => Take::Taken(message, served),
             None if self.senders == 0 => Take::Refused(ReceiveError::SendClosed),

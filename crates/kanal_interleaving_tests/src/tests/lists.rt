@@ -25,34 +25,8 @@ pub fn list_of<S: Copy>(rt: &(impl Abort + AllocGlobal), kinds: &[S], number: us
     list
 }
 
-/// How many lists were run, and how many of those have no seal.
-#[derive(Clone, Copy, Debug, PartialEq, Eq, Drop)]
-pub struct Tally {
-    pub lists: u64,
-    pub unsealed: u64,
-}
-
 /// The lists of at most five of ten steps.
 pub const LISTS: usize = 111_111;
 
-/// All of them, and those of at most five of nine steps among them.
-pub const ALL: Tally = Tally {
-    lists: 111_111,
-    unsealed: 66_430,
-};
-
-impl Tally {
-    /// No list was run.
-    pub fn new() -> Self {
-        Tally {
-            lists: 0,
-            unsealed: 0,
-        }
-    }
-
-    /// One more list was run.
-    pub fn add(&mut self, is_unsealed: bool) {
-        self.lists = self.lists.wrapping_add(1);
-        self.unsealed = self.unsealed.wrapping_add(u64::from(is_unsealed));
-    }
-}
+/// All of them, and those of at most five of nine steps among them, which have no seal.
+pub const ALL: (u64, u64) = (111_111, 66_430);

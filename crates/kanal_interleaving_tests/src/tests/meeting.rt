@@ -17,13 +17,6 @@ pub struct Meeting {
     there: AtomicU32,
 }
 
-/// Lets so many pauses pass.
-fn pause(pauses: u32) {
-    for _ in 0..pauses {
-        hint::spin_loop();
-    }
-}
-
 impl Meeting {
     /// A meeting of so many threads, where nobody is yet.
     pub fn new(rt: &(impl Abort + AllocGlobal), threads: u32) -> Arc<Meeting, Global> {
@@ -51,7 +44,9 @@ impl Meeting {
     /// Meets the others, and then puts off what comes next for so many pauses.
     pub fn attend(&self, rt: &impl Abort, pauses: u32) {
         self.wait_for_all(rt);
-        pause(pauses);
+        for _ in 0..pauses {
+            hint::spin_loop();
+        }
     }
 }
 

@@ -13,28 +13,14 @@ use std::alloc::{AllocGlobal, Global};
 use std::process::Abort;
 use std::random::RandomSource;
 use std::sync::{Arc, Wait};
-use std::thread::{JoinHandle, Threads};
+use std::thread::Threads;
 use std::{thread, time};
 
 /// How many rounds there are.
 const ROUNDS: u32 = 5_000;
 
-/// Drops the sender in another thread, which puts that off a little.
-fn start_drop<R: Threads + Wait + Abort + Copy + Send + 'static>(
-    rt: R,
-    sender: AsyncSender<u64>,
-    meeting: Arc<Meeting, Global>,
-    pauses: u32,
-) -> JoinHandle<()> {
-    let dropping = thread::spawn(&rt, move || {
-        meeting.attend(&rt, pauses);
-        drop(sender);
-    });
-    dropping.expect(&rt, "a thread")
-}
-
-/// The senders of a channel are dropped in as many threads, while this one makes a call that tries the lock
-/// once.
+/// The senders of a channel are dropped in as many threads, which put that off a little, while this one makes
+/// a call that tries the lock once, or in every second round waits for it.
 fn drop_beside_a_try<R>(
     rt: R,
     senders: Vec<AsyncSender<u64>>,
@@ -47,11 +33,20 @@ where
 {
     let mut dropping = Vec::new(rt.alloc());
     for sender in senders {
-        let thread = start_drop(rt, sender, shared(&rt, meeting), round % 40);
+        let theirs = shared(&rt, meeting);
+        let thread = thread::spawn(&rt, move || {
+            theirs.attend(&rt, round % 40);
+            drop(sender);
+        });
+        let thread = thread.expect(&rt, "a thread");
         dropping.push(thread).expect(&rt, "memory for a thread");
     }
     meeting.attend(&rt, 0);
-    let answer = receiver.try_recv_realtime();
+    let answer = if round % 2 == 0 {
+        receiver.try_recv_realtime()
+    } else {
+        receiver.try_recv(&rt)
+    };
     for thread in dropping {
         thread.join(&rt);
     }

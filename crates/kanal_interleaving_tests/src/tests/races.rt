@@ -72,16 +72,27 @@ impl Round {
     }
 }
 
-/// Ends the channel through its receiver, in another thread, which this one has met.
-fn end_by_receiver<R: Threads + Wait + Abort + AllocGlobal + Copy + Send + 'static>(
+/// The handle through which the other thread ends the channel.
+#[derive(Drop)]
+enum Handle {
+    Sends(Sender<Counted>),
+    Receives(Receiver<Counted>),
+}
+
+/// Ends the channel through this handle, in another thread, which this one has met.
+fn end_by<R: Threads + Wait + Abort + AllocGlobal + Copy + Send + 'static>(
     rt: R,
-    receiver: Receiver<Counted>,
+    handle: Handle,
     round: Round,
 ) -> JoinHandle<()> {
     let meeting = Meeting::new(&rt, 2);
     let theirs = shared(&rt, &meeting);
     let ending = thread::spawn(&rt, move || {
         theirs.attend(&rt, round.pauses);
+        let receiver = match handle {
+            Handle::Sends(sender) => return end_sender(&rt, sender, round.end),
+            Handle::Receives(receiver) => receiver,
+        };
         let _ = match round.end {
             End::Close => receiver.close(&rt),
             End::Drop => Ok(()),
@@ -104,23 +115,6 @@ pub(super) fn end_sender<R: Wait>(rt: &R, sender: Sender<Counted>, end: End) {
     drop(sender);
 }
 
-/// The same as by the receiver, but through the sender.
-fn end_by_sender<R: Threads + Wait + Abort + AllocGlobal + Copy + Send + 'static>(
-    rt: R,
-    sender: Sender<Counted>,
-    round: Round,
-) -> JoinHandle<()> {
-    let meeting = Meeting::new(&rt, 2);
-    let theirs = shared(&rt, &meeting);
-    let ending = thread::spawn(&rt, move || {
-        theirs.attend(&rt, round.pauses);
-        end_sender(&rt, sender, round.end);
-    });
-    let ending = ending.expect(&rt, "a thread");
-    meeting.attend(&rt, 0);
-    ending
-}
-
 /// Whether a send can be refused so. The channel is sealed before its receiver goes.
 fn ends_send(end: End, error: SendError) -> bool {
     match end {
@@ -141,7 +135,7 @@ fn send<R: Threads + Wait + Abort + AllocGlobal + Copy + Send + 'static>(
 ) {
     let (sender, receiver) = bounded(rt.alloc(), round.count).expect(&rt, "a channel");
     let message = Counted::new(&rt, drops, 0);
-    let ending = end_by_receiver(rt, receiver, round);
+    let ending = end_by(rt, Handle::Receives(receiver), round);
     let answer = sender.send(&rt, message);
     ending.join(&rt);
     holds(
@@ -179,7 +173,7 @@ fn receive<R: Threads + Wait + Abort + AllocGlobal + Copy + Send + 'static>(
     drops: &Arc<Drops, Global>,
 ) {
     let (sender, receiver) = filled(&rt, round.count, drops);
-    let ending = end_by_sender(rt, sender, round);
+    let ending = end_by(rt, Handle::Sends(sender), round);
     let mut received = 0usize;
     let mut last = receiver.recv(&rt);
     if last.is_ok() {
@@ -205,7 +199,7 @@ fn drain<R: Threads + Wait + Abort + AllocGlobal + Copy + Send + 'static>(
 ) {
     let (sender, receiver) = filled(&rt, round.count, drops);
     let mut drained = Vec::new(rt.alloc());
-    let ending = end_by_sender(rt, sender, round);
+    let ending = end_by(rt, Handle::Sends(sender), round);
     let answer = receiver.drain_into(&rt, &mut drained);
     ending.join(&rt);
     holds(
@@ -233,7 +227,7 @@ fn time_out<R: Threads + Wait + time::Clock + Abort + AllocGlobal + Copy + Send 
     let (sender, receiver) = bounded(rt.alloc(), 0).expect(&rt, "a channel");
     let message = Counted::new(&rt, drops, 0);
     let clock = TestClock::rising();
-    let ending = end_by_receiver(rt, receiver, round);
+    let ending = end_by(rt, Handle::Receives(receiver), round);
     let answer = sender.send_timeout(&rt, message, Duration::from_nanos(READS), &clock);
     ending.join(&rt);
     holds(
@@ -261,7 +255,7 @@ fn drop_waiting<R: Threads + Wait + Abort + AllocGlobal + Copy + Send + 'static>
     let sender: AsyncSender<Counted> = sender.to_async();
     let mut sending = sender.send(Counted::new(&rt, drops, 0));
     equal(&rt, task.poll(&mut sending), Poll::Pending);
-    let ending = end_by_receiver(rt, receiver, round);
+    let ending = end_by(rt, Handle::Receives(receiver), round);
     drop(sending);
     ending.join(&rt);
     drop(sender);

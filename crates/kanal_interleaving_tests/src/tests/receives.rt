@@ -5,7 +5,7 @@
 //! In a tenth of the rounds the drop is surely first, in another tenth the other thread is, and what follows
 //! from that is asked. In the rest the two threads meet right before, and the schedule has the order. A round
 //! in which they don't meet fails the test, and so does one that doesn't end.
-use crate::tests::counted::{Counted, Drops, number_of};
+use crate::tests::counted::{Counted, Drops};
 use crate::tests::given::{equal, holds, new_task};
 use crate::tests::meeting::{Meeting, shared};
 use crate::tests::races::{End, ROUNDS, Round, end_sender};
@@ -20,12 +20,11 @@ use std::sync::{Arc, Wait};
 use std::thread::{JoinHandle, Threads};
 use std::{thread, time};
 
-/// What the other thread does.
+/// What the other thread does: it sends, or ends the channel, or first the one and then the other.
 #[derive(Clone, Copy)]
-enum Other {
-    Ends,
-    Sends,
-    SendsAndEnds,
+struct Other {
+    sends: bool,
+    ends: bool,
 }
 
 /// Who is first in a round.
@@ -53,12 +52,6 @@ type Sent = Result<bool, SendError>;
 /// The ends of a channel of messages.
 type Ends = (Sender<Counted>, AsyncReceiver<Counted>);
 
-/// The ends of a channel with so many places.
-fn ends(rt: &(impl Abort + AllocGlobal), places: usize) -> Ends {
-    let (sender, receiver) = bounded(rt.alloc(), places).expect(rt, "a channel");
-    (sender, receiver.to_async())
-}
-
 /// A receive that waits.
 fn waiting<'a>(
     rt: &impl Abort,
@@ -70,66 +63,46 @@ fn waiting<'a>(
     receiving
 }
 
-/// A thread, and where it waits for this one.
-type Started<A> = (JoinHandle<A>, Arc<Meeting, Global>);
+/// A thread, and where it waits for this one. It answers what its send did, and hands back a sender by which it
+/// didn't end the channel.
+type Started = (
+    JoinHandle<(Option<Sender<Counted>>, Option<Sent>)>,
+    Arc<Meeting, Global>,
+);
 
-/// Ends the channel in another thread, once it has met this one.
-fn start_end<R: Threads + Wait + Abort + AllocGlobal + Copy + Send + 'static>(
+/// In another thread, once it has met this one, sends the message that there is, and then ends the channel, if
+/// that is the other's part.
+fn start<R: Threads + Wait + Abort + AllocGlobal + Copy + Send + 'static>(
     rt: R,
     sender: Sender<Counted>,
+    message: Option<Counted>,
     round: Round,
-) -> Started<()> {
+    ends: bool,
+) -> Started {
     let meeting = Meeting::new(&rt, 2);
     let theirs = shared(&rt, &meeting);
-    let ending = thread::spawn(&rt, move || {
+    let other = thread::spawn(&rt, move || {
         theirs.attend(&rt, round.pauses);
-        end_sender(&rt, sender, round.end);
+        let sent = match message {
+            Some(message) => Some(sender.try_send(&rt, message)),
+            None => None,
+        };
+        if ends {
+            end_sender(&rt, sender, round.end);
+            return (None, sent);
+        }
+        (Some(sender), sent)
     });
-    (ending.expect(&rt, "a thread"), meeting)
-}
-
-/// Sends the message in another thread, once it has met this one. The thread hands its sender back.
-fn start_send<R: Threads + Wait + Abort + AllocGlobal + Copy + Send + 'static>(
-    rt: R,
-    sender: Sender<Counted>,
-    message: Counted,
-    pauses: u32,
-) -> Started<(Sender<Counted>, Sent)> {
-    let meeting = Meeting::new(&rt, 2);
-    let theirs = shared(&rt, &meeting);
-    let sending = thread::spawn(&rt, move || {
-        theirs.attend(&rt, pauses);
-        let sent = sender.try_send(&rt, message);
-        (sender, sent)
-    });
-    (sending.expect(&rt, "a thread"), meeting)
-}
-
-/// The same, but the thread ends the channel right after that.
-fn start_send_and_end<R: Threads + Wait + Abort + AllocGlobal + Copy + Send + 'static>(
-    rt: R,
-    sender: Sender<Counted>,
-    message: Counted,
-    round: Round,
-) -> Started<Sent> {
-    let meeting = Meeting::new(&rt, 2);
-    let theirs = shared(&rt, &meeting);
-    let sending = thread::spawn(&rt, move || {
-        theirs.attend(&rt, round.pauses);
-        let sent = sender.try_send(&rt, message);
-        end_sender(&rt, sender, round.end);
-        sent
-    });
-    (sending.expect(&rt, "a thread"), meeting)
+    (other.expect(&rt, "a thread"), meeting)
 }
 
 /// Meets the thread, drops the receive and waits for the thread's end, in this order of the two.
-fn drop_receive<A, R: Threads + Abort>(
+fn drop_receive<R: Threads + Abort>(
     rt: &R,
     receiving: ReceiveFuture<'_, Counted>,
-    started: Started<A>,
+    started: Started,
     first: First,
-) -> A {
+) -> (Option<Sender<Counted>>, Option<Sent>) {
     let (thread, meeting) = started;
     match first {
         First::Drop => {
@@ -174,27 +147,11 @@ fn receive_rest<R: Wait + Abort>(rt: &R, receiver: &AsyncReceiver<Counted>, drop
     }
     drops.were_once(rt, 0);
     let number = match receiver.try_recv(rt) {
-        Ok(Some(message)) => Some(number_of(message)),
+        Ok(Some(message)) => Some(message.number()),
         _ => None,
     };
     equal(rt, number, Some(0));
     drops.were_once(rt, 1);
-}
-
-/// Drops a receive that waits, beside an end.
-fn beside_an_end<R: Threads + Wait + Abort + AllocGlobal + Copy + Send + 'static>(
-    rt: R,
-    task: &MockTask,
-    round: Round,
-    first: First,
-    drops: &Arc<Drops, Global>,
-) {
-    let (sender, receiver) = ends(&rt, round.count);
-    let receiving = waiting(&rt, task, &receiver);
-    drop_receive(&rt, receiving, start_end(rt, sender, round), first);
-    is_ended(&rt, &receiver, round.end);
-    drop(receiver);
-    drops.were_once(&rt, 0);
 }
 
 /// Whether the send can be answered so. Where the drop is first, the message finds no receive.
@@ -228,50 +185,47 @@ fn nobody_waits<R: Wait + Abort>(rt: &R, ends: Ends, places: usize, drops: &Arc<
     drops.were_once(rt, 1);
 }
 
-/// Drops a receive that waits, beside a send.
-fn beside_a_send<R: Threads + Wait + Abort + AllocGlobal + Copy + Send + 'static>(
+/// Drops a receive that waits, beside what the other thread does.
+fn beside<R: Threads + Wait + Abort + AllocGlobal + Copy + Send + 'static>(
     rt: R,
     task: &MockTask,
+    other: Other,
     round: Round,
     first: First,
     drops: &Arc<Drops, Global>,
 ) {
-    let (sender, receiver) = ends(&rt, round.count);
+    let (sender, receiver) = bounded(rt.alloc(), round.count).expect(&rt, "a channel");
+    let receiver = receiver.to_async();
     let receiving = waiting(&rt, task, &receiver);
-    let message = Counted::new(&rt, drops, 0);
-    let sending = start_send(rt, sender, message, round.pauses);
-    let (sender, sent) = drop_receive(&rt, receiving, sending, first);
-    holds(&rt, is_sent(sent, round.count, first));
-    holds(&rt, is_left(receiver.len(&rt), round.count, first));
-    receive_rest(&rt, &receiver, drops);
-    nobody_waits(&rt, (sender, receiver), round.count, drops);
-}
-
-/// Drops a receive that waits, beside a send and an end.
-fn beside_both<R: Threads + Wait + Abort + AllocGlobal + Copy + Send + 'static>(
-    rt: R,
-    task: &MockTask,
-    round: Round,
-    first: First,
-    drops: &Arc<Drops, Global>,
-) {
-    let (sender, receiver) = ends(&rt, round.count);
-    let receiving = waiting(&rt, task, &receiver);
-    let message = Counted::new(&rt, drops, 0);
-    let sending = start_send_and_end(rt, sender, message, round);
-    let sent = drop_receive(&rt, receiving, sending, first);
-    let places = match round.end {
-        End::Close => 0,
-        End::Drop | End::Seal => round.count,
+    let message = if other.sends {
+        Some(Counted::new(&rt, drops, 0))
+    } else {
+        None
     };
-    holds(&rt, is_sent(sent, round.count, first));
-    holds(&rt, is_left(receiver.len(&rt), places, first));
-    receive_rest(&rt, &receiver, drops);
-    is_ended(&rt, &receiver, round.end);
+    let started = start(rt, sender, message, round, other.ends);
+    let (sender, sent) = drop_receive(&rt, receiving, started, first);
+    let places = if other.ends && round.end == End::Close {
+        0
+    } else {
+        round.count
+    };
+    if let Some(sent) = sent {
+        holds(&rt, is_sent(sent, round.count, first));
+        holds(&rt, is_left(receiver.len(&rt), places, first));
+        receive_rest(&rt, &receiver, drops);
+    }
+    match sender {
+        Some(sender) => nobody_waits(&rt, (sender, receiver), round.count, drops),
+        None => {
+            is_ended(&rt, &receiver, round.end);
+            drop(receiver);
+            drops.were_once(&rt, 0);
+        },
+    }
 }
 
 /// Runs all rounds beside the other thread. How many they were.
-fn race<R>(rt: R, other: Other) -> u32
+fn race<R>(rt: R, sends: bool, ends: bool) -> u32
 where
     R: Threads + Wait + time::Clock + Abort + RandomSource + AllocGlobal + Copy + Send + 'static,
 {
@@ -279,11 +233,7 @@ where
     let watch = Watch::start(rt);
     for number in 0..ROUNDS {
         let (round, first) = (Round::numbered(number), First::numbered(number));
-        match other {
-            Other::Ends => beside_an_end(rt, &task, round, first, &drops),
-            Other::Sends => beside_a_send(rt, &task, round, first, &drops),
-            Other::SendsAndEnds => beside_both(rt, &task, round, first, &drops),
-        }
+        beside(rt, &task, Other { sends, ends }, round, first, &drops);
         watch.count();
     }
     watch.stop(&rt)
@@ -291,15 +241,15 @@ where
 
 #[test]
 fn an_end_beside_the_drop_of_a_receive(rt: HostRuntime) {
-    equal(&rt, race(rt, Other::Ends), 30_000);
+    equal(&rt, race(rt, false, true), 30_000);
 }
 
 #[test]
 fn a_send_beside_the_drop_of_a_receive(rt: HostRuntime) {
-    equal(&rt, race(rt, Other::Sends), 30_000);
+    equal(&rt, race(rt, true, false), 30_000);
 }
 
 #[test]
 fn a_send_and_an_end_beside_the_drop_of_a_receive(rt: HostRuntime) {
-    equal(&rt, race(rt, Other::SendsAndEnds), 30_000);
+    equal(&rt, race(rt, true, true), 30_000);
 }

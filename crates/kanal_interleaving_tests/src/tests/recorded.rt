@@ -112,21 +112,6 @@ fn in_two<R: Threads + Wait + Abort + Sync>(
     )
 }
 
-/// The calls of four.
-fn in_four<R: Threads + Wait + Abort + Sync>(
-    rt: &R,
-    common: &Common,
-    passes: Two,
-    others: Two,
-    seed: u64,
-) -> (Two, Two) {
-    thread::join(
-        rt,
-        || in_two(rt, common, passes, seed),
-        || in_two(rt, common, others, seed.wrapping_add(2)),
-    )
-}
-
 /// The channel's next two passes.
 fn two<R: Wait + Abort>(rt: &R, channel: &Recorded<u64>) -> Two {
     let first = channel.pass(rt).expect(rt, "a pass");
@@ -152,7 +137,12 @@ fn journal<R: Threads + Wait + Abort + AllocGlobal + Sync>(rt: &R, round: u64) -
         told,
         meeting: Meeting::new(rt, 4),
     };
-    let (passes, others) = in_four(rt, &common, passes, others, round.wrapping_mul(4));
+    let seed = round.wrapping_mul(4);
+    let (passes, others) = thread::join(
+        rt,
+        || in_two(rt, &common, passes, seed),
+        || in_two(rt, &common, others, seed.wrapping_add(2)),
+    );
     let Common {
         channel,
         told: _,

@@ -131,26 +131,22 @@ fn row<J: Naming, R: Wait + Abort>(
     Ok(())
 }
 
+/// Each row's capacity, and what becomes of it.
+const ROWS: &[(Option<usize>, u8, Result<(), NewError>)] = &[
+    (Some(0), 0, Ok(())),
+    (Some(1), 1, Ok(())),
+    (Some(1), 2, Ok(())),
+    (Some(1), 3, Ok(())),
+    (Some(1), 4, Ok(())),
+    (None, 5, Ok(())),
+    (Some(usize::MAX), 1, Err(NewError::TooLarge)),
+];
+
 #[test]
-fn rows_of_bounded_channels(rt: HostRuntime) {
-    for number in 0..5u8 {
-        let capacity = if number == 0 { 0usize } else { 1usize };
+fn rows_of_each_capacity(rt: HostRuntime) {
+    for (capacity, number, expected) in ROWS {
         let opened = board(&rt, rt.alloc());
-        let made = row::<Brand, _>(&rt, rt.alloc(), Some(capacity), number, opened);
-        equal(&rt, made, Ok(()));
+        let made = row::<Brand, _>(&rt, rt.alloc(), *capacity, *number, opened);
+        equal(&rt, made, *expected);
     }
-}
-
-#[test]
-fn rows_of_a_channel_without_limit(rt: HostRuntime) {
-    let opened = board(&rt, rt.alloc());
-    let made = row::<Brand, _>(&rt, rt.alloc(), None, 5, opened);
-    equal(&rt, made, Ok(()));
-}
-
-#[test]
-fn no_channel_is_too_large(rt: HostRuntime) {
-    let opened = board(&rt, rt.alloc());
-    let refused = row::<Brand, _>(&rt, rt.alloc(), Some(usize::MAX), 1, opened);
-    equal(&rt, refused, Err(NewError::TooLarge));
 }

@@ -25,21 +25,19 @@ pub fn begins<T: Drop, R: Wait>(rt: &R, shared: &Shared<T, NoHistory>) -> bool {
 }
 
 #[test]
-fn a_close_ends_a_receive_that_waits(rt: HostRuntime) {
-    let (shared, other) = common::<u64>(&rt, 1);
-    let thread = thread::spawn(&rt, move || other.recv(&rt, &mut ())).expect(&rt, "a thread");
-    holds(&rt, begins(&rt, &shared));
-    equal(&rt, shared.close(&rt, &mut ()), Ok(()));
-    equal(&rt, thread.join(&rt), Err(ReceiveError::Closed));
-}
-
-#[test]
-fn a_seal_ends_a_receive_that_waits(rt: HostRuntime) {
-    let (shared, other) = common::<u64>(&rt, 1);
-    let thread = thread::spawn(&rt, move || other.recv(&rt, &mut ())).expect(&rt, "a thread");
-    holds(&rt, begins(&rt, &shared));
-    equal(&rt, shared.seal(&rt, &mut ()), Ok(()));
-    equal(&rt, thread.join(&rt), Err(ReceiveError::SendClosed));
+fn a_close_or_a_seal_ends_a_receive_that_waits(rt: HostRuntime) {
+    for error in [ReceiveError::Closed, ReceiveError::SendClosed] {
+        let (shared, other) = common::<u64>(&rt, 1);
+        let thread = thread::spawn(&rt, move || other.recv(&rt, &mut ())).expect(&rt, "a thread");
+        holds(&rt, begins(&rt, &shared));
+        let ended = if error == ReceiveError::Closed {
+            shared.close(&rt, &mut ())
+        } else {
+            shared.seal(&rt, &mut ())
+        };
+        equal(&rt, ended, Ok(()));
+        equal(&rt, thread.join(&rt), Err(error));
+    }
 }
 
 #[test]

@@ -29,7 +29,7 @@ fn drop_held<R: Wait, T: Drop, D: Drop, F: Drop>(
 }
 
 #[test]
-fn handles_are_dropped_while_the_lock_is_held(rt: HostRuntime) {
+fn handles_of_each_side_are_dropped_while_the_lock_is_held(rt: HostRuntime) {
     let (sender, receiver) = handles::<u64>(&rt, 1);
     let second = sender.clone(&rt).expect(&rt, "one more");
     let third = sender.clone(&rt).expect(&rt, "one more");
@@ -39,10 +39,6 @@ fn handles_are_dropped_while_the_lock_is_held(rt: HostRuntime) {
     equal(&rt, drop_held(&rt, shared, all, ()), (4, 1, 0));
     equal(&rt, counts(&rt, shared), (0, 1));
     holds(&rt, receiver.is_terminated(&rt));
-}
-
-#[test]
-fn receivers_are_dropped_while_the_lock_is_held(rt: HostRuntime) {
     let (sender, receiver) = handles::<u64>(&rt, 1);
     let second = receiver.clone(&rt).expect(&rt, "one more");
     let shared = sender.channel();

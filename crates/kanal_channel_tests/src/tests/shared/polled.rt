@@ -17,7 +17,7 @@ fn woken_once(rt: &impl Abort, task: &MockTask) {
 }
 
 #[test]
-fn a_send_is_polled_while_the_lock_is_held(rt: HostRuntime) {
+fn a_send_and_a_receive_are_polled_while_the_lock_is_held(rt: HostRuntime) {
     let shared = channel::<u64>(&rt, 1);
     let task = new_task(&rt);
     let mut sending = send_future(&shared, 7);
@@ -29,10 +29,6 @@ fn a_send_is_polled_while_the_lock_is_held(rt: HostRuntime) {
     woken_once(&rt, &task);
     equal(&rt, task.poll(&mut sending), Poll::Ready(Ok(())));
     holds(&rt, !task.is_woken());
-}
-
-#[test]
-fn a_receive_is_polled_while_the_lock_is_held(rt: HostRuntime) {
     let shared = channel::<u64>(&rt, 1);
     let task = new_task(&rt);
     equal(&rt, shared.send(&rt, &mut (), 7), Ok(()));

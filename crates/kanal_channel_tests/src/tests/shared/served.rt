@@ -27,7 +27,7 @@ fn realtime_forms_serve_who_waits(rt: HostRuntime) {
 }
 
 #[test]
-fn the_last_sender_under_the_lock_ends_a_receive(rt: HostRuntime) {
+fn the_last_handle_under_the_lock_ends_who_waits(rt: HostRuntime) {
     let (sender, receiver) = handles::<u64>(&rt, 0);
     let shared = receiver.channel();
     let task = new_task(&rt);
@@ -39,10 +39,7 @@ fn the_last_sender_under_the_lock_ends_a_receive(rt: HostRuntime) {
     holds(&rt, task.is_woken());
     let ended = task.poll(&mut receiving);
     equal(&rt, ended, Poll::Ready(Err(ReceiveError::SendClosed)));
-}
-
-#[test]
-fn the_last_receiver_under_the_lock_ends_a_send(rt: HostRuntime) {
+    // And that of the last receiver ends a send.
     let (sender, receiver) = handles::<u64>(&rt, 0);
     let shared = sender.channel();
     let task = new_task(&rt);
@@ -75,7 +72,7 @@ fn a_call_applies_the_notices_that_it_finds(rt: HostRuntime) {
 }
 
 #[test]
-fn a_poll_of_a_receive_applies_the_notices_that_it_finds(rt: HostRuntime) {
+fn polls_apply_the_notices_that_they_find(rt: HostRuntime) {
     let (sender, receiver) = handles::<u64>(&rt, 1);
     let shared = receiver.channel();
     drop_unlooked(&rt, shared, sender);
@@ -86,10 +83,6 @@ fn a_poll_of_a_receive_applies_the_notices_that_it_finds(rt: HostRuntime) {
         task.poll(&mut receiving),
         Poll::Ready(Err(ReceiveError::SendClosed)),
     );
-}
-
-#[test]
-fn a_poll_of_a_send_applies_the_notices_that_it_finds(rt: HostRuntime) {
     let (sender, receiver) = handles::<u64>(&rt, 1);
     let shared = receiver.channel();
     drop_unlooked(&rt, shared, sender);
@@ -151,22 +144,12 @@ fn serve_beside_a_notice<R: Abort>(
         return equal(rt, "the lock is held", "the lock is free");
     };
     let mut pass = ();
-    match locked
+    let made = locked
         .state
-        .start(shared.board(), &mut pass, Event::Send(7))
-    {
-        Ok(answered) => {
-            drop(sender);
-            let made = answered.into_made();
-            let reply = shared.give_back_tried(locked, left, &mut pass, made);
-            holds(rt, matches!(reply, Reply::Sent));
-        },
-        Err(_event) => {
-            let released = locked.release();
-            shared.tell_left(left, &released);
-            equal(rt, "it must wait", "it is told");
-        },
-    }
+        .call(shared.board(), &mut pass, Event::TrySend(7));
+    drop(sender);
+    let reply = shared.give_back_tried(locked, left, &mut pass, made);
+    holds(rt, matches!(reply, Reply::Yes));
 }
 
 /// The step under the lock owes one receive its message, and a notice ends the other: the way out tells

@@ -4,14 +4,13 @@ ghost use Rattle.kanal_cell.specs.CellRule.{HasNotLeft, HasNotSettled, MaySleep}
 ghost use Rattle.kanal_cell.specs.CellEnds.{wait_view, settle_view};
 
 use crate::tests::given::{cell, equal, holds, new_parker, unparker_of};
-use crossbeam_utils::sync::{Parker, Unparker};
+use crossbeam_utils::sync::Parker;
 use kanal_cell::signal::{SettleEnd, WaitEnd};
 use kanal_given::{Counted, Drops};
 use std::alloc::AllocGlobal;
 use std::process::Abort;
 use std::sync::Wait;
 use std::thread;
-use std::thread::Threads;
 
 const MESSAGES: u64 = 10_000;
 
@@ -45,28 +44,9 @@ struct Settling {
     ghost unspent: { HasNotSettled (settle_view end) },
 }
 
-impl Fresh {
-    fn waiting(self) -> Waiting {
-        let Fresh { end, way: _ } = self;
-        Waiting { end }
-    }
-
-    /// Whether the outcome was there at once.
-    fn sleep(self, sleeper: Unparker) -> (Waiting, bool) {
-        let Fresh { mut end, way: _ } = self;
-        let had = end.sleep(sleeper).is_some();
-        (Waiting { end }, had)
-    }
-}
-
 impl Waiting {
     fn poll(&mut self) -> bool {
         self.end.poll().is_some()
-    }
-
-    fn leave(self) -> bool {
-        let Waiting { mut end } = self;
-        end.leave().is_some()
     }
 
     /// Parks until the outcome is there. A token may be left from a waiter that slept and left.
@@ -83,20 +63,20 @@ impl Waiting {
 
 /// Whether the waiter got its outcome.
 fn wait_one<R: Wait + Abort>(rt: &R, parker: &Parker, fresh: Fresh) -> bool {
-    match fresh.way {
+    let Fresh { mut end, way } = fresh;
+    match way {
         Way::Polls => {
-            let mut waiting = fresh.waiting();
-            let (first, second) = (waiting.poll(), waiting.poll());
-            waiting.leave() || first || second
+            let (first, second) = (end.poll(), end.poll());
+            end.leave().is_some() || first.is_some() || second.is_some()
         }
         Way::Sleeps => {
-            let (waiting, had) = fresh.sleep(unparker_of(rt, parker));
-            had || waiting.park(rt, parker)
+            let had = end.sleep(unparker_of(rt, parker)).is_some();
+            had || Waiting { end }.park(rt, parker)
         }
-        Way::Leaves => fresh.waiting().leave(),
+        Way::Leaves => end.leave().is_some(),
         Way::SleepsAndLeaves => {
-            let (waiting, had) = fresh.sleep(unparker_of(rt, parker));
-            waiting.leave() || had
+            let had = end.sleep(unparker_of(rt, parker)).is_some();
+            end.leave().is_some() || had
         }
         Way::NeverLooks => false,
     }
@@ -149,24 +129,19 @@ fn cells(rt: &(impl Abort + AllocGlobal), drops: &Drops) -> (Vec<Fresh>, Vec<Set
     (waits, settles)
 }
 
-/// How many outcomes went to one of the sides.
-fn round<R: Threads + Wait + Abort + AllocGlobal + Sync>(rt: &R, drops: &Drops) -> u64 {
-    let (waits, settles) = cells(rt, drops);
-    let parker = new_parker(rt);
-    let (back, got) = thread::join(
-        rt,
-        move || settle_all(settles),
-        move || wait_all(rt, parker, waits),
-    );
-    back.wrapping_add(got)
-}
-
 #[test]
 fn each_outcome_is_dropped_once(rt: HostRuntime) {
     for _ in 0..4u32 {
         let drops = Drops::new(rt.alloc()).expect(&rt, "memory for a counter");
+        let (waits, settles) = cells(&rt, &drops);
+        let parker = new_parker(&rt);
+        let (back, got) = thread::join(
+            &rt,
+            move || settle_all(settles),
+            || wait_all(&rt, parker, waits),
+        );
         // One of five is never looked for. Of the others each went to one side.
-        equal(&rt, round(&rt, &drops), MESSAGES / 5 * 4);
+        equal(&rt, back.wrapping_add(got), MESSAGES / 5 * 4);
         equal(&rt, drops.count(), MESSAGES);
     }
 }

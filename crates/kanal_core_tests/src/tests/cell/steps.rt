@@ -77,6 +77,7 @@ fn the_table_of_steps(rt: HostRuntime) {
     }
 }
 
+/// A settle wakes the thread that sleeps, also where the waiter has left since.
 #[test]
 fn a_sleep_then_a_settle(rt: HostRuntime) {
     let parker = new_parker(&rt);
@@ -84,6 +85,11 @@ fn a_sleep_then_a_settle(rt: HostRuntime) {
     equal(&rt, wait.sleep(unparker_of(&rt, &parker)), None);
     equal(&rt, settle.settle(5), None);
     equal(&rt, [wait.poll(), wait.poll()], [Some(5), None]);
+    park_woken(&rt, &parker);
+    let (mut wait, mut settle) = cell::<u64>(&rt);
+    equal(&rt, wait.sleep(unparker_of(&rt, &parker)), None);
+    equal(&rt, wait.leave(), None);
+    equal(&rt, settle.settle(5), Some(5));
     park_woken(&rt, &parker);
 }
 
@@ -115,14 +121,4 @@ fn leaves(rt: HostRuntime) {
     equal(&rt, wait.poll(), None);
     equal(&rt, settle.settle(6), None);
     equal(&rt, wait.leave(), Some(6));
-}
-
-#[test]
-fn a_sleep_a_leave_then_a_settle(rt: HostRuntime) {
-    let parker = new_parker(&rt);
-    let (mut wait, mut settle) = cell::<u64>(&rt);
-    equal(&rt, wait.sleep(unparker_of(&rt, &parker)), None);
-    equal(&rt, wait.leave(), None);
-    equal(&rt, settle.settle(5), Some(5));
-    park_woken(&rt, &parker);
 }

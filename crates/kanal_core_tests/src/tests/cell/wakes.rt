@@ -15,7 +15,6 @@ use futures::test::MockTask;
 use kanal_cell::signal::{SettleEnd, WaitEnd};
 use std::alloc::AllocGlobal;
 use std::process::Abort;
-use std::random::RandomSource;
 use std::sync::atomic::{AtomicU64, Ordering};
 use std::sync::{Arc, Mutex, Wait};
 use std::thread;
@@ -31,29 +30,25 @@ fn settle_and_see(entry: Entry, stage: &AtomicU64, waking: &Unparker) -> bool {
 }
 
 /// A settle in another thread wakes this one, should it park before.
-fn wake_the_parked<R: Threads + Wait + Abort + AllocGlobal>(rt: &R) {
-    let parker = new_parker(rt);
-    let (sleeper, waking) = (unparker_of(rt, &parker), unparker_of(rt, &parker));
-    let (mut wait, settle) = cell::<u64>(rt);
-    let entry = Entry { end: settle };
-    let stage = counter(rt);
-    let theirs = shared(rt, &stage);
-    let other = thread::spawn(rt, move || settle_and_see(entry, &theirs, &waking));
-    let other = other.expect(rt, "a thread");
-    let mut got = wait.sleep(sleeper);
-    if got.is_none() {
-        parker.park(rt);
-        got = wait.poll();
-    }
-    stage.store(PASSED, Ordering::SeqCst);
-    equal(rt, got, Some(7));
-    holds(rt, other.join(rt));
-}
-
 #[test]
 fn a_settle_wakes_the_parked_thread(rt: HostRuntime) {
     for _ in 0..200u32 {
-        wake_the_parked(&rt);
+        let parker = new_parker(&rt);
+        let (sleeper, waking) = (unparker_of(&rt, &parker), unparker_of(&rt, &parker));
+        let (mut wait, settle) = cell::<u64>(&rt);
+        let entry = Entry { end: settle };
+        let stage = counter(&rt);
+        let theirs = shared(&rt, &stage);
+        let other = thread::spawn(&rt, move || settle_and_see(entry, &theirs, &waking));
+        let other = other.expect(&rt, "a thread");
+        let mut got = wait.sleep(sleeper);
+        if got.is_none() {
+            parker.park(&rt);
+            got = wait.poll();
+        }
+        stage.store(PASSED, Ordering::SeqCst);
+        equal(&rt, got, Some(7));
+        holds(&rt, other.join(&rt));
     }
 }
 
@@ -248,28 +243,25 @@ fn settle_later(line: &Line, x: u64) -> bool {
     }
 }
 
-/// A settle in another thread wakes the task that waits for this outcome.
-fn wake_the_task<R: Threads + Wait + Abort + RandomSource + AllocGlobal>(rt: &R, outcome: u64) {
-    let (wait, settle) = cell(rt);
-    let line = Line {
-        source: Source::new(),
-        entry: Mutex::new(Some(Entry { end: settle })),
-    };
-    let line = Arc::new(rt.alloc(), line).expect(rt, "memory for a line");
-    let theirs = Arc::try_clone(&line).expect(rt, "a count of the line");
-    let other = thread::spawn(rt, move || settle_later(&theirs, outcome)).expect(rt, "a thread");
-    let receive = Receive {
-        line,
-        spare: None,
-        end: wait,
-    };
-    equal(rt, block_on(rt, receive).expect(rt, "a task"), outcome);
-    holds(rt, other.join(rt));
-}
-
+/// A settle in another thread wakes the task that waits for its outcome.
 #[test]
 fn a_settle_wakes_the_task(rt: HostRuntime) {
-    for round in 0..100u64 {
-        wake_the_task(&rt, round);
+    for outcome in 0..100u64 {
+        let (wait, settle) = cell(&rt);
+        let line = Line {
+            source: Source::new(),
+            entry: Mutex::new(Some(Entry { end: settle })),
+        };
+        let line = Arc::new(rt.alloc(), line).expect(&rt, "memory for a line");
+        let theirs = Arc::try_clone(&line).expect(&rt, "a count of the line");
+        let other = thread::spawn(&rt, move || settle_later(&theirs, outcome));
+        let other = other.expect(&rt, "a thread");
+        let receive = Receive {
+            line,
+            spare: None,
+            end: wait,
+        };
+        equal(&rt, block_on(&rt, receive).expect(&rt, "a task"), outcome);
+        holds(&rt, other.join(&rt));
     }
 }

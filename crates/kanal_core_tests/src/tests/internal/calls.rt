@@ -58,7 +58,7 @@ fn a_push_and_a_pop(rt: HostRuntime) {
 }
 
 #[test]
-fn counts(rt: HostRuntime) {
+fn counts_and_the_largest(rt: HostRuntime) {
     let mut core: Core = core_of(&rt, 1);
     equal(
         &rt,
@@ -68,10 +68,6 @@ fn counts(rt: HostRuntime) {
     equal(&rt, (core.sender_count(), core.receiver_count()), (2, 2));
     let gone = (core.send_side_gone(), core.receive_side_gone());
     equal(&rt, gone, (false, false));
-}
-
-#[test]
-fn largest_counts(rt: HostRuntime) {
     let most = u32::MAX;
     let core = Core::starting_at(rt.alloc(), Some(1), 0, most, most);
     let mut core = core.expect(&rt, "a core");

@@ -3,44 +3,34 @@ use crate::tests::given::{core_of, equal, holds};
 use crate::tests::waits::enter;
 use kanal_core::internal::{ChannelInternal, Closing, Take};
 use kanal_given::{Counted, Drops};
+use std::alloc::AllocGlobal;
 use std::process::Abort;
 
 type Core = ChannelInternal<Counted, u8>;
 
-/// Seven messages enter and are taken, so that the ring goes round; each is dropped then.
-fn go_round(rt: &impl Abort, core: &mut Core, drops: &Drops) {
-    for _ in 0..7 {
-        enter(rt, core, drops.message().expect(rt, "a message"));
-        holds(rt, matches!(core.take(), Take::Got(_, None)));
+/// A core with ten messages, whose ring went round: seven more had entered and were taken, and were dropped then.
+fn gone_round(rt: &(impl Abort + AllocGlobal), drops: &Drops) -> Core {
+    let mut core: Core = core_of(rt, 10);
+    for number in 0..17u32 {
+        enter(rt, &mut core, drops.message().expect(rt, "a message"));
+        if number < 7 {
+            holds(rt, matches!(core.take(), Take::Got(_, None)));
+        }
     }
     equal(rt, drops.count(), 7);
+    core
 }
 
-/// Ten messages enter.
-fn enter_ten(rt: &impl Abort, core: &mut Core, drops: &Drops) {
-    for _ in 0..10 {
-        enter(rt, core, drops.message().expect(rt, "a message"));
-    }
-}
-
+/// A close hands the messages out, and the drop of a core drops them.
 #[test]
-fn a_close_of_a_ring_that_has_gone_round(rt: HostRuntime) {
+fn the_end_of_a_ring_that_has_gone_round(rt: HostRuntime) {
     let drops = Drops::new(rt.alloc()).expect(&rt, "memory for a counter");
-    let mut core: Core = core_of(&rt, 10);
-    go_round(&rt, &mut core, &drops);
-    enter_ten(&rt, &mut core, &drops);
+    let mut core = gone_round(&rt, &drops);
     let Closing { cleared, ended: _ } = core.close().expect(&rt, "a close");
     equal(&rt, (cleared.len(), drops.count()), (10, 7));
     drop(cleared);
     equal(&rt, (drops.count(), core.is_closed()), (17, true));
-}
-
-#[test]
-fn a_channel_that_is_dropped(rt: HostRuntime) {
     let drops = Drops::new(rt.alloc()).expect(&rt, "memory for a counter");
-    let mut core: Core = core_of(&rt, 10);
-    go_round(&rt, &mut core, &drops);
-    enter_ten(&rt, &mut core, &drops);
-    drop(core);
+    drop(gone_round(&rt, &drops));
     equal(&rt, drops.count(), 17);
 }

@@ -6,7 +6,6 @@ use kanal_core::error::{CloseError, WaitError};
 use kanal_core::internal::{ChannelInternal, Closing, Offer, Outcome, Reason, Steps, Take, Ticket};
 use std::alloc::AllocGlobal;
 use std::marker::Brand;
-use std::process::Abort;
 
 type Core = ChannelInternal<u64, Box<u32>>;
 
@@ -15,14 +14,6 @@ fn take(core: &mut Core) -> Option<(u64, Option<u32>)> {
     match core.take() {
         Take::Got(message, Some(settled)) => Some((message, Some(*settled.w))),
         Take::Got(message, None) => Some((message, None)),
-        _ => None,
-    }
-}
-
-/// What the receiver brought that the message is handed to, and what it is given.
-fn handed(core: &mut Core, message: u64) -> Option<(u32, Outcome<u64>)> {
-    match core.offer(message) {
-        Offer::Handed(settled) => Some((*settled.w, settled.outcome)),
         _ => None,
     }
 }
@@ -36,7 +27,11 @@ fn a_sender_is_let_in_and_a_receiver_is_handed(rt: HostRuntime) {
     equal(&rt, take(&mut core), Some((2, None)));
     let ticket = receive(&rt, &mut core, boxed(&rt, 8));
     equal(&rt, ticket.number(), 1);
-    equal(&rt, handed(&mut core, 5), Some((8, Outcome::Given(5))));
+    let handed = match core.offer(5) {
+        Offer::Handed(settled) => Some((*settled.w, settled.outcome)),
+        _ => None,
+    };
+    equal(&rt, handed, Some((8, Outcome::Given(5))));
 }
 
 /// The message of a wait that is withdrawn, and what it brought.
@@ -94,26 +89,20 @@ fn a_close_ends_the_senders_that_wait(rt: HostRuntime) {
 }
 
 #[test]
-fn a_seal_ends_the_receivers_that_wait(rt: HostRuntime) {
+fn the_end_of_one_side_ends_who_waits_on_the_other(rt: HostRuntime) {
     let mut core: Core = core_of(&rt, 1);
     receive(&rt, &mut core, boxed(&rt, 7));
     let mut ended = core.seal().ok().expect(&rt, "a seal");
     let outcome = Outcome::Ended(Reason::SendClosed, None);
     equal(&rt, next_end(&mut ended), Some((7, outcome)));
     holds(&rt, matches!(core.offer(2), Offer::Sealed(2)));
-}
-
-#[test]
-fn the_last_sender_ends_the_receivers_that_wait(rt: HostRuntime) {
+    // So does the drop of the last sender.
     let mut core: Core = core_of(&rt, 1);
     receive(&rt, &mut core, boxed(&rt, 7));
     let outcome = Outcome::Ended(Reason::SendClosed, None);
     let mut ended = core.drop_sender();
     equal(&rt, next_end(&mut ended), Some((7, outcome)));
-}
-
-#[test]
-fn the_last_receiver_ends_the_senders_that_wait(rt: HostRuntime) {
+    // And that of the last receiver ends the sends.
     let mut core: Core = filled(&rt);
     send(&rt, &mut core, 2, boxed(&rt, 8));
     let outcome = Outcome::Ended(Reason::ReceiveClosed, Some(2));
@@ -135,25 +124,19 @@ fn a_drain_takes_the_senders_that_wait(rt: HostRuntime) {
     equal(&rt, next_end(&mut taken), None);
 }
 
-/// A core without places whose tickets begin with this one.
-fn core_from(rt: &(impl Abort + AllocGlobal), first: u64) -> Core {
-    Core::starting_at(rt.alloc(), Some(0), first, 1, 1).expect(rt, "a core")
-}
-
-/// The last ticket waits, and the receive behind it is refused: its W comes back.
+/// The last ticket waits, and the receive behind it is refused: its W comes back. Where none is left a send is
+/// refused, and its message comes back, too.
 #[test]
-fn the_last_ticket(rt: HostRuntime) {
-    let mut core = core_from(&rt, u64::MAX - 1);
+fn the_last_ticket_and_none(rt: HostRuntime) {
+    let core = Core::starting_at(rt.alloc(), Some(0), u64::MAX - 1, 1, 1);
+    let mut core = core.expect(&rt, "a core");
     let ticket = receive(&rt, &mut core, boxed(&rt, 7));
     equal(&rt, ticket.number(), u64::MAX - 1);
     let answer = received(&mut core, boxed(&rt, 8)).expect(&rt, "it finds no message");
     let (reason, w) = answer.err().expect(&rt, "a refusal");
     equal(&rt, (reason, *w), (WaitError::TooMany, 8));
-}
-
-#[test]
-fn used_up_tickets(rt: HostRuntime) {
-    let mut core = core_from(&rt, u64::MAX);
+    let core = Core::starting_at(rt.alloc(), Some(0), u64::MAX, 1, 1);
+    let mut core = core.expect(&rt, "a core");
     let answer = sent(&mut core, 6, boxed(&rt, 9)).expect(&rt, "it finds no place");
     let (reason, back, w) = answer.err().expect(&rt, "a refusal");
     equal(&rt, (reason, back, *w), (WaitError::TooMany, 6, 9));

@@ -3,12 +3,9 @@ use super::given::{gives, squares};
 use crate::tests::given::equal;
 use kanal_pool::{Gate, map_jobs};
 use std::alloc::AllocGlobal;
-use std::process::Abort;
-use std::sync::Wait;
 use std::sync::atomic::AtomicU64;
 use std::sync::atomic::Ordering::SeqCst;
 use std::thread;
-use std::thread::Threads;
 
 /// How often a job that is to meet others looks for them.
 const TURNS: u32 = 1_000_000;
@@ -57,28 +54,18 @@ impl Gate for Meeting {
     }
 }
 
-/// Ends the test unless as many jobs as there are workers meet.
-fn all_meet<R: Threads + Wait + Abort + AllocGlobal + Sync>(
-    rt: &R,
-    workers: u32,
-    expected: &[u64],
-) {
-    let jobs = squares(rt, workers);
-    let meeting = Meeting::of(u64::from(workers), TURNS);
-    let answer = map_jobs(rt, rt.alloc(), jobs.as_slice(), workers as usize, &meeting);
-    gives(rt, answer, expected);
-    equal(rt, meeting.missed.load(SeqCst), 0);
-    equal(rt, meeting.met.load(SeqCst), u64::from(workers));
-}
-
+/// As many jobs as there are workers.
 #[test]
-fn two_jobs_meet(rt: HostRuntime) {
-    all_meet(&rt, 2, &[0, 1]);
-}
-
-#[test]
-fn four_jobs_meet(rt: HostRuntime) {
-    all_meet(&rt, 4, &[0, 1, 4, 9]);
+fn two_jobs_meet_and_four(rt: HostRuntime) {
+    for workers in [2, 4] {
+        let jobs = squares(&rt, workers);
+        let meeting = Meeting::of(u64::from(workers), TURNS);
+        let answer = map_jobs(&rt, rt.alloc(), jobs.as_slice(), workers as usize, &meeting);
+        let expected: &[u64] = if workers == 2 { &[0, 1] } else { &[0, 1, 4, 9] };
+        gives(&rt, answer, expected);
+        equal(&rt, meeting.missed.load(SeqCst), 0);
+        equal(&rt, meeting.met.load(SeqCst), u64::from(workers));
+    }
 }
 
 #[test]

@@ -13,33 +13,16 @@ fn squares_of_0_to_9(rt: HostRuntime) {
         let answer = map_jobs(&rt, rt.alloc(), jobs.as_slice(), workers, &NoGate);
         gives(&rt, answer, &SQUARES);
     }
-}
-
-#[test]
-fn squares_in_turn(rt: HostRuntime) {
-    let jobs = squares(&rt, 10);
     let answer = map_in_turn(rt.alloc(), jobs.as_slice());
     gives(&rt, answer.map_err(PoolError::from), &SQUARES);
 }
 
 #[test]
-fn no_jobs(rt: HostRuntime) {
-    let none: [Square; 0] = [];
+fn no_jobs_or_no_workers(rt: HostRuntime) {
+    let (none, one): ([Square; 0], [Square; 1]) = ([], [Square(1)]);
     gives(&rt, map_jobs(&rt, rt.alloc(), &none, 1, &NoGate), &[]);
-}
-
-#[test]
-fn no_workers(rt: HostRuntime) {
-    let none: [Square; 0] = [];
-    refuses(
-        &rt,
-        map_jobs(&rt, rt.alloc(), &none, 0, &NoGate),
-        PoolError::NoWorkers,
-    );
-    let one = [Square(1)];
-    refuses(
-        &rt,
-        map_jobs(&rt, rt.alloc(), &one, 0, &NoGate),
-        PoolError::NoWorkers,
-    );
+    let answer = map_jobs(&rt, rt.alloc(), &none, 0, &NoGate);
+    refuses(&rt, answer, PoolError::NoWorkers);
+    let answer = map_jobs(&rt, rt.alloc(), &one, 0, &NoGate);
+    refuses(&rt, answer, PoolError::NoWorkers);
 }

@@ -5,16 +5,10 @@ ghost use Rattle.std.proofs.lemmas.Bool.{eqb-true};
 ghost use Rattle.std.specs.Cmp.Rules.{comparing};
 
 use super::tally::Tally;
-use crate::tests::given::equal;
+use crate::tests::given::{equal, holds};
 use kanal_pool::{Gate, Job, NoMemory, map_jobs};
 use std::alloc::AllocGlobal;
-use std::process::Abort;
-use std::sync::Wait;
 use std::sync::atomic::Ordering::SeqCst;
-use std::thread::Threads;
-
-/// How many jobs there are.
-const JOBS: usize = 3;
 
 /// A job whose answer is its number, and whose work is counted.
 #[derive(Drop)]
@@ -80,27 +74,18 @@ fn fresh(number: u32) -> Watched {
     }
 }
 
-/// Does the jobs by so many workers. What became of each, where all have answered.
-fn counts_of<R: Threads + Wait + Abort + AllocGlobal + Sync>(
-    rt: &R,
-    workers: usize,
-) -> [[u64; 4]; JOBS] {
-    let jobs = [fresh(0), fresh(1), fresh(2)];
-    let done = map_jobs(rt, rt.alloc(), &jobs, workers, &Counter { jobs: &jobs });
-    assert!(rt; done.is_ok());
-    let [first, second, third] = &jobs;
-    [
-        first.tally.counts(),
-        second.tally.counts(),
-        third.tally.counts(),
-    ]
-}
-
 /// Each job's counts where it was entered, worked on within its gate and left, once.
 const ONCE: [u64; 4] = [1, 1, 0, 1];
 
 #[test]
 fn each_job_is_entered_worked_on_and_left_once(rt: HostRuntime) {
-    equal(&rt, counts_of(&rt, 1), [ONCE; JOBS]);
-    equal(&rt, counts_of(&rt, 2), [ONCE; JOBS]);
+    for workers in [1, 2] {
+        let jobs = [fresh(0), fresh(1), fresh(2)];
+        let done = map_jobs(&rt, rt.alloc(), &jobs, workers, &Counter { jobs: &jobs });
+        holds(&rt, done.is_ok());
+        let [first, second, third] = &jobs;
+        equal(&rt, first.tally.counts(), ONCE);
+        equal(&rt, second.tally.counts(), ONCE);
+        equal(&rt, third.tally.counts(), ONCE);
+    }
 }

@@ -1,6 +1,7 @@
 //! A send that is forgotten while it waits: its message stays in the line.
-use super::given::{end_receive, ends_and_task, waiting_send};
+use super::given::{ends_and_task, waiting_send};
 use crate::tests::given::equal;
+use futures::task::Poll;
 use kanal::error::ReceiveError;
 use std::mem;
 
@@ -13,5 +14,6 @@ fn a_forgotten_send_leaves_its_message(rt: HostRuntime) {
     drop(sender);
     // The message of a send that waits goes with the last sender.
     let mut receiving = receiver.recv();
-    end_receive(&rt, &task, &mut receiving, Err(ReceiveError::SendClosed));
+    let ended = task.poll(&mut receiving);
+    equal(&rt, ended, Poll::Ready(Err(ReceiveError::SendClosed)));
 }

@@ -58,26 +58,6 @@ pub fn waiting_receive<'a>(
     receiving
 }
 
-/// Ends the test unless a poll of the send answers so.
-pub fn end_send(
-    rt: &impl Abort,
-    task: &MockTask,
-    sending: &mut SendFuture<'_, u64>,
-    answer: Result<(), SendError>,
-) {
-    equal(rt, task.poll(sending), Poll::Ready(answer));
-}
-
-/// Ends the test unless a poll of the receive answers so.
-pub fn end_receive(
-    rt: &impl Abort,
-    task: &MockTask,
-    receiving: &mut ReceiveFuture<'_, u64>,
-    answer: Result<u64, ReceiveError>,
-) {
-    equal(rt, task.poll(receiving), Poll::Ready(answer));
-}
-
 /// Polls once for the stream's next message.
 pub fn poll_next(task: &MockTask, stream: &mut ReceiveStream<'_, u64>) -> Poll<Option<u64>> {
     task.poll(&mut stream.next())

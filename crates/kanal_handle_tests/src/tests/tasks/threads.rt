@@ -21,24 +21,20 @@ fn send_in_tasks<R: Wait + Abort + RandomSource + AllocGlobal>(
     Ok(())
 }
 
-/// Receives the numbers below the end, each in a task; whether they came in order.
-fn receives_in_tasks<R: Wait + Abort + RandomSource + AllocGlobal>(
+/// Receives the numbers below the end, each in a task, or blocks; whether they came in order.
+fn receives<R: Wait + Abort + RandomSource + AllocGlobal>(
     rt: &R,
     receiver: &AsyncReceiver<u64>,
     end: u64,
+    is_blocking: bool,
 ) -> bool {
     for number in 0..end {
-        if receive_in_task(rt, receiver) != Ok(number) {
-            return false;
-        }
-    }
-    true
-}
-
-/// Receives the numbers below the end, and blocks; whether they came in order.
-fn receives_blocking<R: Wait>(rt: &R, receiver: &AsyncReceiver<u64>, end: u64) -> bool {
-    for number in 0..end {
-        if receiver.as_sync().recv(rt) != Ok(number) {
+        let answer = if is_blocking {
+            receiver.as_sync().recv(rt)
+        } else {
+            receive_in_task(rt, receiver)
+        };
+        if answer != Ok(number) {
             return false;
         }
     }
@@ -50,7 +46,7 @@ fn a_thread_sends_to_a_task(rt: HostRuntime) {
     for size in 0..3 {
         let (sender, receiver) = sync_ends::<u64>(&rt, size);
         let thread = start_numbers(rt, sender, 0, 100);
-        holds(&rt, receives_in_tasks(&rt, receiver.as_async(), 100));
+        holds(&rt, receives(&rt, receiver.as_async(), 100, false));
         equal(&rt, thread.join(&rt), Ok(()));
     }
 }
@@ -61,7 +57,7 @@ fn a_task_sends_to_a_thread(rt: HostRuntime) {
         let (sender, receiver) = ends::<u64>(&rt, size);
         let thread = thread::spawn(&rt, move || send_in_tasks(&rt, &sender, 100));
         let thread = thread.expect(&rt, "a thread");
-        holds(&rt, receives_blocking(&rt, &receiver, 100));
+        holds(&rt, receives(&rt, &receiver, 100, true));
         equal(&rt, thread.join(&rt), Ok(()));
     }
 }

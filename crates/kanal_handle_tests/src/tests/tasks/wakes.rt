@@ -2,9 +2,7 @@
 //!
 //! The test task tells whether it was woken since its last poll began, not how often; a poll that
 //! looks at nothing forgets the wake, and then there is none left.
-use super::given::{
-    end_receive, end_send, ends, ends_and_task, new_task, poll_next, waiting_receive, waiting_send,
-};
+use super::given::{ends, ends_and_task, new_task, poll_next, waiting_receive, waiting_send};
 use crate::tests::given::{equal, holds};
 use futures::task::Poll;
 use futures::test::MockTask;
@@ -19,29 +17,24 @@ fn was_woken_once(task: &MockTask) -> bool {
     was_woken && !task.is_woken()
 }
 
-#[test]
-fn the_waker_of_the_last_poll_is_woken(rt: HostRuntime) {
-    let (sender, receiver, first) = ends_and_task::<u64>(&rt, 0);
-    let second = new_task(&rt);
-    let mut receiving = waiting_receive(&rt, &first, &receiver);
-    equal(&rt, second.poll(&mut receiving), Poll::Pending);
-    equal(&rt, sender.try_send(&rt, 3), Ok(true));
-    holds(&rt, was_woken_once(&second));
-    holds(&rt, !first.is_woken());
-    end_receive(&rt, &second, &mut receiving, Ok(3));
-}
-
+/// So is that of the second, where there is no third.
 #[test]
 fn the_waker_of_the_third_poll_is_woken(rt: HostRuntime) {
     let (sender, receiver, first) = ends_and_task::<u64>(&rt, 0);
     let (second, third) = (new_task(&rt), new_task(&rt));
     let mut receiving = waiting_receive(&rt, &first, &receiver);
     equal(&rt, second.poll(&mut receiving), Poll::Pending);
+    equal(&rt, sender.try_send(&rt, 3), Ok(true));
+    holds(&rt, was_woken_once(&second));
+    holds(&rt, !first.is_woken());
+    equal(&rt, second.poll(&mut receiving), Poll::Ready(Ok(3)));
+    let mut receiving = waiting_receive(&rt, &first, &receiver);
+    equal(&rt, second.poll(&mut receiving), Poll::Pending);
     equal(&rt, third.poll(&mut receiving), Poll::Pending);
     equal(&rt, sender.try_send(&rt, 3), Ok(true));
     holds(&rt, was_woken_once(&third));
     holds(&rt, !second.is_woken());
-    end_receive(&rt, &third, &mut receiving, Ok(3));
+    equal(&rt, third.poll(&mut receiving), Poll::Ready(Ok(3)));
 }
 
 #[test]
@@ -53,7 +46,7 @@ fn a_send_wakes_by_its_last_waker(rt: HostRuntime) {
     equal(&rt, receiver.try_recv(&rt), Ok(Some(3)));
     holds(&rt, was_woken_once(&second));
     holds(&rt, !first.is_woken());
-    end_send(&rt, &second, &mut sending, Ok(()));
+    equal(&rt, second.poll(&mut sending), Poll::Ready(Ok(())));
 }
 
 #[test]
@@ -100,5 +93,6 @@ fn a_close_wakes_a_waiting_receive(rt: HostRuntime) {
     let mut receiving = waiting_receive(&rt, &task, &receiver);
     equal(&rt, sender.close(&rt), Ok(()));
     holds(&rt, was_woken_once(&task));
-    end_receive(&rt, &task, &mut receiving, Err(ReceiveError::Closed));
+    let ended = task.poll(&mut receiving);
+    equal(&rt, ended, Poll::Ready(Err(ReceiveError::Closed)));
 }

@@ -9,20 +9,18 @@ use std::thread::{JoinHandle, Threads};
 /// What a thread that sends answers.
 pub type Sent = Result<(), SendError>;
 
-/// Sends the numbers from the first up to the one before the end, or until a send is refused.
-fn send_numbers<R: Wait>(rt: &R, sender: &Sender<u64>, first: u64, end: u64) -> Sent {
-    for number in first..end {
-        sender.send(rt, number)?;
-    }
-    Ok(())
-}
-
-/// Does so in a thread.
+/// Sends in a thread the numbers from the first up to the one before the end, or until a send is refused.
 pub fn start_numbers<R: Threads + Wait + Abort + Copy + Send + 'static>(
     rt: R,
     sender: Sender<u64>,
     first: u64,
     end: u64,
 ) -> JoinHandle<Sent> {
-    thread::spawn(&rt, move || send_numbers(&rt, &sender, first, end)).expect(&rt, "a thread")
+    let sending = thread::spawn(&rt, move || {
+        for number in first..end {
+            sender.send(&rt, number)?;
+        }
+        Ok(())
+    });
+    sending.expect(&rt, "a thread")
 }

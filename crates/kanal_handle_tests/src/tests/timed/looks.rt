@@ -62,22 +62,19 @@ impl<R: time::Clock> Clock for Gaps<'_, R> {
     }
 }
 
-/// One nanosecond is left at each read: a sleep of a whole millisecond would go past the deadline.
+/// Where one nanosecond is left at each read, a sleep of a whole millisecond would go past the deadline. Where a
+/// second is left, a sleep of all of that would have the clock read a second later.
 #[test]
-fn a_wait_sleeps_no_longer_than_is_left(rt: HostRuntime) {
-    let (_sender, receiver) = ends::<u64>(&rt, 0);
-    let clock = Gaps::new(&rt, 1_000);
-    let got = receiver.recv_timeout(&rt, Duration::from_nanos(1), &clock);
-    equal(&rt, got, Err(ReceiveErrorTimeout::Timeout));
-    holds(&rt, clock.shortest.get() < 1_000_000);
-}
-
-/// A second is left at each read: a sleep of all of that would have the clock read a second later.
-#[test]
-fn a_wait_sleeps_no_longer_than_a_millisecond_or_so(rt: HostRuntime) {
-    let (_sender, receiver) = ends::<u64>(&rt, 0);
-    let clock = Gaps::new(&rt, 140);
-    let got = receiver.recv_timeout(&rt, Duration::from_secs(1), &clock);
-    equal(&rt, got, Err(ReceiveErrorTimeout::Timeout));
-    holds(&rt, clock.shortest.get() < 500_000_000);
+fn a_wait_sleeps_no_longer_than_is_left_or_a_millisecond_or_so(rt: HostRuntime) {
+    let waits = [
+        (1_000, Duration::from_nanos(1), 1_000_000),
+        (140, Duration::from_secs(1), 500_000_000),
+    ];
+    for (reads, left, limit) in waits {
+        let (_sender, receiver) = ends::<u64>(&rt, 0);
+        let clock = Gaps::new(&rt, reads);
+        let got = receiver.recv_timeout(&rt, left, &clock);
+        equal(&rt, got, Err(ReceiveErrorTimeout::Timeout));
+        holds(&rt, clock.shortest.get() < limit);
+    }
 }

@@ -2,11 +2,8 @@
 use crate::tests::recorded::parties::{add, both, channel, finish_with, pass};
 use kanal_journal::journal::Reply;
 use kanal_recorded::{Pass, Recorded};
-use std::alloc::AllocGlobal;
-use std::process::Abort;
 use std::sync::Wait;
 use std::thread;
-use std::thread::Threads;
 
 /// Makes 1,000 calls: sends, receives, waits and withdrawals, mixed.
 fn calls<R: Wait>(rt: &R, channel: &Recorded<u64>, mut pass: Pass<u64>, first: u64) -> Pass<u64> {
@@ -23,39 +20,31 @@ fn calls<R: Wait>(rt: &R, channel: &Recorded<u64>, mut pass: Pass<u64>, first: u
     pass
 }
 
-/// Passes 0 to 3, after their threads: each pass's messages begin a thousand later than those of the one before.
-fn after_threads<R: Threads + Abort + Wait + Sync + AllocGlobal>(
-    rt: &R,
-    channel: &Recorded<u64>,
-) -> Vec<Pass<u64>> {
-    let (a, b) = (pass(rt, channel), pass(rt, channel));
-    let (c, d) = (pass(rt, channel), pass(rt, channel));
-    let ((a, b), (c, d)) = thread::join(
-        rt,
-        || {
-            thread::join(
-                rt,
-                || calls(rt, channel, a, 0),
-                || calls(rt, channel, b, 1000),
-            )
-        },
-        || {
-            thread::join(
-                rt,
-                || calls(rt, channel, c, 2000),
-                || calls(rt, channel, d, 3000),
-            )
-        },
-    );
-    let mut list = both(rt, a, b);
-    add(rt, &mut list, c);
-    add(rt, &mut list, d);
-    list
-}
-
+/// Each pass's messages begin a thousand later than those of the one before.
 #[test]
 fn four_threads(rt: HostRuntime) {
     let channel = channel(&rt, Some(3));
-    let passes = after_threads(&rt, &channel);
+    let (a, b) = (pass(&rt, &channel), pass(&rt, &channel));
+    let (c, d) = (pass(&rt, &channel), pass(&rt, &channel));
+    let ((a, b), (c, d)) = thread::join(
+        &rt,
+        || {
+            thread::join(
+                &rt,
+                || calls(&rt, &channel, a, 0),
+                || calls(&rt, &channel, b, 1000),
+            )
+        },
+        || {
+            thread::join(
+                &rt,
+                || calls(&rt, &channel, c, 2000),
+                || calls(&rt, &channel, d, 3000),
+            )
+        },
+    );
+    let mut passes = both(&rt, a, b);
+    add(&rt, &mut passes, c);
+    add(&rt, &mut passes, d);
     finish_with(&rt, channel, passes, 4000);
 }

@@ -15,18 +15,9 @@ fn alone(rt: &(impl Abort + AllocGlobal), pass: Pass<u64>) -> Vec<Pass<u64>> {
     passes
 }
 
-/// What is told of a channel that doesn't end with these passes, and the channel and the passes.
-fn refuse(
-    rt: &impl Abort,
-    channel: Recorded<u64>,
-    passes: Vec<Pass<u64>>,
-) -> (Mismatch, Recorded<u64>, Vec<Pass<u64>>) {
-    channel.finish(passes).err().expect(rt, "one is missing")
-}
-
 /// What is told of a channel that doesn't end with these passes.
 fn told_of(rt: &impl Abort, channel: Recorded<u64>, passes: Vec<Pass<u64>>) -> Mismatch {
-    let (told, _, _) = refuse(rt, channel, passes);
+    let (told, _, _) = channel.finish(passes).err().expect(rt, "one is missing");
     told
 }
 
@@ -36,18 +27,14 @@ const HAND_OVER: &[Row] = &[
     (1, Event::TryRecv, Reply::Got(7)),
 ];
 
-/// A channel and its passes after that.
-fn hand_over<R: Abort + Wait + AllocGlobal>(rt: &R) -> Parties {
-    played(rt, Some(1), HAND_OVER)
-}
-
 /// The channel and its pass, back from an end at which the other pass is missing.
 fn come_back(
     rt: &(impl Abort + AllocGlobal),
     channel: Recorded<u64>,
     pass: Pass<u64>,
 ) -> (Recorded<u64>, Vec<Pass<u64>>) {
-    let (told, channel, back) = refuse(rt, channel, alone(rt, pass));
+    let refused = channel.finish(alone(rt, pass)).err();
+    let (told, channel, back) = refused.expect(rt, "one is missing");
     equal(rt, told, Mismatch);
     equal(rt, back.len(), 1);
     (channel, back)
@@ -56,7 +43,7 @@ fn come_back(
 /// The other pass comes later, before the one that was alone.
 #[test]
 fn a_missing_pass(rt: HostRuntime) {
-    let Parties { channel, a, b } = hand_over(&rt);
+    let Parties { channel, a, b } = played(&rt, Some(1), HAND_OVER);
     let (channel, mut passes) = come_back(&rt, channel, a);
     passes.insert(0, b).expect(&rt, "memory for a pass");
     let journal = finish(&rt, channel, passes);
@@ -68,16 +55,13 @@ fn a_missing_pass(rt: HostRuntime) {
     drop(journal);
 }
 
+/// No passes after calls; and a pass that is drawn after a mismatch.
 #[test]
-fn no_passes_after_calls(rt: HostRuntime) {
-    let Parties { channel, a, b } = hand_over(&rt);
+fn missing_passes(rt: HostRuntime) {
+    let Parties { channel, a, b } = played(&rt, Some(1), HAND_OVER);
     equal(&rt, told_of(&rt, channel, Vec::new(rt.alloc())), Mismatch);
     drop((a, b));
-}
-
-#[test]
-fn a_pass_drawn_after_a_mismatch(rt: HostRuntime) {
-    let Parties { channel, a, b } = hand_over(&rt);
+    let Parties { channel, a, b } = played(&rt, Some(1), HAND_OVER);
     let (channel, back) = come_back(&rt, channel, a);
     equal(&rt, pass(&rt, &channel).party(), 2);
     drop((channel, back, b));

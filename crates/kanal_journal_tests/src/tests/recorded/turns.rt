@@ -52,19 +52,16 @@ fn ten_thousand_entries_of_two_passes(rt: HostRuntime) {
     finish_with(&rt, channel, passes, 10_000);
 }
 
+/// Also the last one first.
 #[test]
 fn eleven_hundred_passes(rt: HostRuntime) {
-    let channel = channel(&rt, None);
-    let mut passes = draw(&rt, &channel, 1_100);
-    send_in_turn(&rt, &channel, &mut passes, 10);
-    finish_with(&rt, channel, passes, 11_000);
-}
-
-#[test]
-fn eleven_hundred_passes_the_last_one_first(rt: HostRuntime) {
-    let channel = channel(&rt, None);
-    let mut passes = draw(&rt, &channel, 1_100);
-    send_in_turn(&rt, &channel, &mut passes, 10);
-    passes.reverse();
-    finish_with(&rt, channel, passes, 11_000);
+    for is_reversed in [false, true] {
+        let channel = channel(&rt, None);
+        let mut passes = draw(&rt, &channel, 1_100);
+        send_in_turn(&rt, &channel, &mut passes, 10);
+        if is_reversed {
+            passes.reverse();
+        }
+        finish_with(&rt, channel, passes, 11_000);
+    }
 }

@@ -57,13 +57,9 @@ fn is_told(alloc: Global, script: &[u8], output: &mut BrokenWriter, taken: &[u8]
 }
 
 #[test]
-fn the_first_write_fails(rt: HostRuntime) {
+fn the_first_write_or_the_flush_fails(rt: HostRuntime) {
     let mut output = writer(rt.alloc(), Some(0), None);
     assert!(rt; is_told(rt.alloc(), SCRIPT, &mut output, b""));
-}
-
-#[test]
-fn the_flush_fails(rt: HostRuntime) {
     let mut output = writer(rt.alloc(), None, Some(0));
     assert!(rt; is_told(rt.alloc(), SCRIPT, &mut output, ANSWER));
 }

@@ -13,20 +13,16 @@ fn events(alloc: Global) -> Result<Vec<Event<String>>, Fail> {
     Ok(events)
 }
 
-/// Whether the replies are those of the events, in order.
-fn are_replies(replies: &[Reply<String>]) -> bool {
-    match replies {
+#[test]
+fn texts_as_messages(rt: HostRuntime) -> Result<(), Fail> {
+    let report = run(rt.alloc(), Some(2), events(rt.alloc())?)?;
+    let are_replies = match report.replies.as_slice() {
         [Reply::Yes, Reply::Yes, Reply::No(back), Reply::Got(message)] => {
             back.as_str() == "three" && message.as_str() == "one"
         },
         _ => false,
-    }
-}
-
-#[test]
-fn texts_as_messages(rt: HostRuntime) -> Result<(), Fail> {
-    let report = run(rt.alloc(), Some(2), events(rt.alloc())?)?;
-    assert!(rt; are_replies(report.replies.as_slice()));
+    };
+    assert!(rt; are_replies);
     let is_left = match report.left.as_slice() {
         [only] => only.as_str() == "two",
         _ => false,

@@ -1,7 +1,6 @@
 //! Scripts with their answers.
 use kanal_script::serve;
-use std::alloc::{AllocGlobal, Global};
-use std::process::Abort;
+use std::alloc::Global;
 use std::test::Fail;
 
 /// Each script, what it prints, and the status. A semicolon and a space stand for a line feed.
@@ -204,18 +203,18 @@ fn differing_row(
     }
 }
 
-/// Ends the test unless each row's answer is as it is wanted.
-fn each_row(rt: &(impl Abort + AllocGlobal), has_last_feed: bool) -> Result<(), Fail> {
-    for row in ROWS {
-        let differs = differing_row(rt.alloc(), *row, has_last_feed)?;
-        assert!(rt; differs.is_empty(), "{differs} of {}", row.0);
-    }
-    Ok(())
-}
-
 /// The last line feed may be left out, so each row is read with it and without.
 #[test]
 fn rows(rt: HostRuntime) -> Result<(), Fail> {
-    each_row(&rt, true)?;
-    each_row(&rt, false)
+    for row in ROWS {
+        let differs = differing_row(rt.alloc(), *row, true)?;
+        assert!(rt; differs.is_empty(), "{differs} of {}", row.0);
+        let differs = differing_row(rt.alloc(), *row, false)?;
+        assert!(rt;
+            differs.is_empty(),
+            "{differs} of {} with no last feed",
+            row.0
+        );
+    }
+    Ok(())
 }

@@ -17,10 +17,16 @@ type Drops = Arc<AtomicU64, Global>;
 /// How many messages each thread sends, and receives.
 const EACH: u64 = MESSAGES / THREADS;
 
-/// Sends messages that count their drops.
-fn send_testers<R: Wait + Abort>(rt: &R, tx: &Sender<DropTester>, drops: &Drops) {
-    for _ in 0..EACH {
-        holds(rt, tx.send(rt, DropTester::new(rt, drops)).is_ok());
+/// Sends so many messages that count their drops, of which each is answered so.
+fn send_testers<R: Wait + Abort>(
+    rt: &R,
+    tx: &Sender<DropTester>,
+    drops: &Drops,
+    count: u64,
+    expected: Result<(), SendError>,
+) {
+    for _ in 0..count {
+        equal(rt, tx.send(rt, DropTester::new(rt, drops)), expected);
     }
 }
 
@@ -40,7 +46,7 @@ fn drop_test(rt: HostRuntime) {
     thread::scope(thread::scope_env(), rt, |scope| {
         for _ in 0..THREADS {
             scope
-                .spawn(move || send_testers(rt, tx, told))
+                .spawn(move || send_testers(rt, tx, told, EACH, Ok(())))
                 .expect(rt, "a thread");
             scope
                 .spawn(move || receive_any(rt, rx))
@@ -74,23 +80,11 @@ fn vec_test(rt: HostRuntime) {
     });
 }
 
-/// Sends ten messages, of which each is answered so.
-fn send_ten<R: Wait + Abort>(
-    rt: &R,
-    tx: &Sender<DropTester>,
-    drops: &Drops,
-    expected: Result<(), SendError>,
-) {
-    for _ in 0..10 {
-        equal(rt, tx.send(rt, DropTester::new(rt, drops)), expected);
-    }
-}
-
 #[test]
 fn drop_test_in_queue(rt: HostRuntime) {
     let drops = counter(&rt);
     let (tx, rx) = new(&rt, Some(10));
-    send_ten(&rt, &tx, &drops, Ok(()));
+    send_testers(&rt, &tx, &drops, 10, Ok(()));
     dropped(&rt, &drops, 0);
     equal(&rt, rx.close(&rt), Ok(()));
     dropped(&rt, &drops, 10);
@@ -101,7 +95,7 @@ fn drop_test_send_to_closed(rt: HostRuntime) {
     let drops = counter(&rt);
     let (tx, rx) = new(&rt, Some(10));
     equal(&rt, rx.close(&rt), Ok(()));
-    send_ten(&rt, &tx, &drops, Err(SendError::Closed));
+    send_testers(&rt, &tx, &drops, 10, Err(SendError::Closed));
     dropped(&rt, &drops, 10);
 }
 
@@ -110,23 +104,12 @@ fn drop_test_send_to_half_closed(rt: HostRuntime) {
     let drops = counter(&rt);
     let (tx, rx) = new(&rt, Some(10));
     drop(rx);
-    send_ten(&rt, &tx, &drops, Err(SendError::ReceiveClosed));
+    send_testers(&rt, &tx, &drops, 10, Err(SendError::ReceiveClosed));
     dropped(&rt, &drops, 10);
 }
 
-/// Sends one message, which is refused, and tells first that the send begins.
-fn send_and_tell<R: Wait + Abort>(
-    rt: &R,
-    tx: &Sender<DropTester>,
-    drops: &Drops,
-    begun: &AtomicU64,
-) {
-    let message = DropTester::new(rt, drops);
-    begun.fetch_add(1, SeqCst);
-    equal(rt, tx.send(rt, message), Err(SendError::Closed));
-}
-
-/// Ten threads send, each through a clone of its own, and once all have begun the channel is closed.
+/// Ten threads send, each through a clone of its own, and tell first that the send begins. Once all have begun
+/// the channel is closed, which refuses each.
 #[test]
 fn drop_test_in_signal(rt: HostRuntime) {
     let (drops, begun) = (counter(&rt), counter(&rt));
@@ -136,7 +119,11 @@ fn drop_test_in_signal(rt: HostRuntime) {
         for _ in 0..10 {
             let theirs = sender.clone(rt).expect(rt, "a clone");
             scope
-                .spawn(move || send_and_tell(rt, &theirs, count, told))
+                .spawn(move || {
+                    let message = DropTester::new(rt, count);
+                    told.fetch_add(1, SeqCst);
+                    equal(rt, theirs.send(rt, message), Err(SendError::Closed));
+                })
                 .expect(rt, "a thread");
         }
         wait_until(rt, told, 10);

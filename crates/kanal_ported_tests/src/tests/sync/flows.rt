@@ -24,8 +24,11 @@ fn spsc<R: Threads + Wait + Abort + AllocGlobal + Sync>(rt: &R, capacity: Option
     );
 }
 
-/// Several threads send to this one.
-fn mpsc<R: Threads + Wait + Abort + AllocGlobal + Sync>(rt: &R, capacity: Option<usize>) {
+/// Several threads send, to as many or to this one.
+fn from_several<R>(rt: &R, capacity: Option<usize>, to_several: bool)
+where
+    R: Threads + Wait + Abort + AllocGlobal + Sync,
+{
     let (sender, receiver) = new(rt, capacity);
     let (tx, rx) = (&sender, &receiver);
     thread::scope(thread::scope_env(), rt, |scope| {
@@ -34,24 +37,14 @@ fn mpsc<R: Threads + Wait + Abort + AllocGlobal + Sync>(rt: &R, capacity: Option
             scope
                 .spawn(move || send_ones(rt, tx, each))
                 .expect(rt, "a thread");
+            if to_several {
+                scope
+                    .spawn(move || receive_ones(rt, rx, each))
+                    .expect(rt, "a thread");
+            }
         }
-        receive_ones(rt, rx, MESSAGES);
-    });
-}
-
-/// Several threads send to as many.
-fn mpmc<R: Threads + Wait + Abort + AllocGlobal + Sync>(rt: &R, capacity: Option<usize>) {
-    let (sender, receiver) = new(rt, capacity);
-    let (tx, rx) = (&sender, &receiver);
-    thread::scope(thread::scope_env(), rt, |scope| {
-        for _ in 0..THREADS {
-            let each = MESSAGES / THREADS;
-            scope
-                .spawn(move || send_ones(rt, tx, each))
-                .expect(rt, "a thread");
-            scope
-                .spawn(move || receive_ones(rt, rx, each))
-                .expect(rt, "a thread");
+        if !to_several {
+            receive_ones(rt, rx, MESSAGES);
         }
     });
 }
@@ -88,40 +81,40 @@ fn spsc_u(rt: HostRuntime) {
 
 #[test]
 fn mpsc_1(rt: HostRuntime) {
-    mpsc(&rt, Some(1));
+    from_several(&rt, Some(1), false);
 }
 
 #[test]
 fn mpsc_0(rt: HostRuntime) {
-    mpsc(&rt, Some(0));
+    from_several(&rt, Some(0), false);
 }
 
 #[test]
 fn mpsc_n(rt: HostRuntime) {
-    mpsc(&rt, Some(PLACES));
+    from_several(&rt, Some(PLACES), false);
 }
 
 #[test]
 fn mpsc_u(rt: HostRuntime) {
-    mpsc(&rt, None);
+    from_several(&rt, None, false);
 }
 
 #[test]
 fn mpmc_1(rt: HostRuntime) {
-    mpmc(&rt, Some(1));
+    from_several(&rt, Some(1), true);
 }
 
 #[test]
 fn mpmc_0(rt: HostRuntime) {
-    mpmc(&rt, Some(0));
+    from_several(&rt, Some(0), true);
 }
 
 #[test]
 fn mpmc_n(rt: HostRuntime) {
-    mpmc(&rt, Some(PLACES));
+    from_several(&rt, Some(PLACES), true);
 }
 
 #[test]
 fn mpmc_u(rt: HostRuntime) {
-    mpmc(&rt, None);
+    from_several(&rt, None, true);
 }

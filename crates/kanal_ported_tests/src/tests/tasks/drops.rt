@@ -18,14 +18,16 @@ type Drops = Arc<AtomicU64, Global>;
 /// How many messages each task sends, and receives.
 const EACH: u64 = MESSAGES / THREADS;
 
-/// Sends messages that count their drops.
+/// Sends so many messages that count their drops, of which each is answered so.
 fn send_testers<R: Wait + Abort + RandomSource + AllocGlobal>(
     rt: &R,
     tx: &AsyncSender<DropTester>,
     drops: &Drops,
+    count: u64,
+    expected: Result<(), SendError>,
 ) {
-    for _ in 0..EACH {
-        holds(rt, send(rt, tx, DropTester::new(rt, drops)).is_ok());
+    for _ in 0..count {
+        equal(rt, send(rt, tx, DropTester::new(rt, drops)), expected);
     }
 }
 
@@ -49,7 +51,7 @@ fn drop_test(rt: HostRuntime) {
         for _ in 0..THREADS {
             let theirs = tx.clone(rt).expect(rt, "a clone");
             scope
-                .spawn(move || send_testers(rt, &theirs, told))
+                .spawn(move || send_testers(rt, &theirs, told, EACH, Ok(())))
                 .expect(rt, "a thread");
             let theirs = rx.clone(rt).expect(rt, "a clone");
             scope
@@ -86,24 +88,12 @@ fn vec_test(rt: HostRuntime) {
     });
 }
 
-/// Sends ten messages, of which each is answered so.
-fn send_ten<R: Wait + Abort + RandomSource + AllocGlobal>(
-    rt: &R,
-    tx: &AsyncSender<DropTester>,
-    drops: &Drops,
-    expected: Result<(), SendError>,
-) {
-    for _ in 0..10 {
-        equal(rt, send(rt, tx, DropTester::new(rt, drops)), expected);
-    }
-}
-
 #[test]
 fn drop_test_send_to_closed(rt: HostRuntime) {
     let drops = counter(&rt);
     let (tx, rx) = new(&rt, Some(10));
     equal(&rt, rx.close(&rt), Ok(()));
-    send_ten(&rt, &tx, &drops, Err(SendError::Closed));
+    send_testers(&rt, &tx, &drops, 10, Err(SendError::Closed));
     dropped(&rt, &drops, 10);
 }
 
@@ -112,7 +102,7 @@ fn drop_test_send_to_half_closed(rt: HostRuntime) {
     let drops = counter(&rt);
     let (tx, rx) = new(&rt, Some(10));
     drop(rx);
-    send_ten(&rt, &tx, &drops, Err(SendError::ReceiveClosed));
+    send_testers(&rt, &tx, &drops, 10, Err(SendError::ReceiveClosed));
     dropped(&rt, &drops, 10);
 }
 
@@ -128,16 +118,7 @@ fn drop_test_in_unused_signal(rt: HostRuntime) {
     dropped(&rt, &drops, 10);
 }
 
-/// Sends one message, which goes or is refused.
-fn send_tester<R: Wait + Abort + RandomSource + AllocGlobal>(
-    rt: &R,
-    tx: &AsyncSender<DropTester>,
-    drops: &Drops,
-) {
-    let _answer = send(rt, tx, DropTester::new(rt, drops));
-}
-
-/// Ten tasks send one message each, each through a clone of its own.
+/// Ten tasks send one message each, which goes or is refused, each through a clone of its own.
 fn send_from_ten<R>(rt: &R, tx: &AsyncSender<DropTester>, drops: &Drops)
 where
     R: Threads + Wait + Abort + RandomSource + AllocGlobal + Sync,
@@ -146,7 +127,9 @@ where
         for _ in 0..10 {
             let theirs = tx.clone(rt).expect(rt, "a clone");
             scope
-                .spawn(move || send_tester(rt, &theirs, drops))
+                .spawn(move || {
+                    let _answer = send(rt, &theirs, DropTester::new(rt, drops));
+                })
                 .expect(rt, "a thread");
         }
     });

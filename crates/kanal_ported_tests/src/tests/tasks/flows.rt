@@ -28,8 +28,8 @@ where
     );
 }
 
-/// Several tasks send to one, each through a clone of its own.
-fn mpsc<R>(rt: &R, capacity: Option<usize>)
+/// Several tasks send, to as many or to one, each through a clone of its own.
+fn from_several<R>(rt: &R, capacity: Option<usize>, to_several: bool)
 where
     R: Threads + Wait + Abort + RandomSource + AllocGlobal + Sync,
 {
@@ -41,28 +41,15 @@ where
             scope
                 .spawn(move || send_ones(rt, &theirs, each))
                 .expect(rt, "a thread");
+            if to_several {
+                let theirs = rx.clone(rt).expect(rt, "a clone");
+                scope
+                    .spawn(move || receive_ones(rt, &theirs, each))
+                    .expect(rt, "a thread");
+            }
         }
-        receive_ones(rt, &rx, MESSAGES);
-    });
-}
-
-/// Several tasks send to as many, each through a clone of its own.
-fn mpmc<R>(rt: &R, capacity: Option<usize>)
-where
-    R: Threads + Wait + Abort + RandomSource + AllocGlobal + Sync,
-{
-    let (tx, rx) = new(rt, capacity);
-    thread::scope(thread::scope_env(), rt, |scope| {
-        for _ in 0..THREADS {
-            let each = MESSAGES / THREADS;
-            let theirs = tx.clone(rt).expect(rt, "a clone");
-            scope
-                .spawn(move || send_ones(rt, &theirs, each))
-                .expect(rt, "a thread");
-            let theirs = rx.clone(rt).expect(rt, "a clone");
-            scope
-                .spawn(move || receive_ones(rt, &theirs, each))
-                .expect(rt, "a thread");
+        if !to_several {
+            receive_ones(rt, &rx, MESSAGES);
         }
     });
 }
@@ -99,30 +86,30 @@ fn spsc_u(rt: HostRuntime) {
 
 #[test]
 fn mpsc_0(rt: HostRuntime) {
-    mpsc(&rt, Some(0));
+    from_several(&rt, Some(0), false);
 }
 
 #[test]
 fn mpsc_n(rt: HostRuntime) {
-    mpsc(&rt, Some(PLACES));
+    from_several(&rt, Some(PLACES), false);
 }
 
 #[test]
 fn mpsc_u(rt: HostRuntime) {
-    mpsc(&rt, None);
+    from_several(&rt, None, false);
 }
 
 #[test]
 fn mpmc_0(rt: HostRuntime) {
-    mpmc(&rt, Some(0));
+    from_several(&rt, Some(0), true);
 }
 
 #[test]
 fn mpmc_n(rt: HostRuntime) {
-    mpmc(&rt, Some(PLACES));
+    from_several(&rt, Some(PLACES), true);
 }
 
 #[test]
 fn mpmc_u(rt: HostRuntime) {
-    mpmc(&rt, None);
+    from_several(&rt, None, true);
 }

@@ -60,6 +60,7 @@ fn next_there<R: Threads + Wait + Abort + RandomSource + AllocGlobal + Sync>(
     })
 }
 
+/// Where nothing is there the polls are pending, and once the sender is gone the stream is over.
 #[test]
 fn moved_futures(rt: HostRuntime) {
     let (tx, rx) = new::<u64>(&rt, Some(1));
@@ -67,11 +68,6 @@ fn moved_futures(rt: HostRuntime) {
     equal(&rt, receive_there(&rt, rx.recv()), Poll::Ready(Ok(7)));
     equal(&rt, tx.try_send(&rt, 8), Ok(true));
     equal(&rt, next_there(&rt, rx.stream()), Poll::Ready(Some(8)));
-}
-
-/// Where nothing is there the polls are pending, and once the sender is gone the stream is over.
-#[test]
-fn moved_futures_of_an_empty_channel(rt: HostRuntime) {
     let (tx, rx) = new::<u64>(&rt, Some(1));
     equal(&rt, receive_there(&rt, rx.recv()), Poll::Pending);
     equal(&rt, next_there(&rt, rx.stream()), Poll::Pending);

@@ -2,12 +2,7 @@
 use crate::tests::given::equal;
 use crate::tests::sync::given::{new, receive_one, send_one};
 use crate::tests::tasks::given::{receive_one as receive_in_task, send_one as send_in_task};
-use std::alloc::AllocGlobal;
-use std::process::Abort;
-use std::random::RandomSource;
-use std::sync::Wait;
 use std::thread;
-use std::thread::Threads;
 
 #[test]
 fn clones_for_tasks(rt: HostRuntime) {
@@ -26,42 +21,28 @@ enum Served {
     Lent,
 }
 
-/// A task sends the word through a sender that serves it so, and a thread receives it.
-fn word_is_sent<R>(rt: &R, how: Served)
-where
-    R: Threads + Wait + Abort + RandomSource + AllocGlobal + Sync,
-{
-    let (s, r) = new::<&'static str>(rt, Some(0));
-    thread::join(
-        rt,
-        move || match how {
-            Served::Converted => send_in_task(rt, &s.to_async(), "World"),
-            Served::Lent => send_in_task(rt, s.as_async(), "World"),
-        },
-        || receive_one(rt, &r, "World"),
-    );
-}
-
-/// A task receives the word through a receiver that serves it so, and a thread sends it.
-fn word_is_received<R>(rt: &R, how: Served)
-where
-    R: Threads + Wait + Abort + RandomSource + AllocGlobal + Sync,
-{
-    let (s, r) = new::<&'static str>(rt, Some(0));
-    thread::join(
-        rt,
-        move || match how {
-            Served::Converted => receive_in_task(rt, &r.to_async(), "World"),
-            Served::Lent => receive_in_task(rt, r.as_async(), "World"),
-        },
-        || send_one(rt, &s, "World"),
-    );
-}
-
+/// A task sends the word through a sender that serves it in each way, and a thread receives it; and the other way
+/// round.
 #[test]
 fn handles_that_serve_a_task(rt: HostRuntime) {
-    word_is_sent(&rt, Served::Converted);
-    word_is_sent(&rt, Served::Lent);
-    word_is_received(&rt, Served::Converted);
-    word_is_received(&rt, Served::Lent);
+    for how in [Served::Converted, Served::Lent] {
+        let (s, r) = new::<&'static str>(&rt, Some(0));
+        thread::join(
+            &rt,
+            move || match how {
+                Served::Converted => send_in_task(&rt, &s.to_async(), "World"),
+                Served::Lent => send_in_task(&rt, s.as_async(), "World"),
+            },
+            || receive_one(&rt, &r, "World"),
+        );
+        let (s, r) = new::<&'static str>(&rt, Some(0));
+        thread::join(
+            &rt,
+            move || match how {
+                Served::Converted => receive_in_task(&rt, &r.to_async(), "World"),
+                Served::Lent => receive_in_task(&rt, r.as_async(), "World"),
+            },
+            || send_one(&rt, &s, "World"),
+        );
+    }
 }

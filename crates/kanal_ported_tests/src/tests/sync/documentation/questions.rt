@@ -33,10 +33,6 @@ fn counts_and_ends(rt: HostRuntime) {
     let (s, r) = new::<u64>(&rt, None);
     equal(&rt, s.close(&rt), Ok(()));
     holds(&rt, r.is_closed(&rt) && s.is_closed(&rt));
-}
-
-#[test]
-fn is_terminated(rt: HostRuntime) {
     let (s, r) = new::<u64>(&rt, None);
     equal(&rt, s.send(&rt, 1), Ok(()));
     drop(s);

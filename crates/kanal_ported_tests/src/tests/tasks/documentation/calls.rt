@@ -1,11 +1,6 @@
 //! Sends, receives and the stream.
 use crate::tests::tasks::given::{new, receive_one, send_below, send_one, stream_below};
-use std::alloc::AllocGlobal;
-use std::process::Abort;
-use std::random::RandomSource;
-use std::sync::Wait;
 use std::thread;
-use std::thread::Threads;
 
 #[test]
 fn send(rt: HostRuntime) {
@@ -14,24 +9,18 @@ fn send(rt: HostRuntime) {
     receive_one(&rt, &r, 1);
 }
 
-/// A task sends the word through a channel with so many places, or without limit, and another receives it.
-fn word_comes<R>(rt: &R, capacity: Option<usize>, word: &'static str)
-where
-    R: Threads + Wait + Abort + RandomSource + AllocGlobal + Sync,
-{
-    let (s, r) = new::<&'static str>(rt, capacity);
-    thread::join(
-        rt,
-        move || send_one(rt, &s, word),
-        || receive_one(rt, &r, word),
-    );
-}
-
+/// A task sends the word through a channel with no place, or without limit, and another receives it.
 #[test]
 fn words(rt: HostRuntime) {
-    word_comes(&rt, Some(0), "Buddy");
-    word_comes(&rt, Some(0), "hello!");
-    word_comes(&rt, None, "hello!");
+    let words = [(Some(0), "Buddy"), (Some(0), "hello!"), (None, "hello!")];
+    for (capacity, word) in words {
+        let (s, r) = new::<&'static str>(&rt, capacity);
+        thread::join(
+            &rt,
+            move || send_one(&rt, &s, word),
+            || receive_one(&rt, &r, word),
+        );
+    }
 }
 
 #[test]

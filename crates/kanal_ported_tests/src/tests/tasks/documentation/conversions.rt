@@ -2,12 +2,7 @@
 use crate::tests::given::equal;
 use crate::tests::sync::given::{receive_one as receive_blocking, send_one as send_blocking};
 use crate::tests::tasks::given::{new, receive_one, send_one};
-use std::alloc::AllocGlobal;
-use std::process::Abort;
-use std::random::RandomSource;
-use std::sync::Wait;
 use std::thread;
-use std::thread::Threads;
 
 #[test]
 fn clones_for_threads(rt: HostRuntime) {
@@ -31,42 +26,28 @@ enum Served {
     Lent,
 }
 
-/// A thread sends the word through a sender that serves it so, and a task receives it.
-fn word_is_sent<R>(rt: &R, how: Served)
-where
-    R: Threads + Wait + Abort + RandomSource + AllocGlobal + Sync,
-{
-    let (s, r) = new::<&'static str>(rt, Some(0));
-    thread::join(
-        rt,
-        move || match how {
-            Served::Converted => send_blocking(rt, &s.to_sync(), "World"),
-            Served::Lent => equal(rt, s.as_sync().send(rt, "World"), Ok(())),
-        },
-        || receive_one(rt, &r, "World"),
-    );
-}
-
-/// A thread receives the word through a receiver that serves it so, and a task sends it.
-fn word_is_received<R>(rt: &R, how: Served)
-where
-    R: Threads + Wait + Abort + RandomSource + AllocGlobal + Sync,
-{
-    let (s, r) = new::<&'static str>(rt, Some(0));
-    thread::join(
-        rt,
-        move || match how {
-            Served::Converted => receive_blocking(rt, &r.to_sync(), "World"),
-            Served::Lent => equal(rt, r.as_sync().recv(rt), Ok("World")),
-        },
-        || send_one(rt, &s, "World"),
-    );
-}
-
+/// A thread sends the word through a sender that serves it in each way, and a task receives it; and the other way
+/// round.
 #[test]
 fn handles_that_serve_a_thread(rt: HostRuntime) {
-    word_is_sent(&rt, Served::Converted);
-    word_is_sent(&rt, Served::Lent);
-    word_is_received(&rt, Served::Converted);
-    word_is_received(&rt, Served::Lent);
+    for how in [Served::Converted, Served::Lent] {
+        let (s, r) = new::<&'static str>(&rt, Some(0));
+        thread::join(
+            &rt,
+            move || match how {
+                Served::Converted => send_blocking(&rt, &s.to_sync(), "World"),
+                Served::Lent => equal(&rt, s.as_sync().send(&rt, "World"), Ok(())),
+            },
+            || receive_one(&rt, &r, "World"),
+        );
+        let (s, r) = new::<&'static str>(&rt, Some(0));
+        thread::join(
+            &rt,
+            move || match how {
+                Served::Converted => receive_blocking(&rt, &r.to_sync(), "World"),
+                Served::Lent => equal(&rt, r.as_sync().recv(&rt), Ok("World")),
+            },
+            || send_one(&rt, &s, "World"),
+        );
+    }
 }

@@ -1,5 +1,5 @@
 use Rattle.kanal_board.specs.Boards.{table_of}
-use Rattle.kanal_channel_tests.proofs.tests.history.rows.rows_of_bounded_channels.Given as goal
+use Rattle.kanal_channel_tests.proofs.tests.history.rows.rows_of_each_capacity.Given as goal
 
 -- the board's name and the channel's capacity
 abbrev pub ghosts-row : goal.ghosts-row

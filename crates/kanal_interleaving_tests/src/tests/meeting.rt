@@ -1,4 +1,7 @@
-//! A meeting of threads: nobody goes on before all are there, and one that doesn't come fails the test.
+//! A meeting of threads: none of them goes on before all are there.
+//!
+//! How long one may take to come is for the test's watch to say, by the clock: a thread that is ready may be kept from
+//! a processor for more turns than can be told beforehand.
 use crate::tests::given::holds;
 use std::alloc::{AllocGlobal, Global};
 use std::process::Abort;
@@ -7,8 +10,8 @@ use std::sync::atomic::AtomicU32;
 use std::sync::atomic::Ordering::SeqCst;
 use std::{hint, thread};
 
-/// How often a thread looks for the others before the test fails.
-const TURNS: u32 = 100_000_000;
+/// How often a thread looks for the others: for hours, so that the watch ends a test in which one doesn't come.
+const TURNS: u64 = 1 << 40;
 
 /// How many threads are to meet, and how many are there.
 #[derive(Drop)]
@@ -27,7 +30,7 @@ impl Meeting {
         Arc::new(rt.alloc(), meeting).expect(rt, "memory for a meeting")
     }
 
-    /// Comes, and waits until all are there. Ends the test where that takes too many turns.
+    /// Comes, and waits until all are there.
     fn wait_for_all(&self, rt: &impl Abort) {
         self.there.fetch_add(1, SeqCst);
         for turn in 0..TURNS {

@@ -1,5 +1,6 @@
 -- The handle for tasks that a handle for threads is, the one that a view is over, and what a clone does.
-use Rattle.std.specs.Prelude.{◌≡◌, ◌⊎◌, Result, Ok, Err, MatchResult}
+use Rattle.std.specs.Prelude.{◌≡◌, ◌⊎◌, ℕ, Result, Ok, Err, MatchResult}
+use Rattle.std.specs.Sync.Forever.{forever_left}
 use Rattle.kanal_core.specs.declared.error.TooMany.{TooMany as NoMore}
 use Rattle.kanal_events.specs.declared.event.Side.{Side}
 use Rattle.kanal_state.specs.Handles.{Counts}
@@ -43,6 +44,10 @@ module _ {T H P B S C : Type 0} where
   -- the pass by which a receiver's messages come
   abbrev pub pass_of : {R : Type 0} → Messages T R H P B S C → P
   pass_of m = m.pass
+
+  -- how many turns a loop over a receiver's messages has at most
+  abbrev pub turns_left : {R : Type 0} → Messages T R H P B S C → ℕ
+  turns_left m = forever_left m.turns
 
 module _ {T P A : Type 0} (w : Words T P) (old new : P) where
   -- one more of the side is counted; where the answer is an error, none is: no call was made, or it was refused

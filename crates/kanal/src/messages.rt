@@ -1,29 +1,37 @@
 //! The messages that a receiver goes through: the iterator, and the loops of `for_each` and `try_for_each`.
 //!
 //! No other module receives more than one message in a call.
+ghost use Rattle.std.specs.Iterator.{at_most};
 ghost use Rattle.std.specs.Prelude.{IsErrOf};
-ghost use Rattle.kanal.specs.Handles.{pass_of};
+ghost use Rattle.kanal.specs.Handles.{pass_of, turns_left};
 ghost use Rattle.kanal.specs.Messages.{ReceivesAll, ReceivesNext, ReceivesUntil};
 
 use crate::async_receiver::AsyncReceiver;
 use kanal_core::error::ReceiveError;
 use kanal_state::{Caller, History, NoHistory};
-use std::sync::Wait;
+use std::sync::{Forever, Wait};
 
 /// The messages of a receiver, as `Receiver::iter` and `ReceiverView::iter` answer them.
 ///
-/// Contracts see the pass by which it receives.
+/// Contracts see the pass by which it receives, and how many turns a loop over it has at most: some 2^64, which
+/// no run uses up.
 #[derive(Drop)]
 pub struct Messages<'a, T, R: Wait, H: History<T> = NoHistory> {
     rt: &'a R,
     receiver: &'a AsyncReceiver<T, H>,
     pass: H::Pass,
+    turns: Forever<'a, R>,
 }
 
 impl<'a, T: Drop, R: Wait, H: History<T>> Messages<'a, T, R, H> {
     /// The messages that come to this receiver, by this pass.
     pub(crate) fn new(rt: &'a R, receiver: &'a AsyncReceiver<T, H>, pass: H::Pass) -> Self {
-        Messages { rt, receiver, pass }
+        Messages {
+            rt,
+            receiver,
+            pass,
+            turns: rt.forever(),
+        }
     }
 }
 
@@ -32,10 +40,13 @@ impl<T: Drop, R: Wait, H: History<T>> Iterator for Messages<'_, T, R, H> {
 
     ghost next_gives = { λ old item new. ReceivesNext H.words (pass_of old) (pass_of new) item };
 
+    ghost remaining = { λ messages. at_most (turns_left messages) };
+
     /// Receives the next message; `None` where that is refused. It waits for the lock, and for a
     /// message where there is none.
     #[tactic(auto, using(crate::proofs::Receiving::received_next))]
     fn next(&mut self) -> Option<T> {
+        self.turns.next();
         self.receiver.channel().recv(self.rt, &mut self.pass).ok()
     }
 }

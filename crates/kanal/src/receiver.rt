@@ -202,12 +202,11 @@ impl<T: Drop, H: History<T, Pass = ()>> Receiver<T, H> {
     /// The messages, one `recv` after the other, until one is refused. It keeps the runtime value, and
     /// does nothing else; each item waits as a `recv` does.
     ///
-    /// The items end where a `recv` would be refused, whatever the reason; a `recv` after the end tells
-    /// it. To contracts the items have no end, so they are used with a limit.
+    /// The items end where a `recv` is refused, whatever the reason; a `recv` after the end tells it.
     ///
     /// # Examples
     /// ```text
-    /// for message in receiver.iter(&rt).take(3) {
+    /// for message in receiver.iter(&rt) {
     ///     sum += message;
     /// }
     /// ```

@@ -58,7 +58,7 @@ where
     timed::nothing_came(&rt)?;
     timed::no_place_came(&rt)?;
     timed::by_a_clock_that_moves(&rt)?;
-    loops::so_many(&rt)?;
+    loops::until_a_receive_is_refused(&rt)?;
     loops::until_the_last_sender_is_gone(&rt)?;
     loops::each_handed_to_a_closure(&rt)?;
     ends::sealed(&rt)?;

@@ -1,16 +1,16 @@
-//! Loops over messages, in the three forms that get a proof.
+//! Loops over messages, in three forms.
 use anyhow::Result;
 use kanal::error::ReceiveError;
 use std::alloc::AllocGlobal;
 use std::sync::Wait;
 
-/// So many messages, and no more.
-pub fn so_many<R: Wait + AllocGlobal + Print>(rt: &R) -> Result<()> {
+/// All messages, until a receive is refused for whatever reason.
+pub fn until_a_receive_is_refused<R: Wait + AllocGlobal + Print>(rt: &R) -> Result<()> {
     let (sender, mut receiver) = kanal::bounded::<u64>(rt.alloc(), 8)?;
     sender.send(rt, 10)?;
     sender.send(rt, 20)?;
-    sender.send(rt, 30)?;
-    for message in receiver.iter(rt).take(2) {
+    drop(sender);
+    for message in receiver.iter(rt) {
         println!(rt; "{message}")?;
     }
     Ok(())

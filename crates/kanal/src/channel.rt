@@ -25,26 +25,26 @@ fn handles<T: Drop>(
 }
 
 /// The two first handles over this core, and over what is kept of the calls that led to its line, with what
-/// makes the calls that are nobody's. It is for channels with a history: `bounded` and its likes have none.
+/// makes the internal calls. It is for channels with a history: `bounded` and its likes have none.
 ///
 /// # Errors
 /// `NoMemory` where there is no memory for the channel.
 ///
 /// # Examples
 /// ```text
-/// let (sender, receiver) = over(alloc, core, history, cleanup, board)?;
+/// let (sender, receiver) = over(alloc, core, history, cleanup, log)?;
 /// ```
 pub fn over<T: Drop, H: History<T>>(
     alloc: Global,
     core: Core<T, H>,
     history: H,
     cleanup: H::Cleanup,
-    board: H::Board,
+    log: H::Log,
 ) -> Result<(AsyncSender<T, H>, AsyncReceiver<T, H>), NewError>
     requires core { H.stands history (line_of core) }
     ensures large { IsErrOf result NewError.TooLarge → ⊥ }
 {
-    let (shared, first) = Shared::with_handles(core, history, cleanup, board, alloc)?;
+    let (shared, first) = Shared::with_handles(core, history, cleanup, log, alloc)?;
     let Ok(other) = Arc::try_clone(&shared) else {
         return Err(NewError::NoMemory);
     };

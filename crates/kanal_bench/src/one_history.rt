@@ -1,16 +1,16 @@
 //! The scenario of one thread on a channel with one history, beside that of the plain handles.
 ghost use Rattle.std.specs.Prelude.{◌≡◌, Some, None};
-ghost use Rattle.kanal_board.specs.Boards.{table_of};
+ghost use Rattle.kanal_log.specs.Logs.{table_of};
 
 use crate::capacity::Capacity;
 use anyhow::Result;
-use kanal_one_history::{Call, Channel, Naming, Opened, Pass};
+use kanal_one_history::{Call, Channel, LogId, NewLog, Pass};
 use std::alloc::Global;
 use std::marker::Brand;
 use std::sync::Wait;
 
 /// Sends the numbers below the count, receives each at once, and answers their sum.
-fn add_up<J: Naming, R: Wait>(
+fn add_up<J: LogId, R: Wait>(
     rt: &R,
     channel: &Channel<u64, J>,
     pass: &mut Pass<u64, J>,
@@ -25,11 +25,11 @@ fn add_up<J: Naming, R: Wait>(
 }
 
 /// The same on a new channel for so many messages.
-fn bounded<J: Naming, R: Wait>(
+fn bounded<J: LogId, R: Wait>(
     rt: &R,
     alloc: Global,
     capacity: usize,
-    opened: Opened<Call<u64>>,
+    opened: NewLog<Call<u64>>,
     count: u64,
 ) -> Result<u64>
     requires name { table_of opened ≡ J.table }
@@ -40,10 +40,10 @@ fn bounded<J: Naming, R: Wait>(
 }
 
 /// The same on a new channel without limit.
-fn unbounded<J: Naming, R: Wait>(
+fn unbounded<J: LogId, R: Wait>(
     rt: &R,
     alloc: Global,
-    opened: Opened<Call<u64>>,
+    opened: NewLog<Call<u64>>,
     count: u64,
 ) -> Result<u64>
     requires name { table_of opened ≡ J.table }
@@ -55,7 +55,7 @@ fn unbounded<J: Naming, R: Wait>(
 
 /// Sends and receives in turn, in this thread.
 pub fn in_turn<R: Wait>(rt: &R, alloc: Global, capacity: Capacity, count: u64) -> Result<u64> {
-    let opened = Opened::new(alloc)?;
+    let opened = NewLog::new(alloc)?;
     match capacity {
         Capacity::Limited(places) => bounded::<Brand, _>(rt, alloc, places, opened, count),
         Capacity::Unlimited => unbounded::<Brand, _>(rt, alloc, opened, count),

@@ -6,10 +6,10 @@ use Rattle.kanal_core.specs.Line.{Line}
 use Rattle.kanal_events.specs.declared.event.Event.TheVariants.{Drain}
 use Rattle.kanal_events.specs.Steps.{is_no_memory, take_line}
 use Rattle.kanal_state.specs.declared.call.Call.{Call}
-use Rattle.kanal_events.specs.declared.made.Made.{Made}
-use Rattle.kanal_events.specs.declared.made.Leaving.{Leaving}
-use Rattle.kanal_events.specs.declared.made.Leaving.TheVariants.{One, All, Shut, Drained as WasDrained}
-use Rattle.kanal_events.specs.Made.{drained_of, drained_of_left, is_drained, is_drained_left, reply_of, reply_of_left}
+use Rattle.kanal_events.specs.declared.step_result.StepResult.{StepResult}
+use Rattle.kanal_events.specs.declared.step_result.Leaving.{Leaving}
+use Rattle.kanal_events.specs.declared.step_result.Leaving.TheVariants.{One, All, Shut, Drained as WasDrained}
+use Rattle.kanal_events.specs.StepResult.{drained_of, drained_of_left, is_drained, is_drained_left, reply_of, reply_of_left}
 use Rattle.kanal_state.specs.Entries.{call_from}
 use Rattle.kanal_state.specs.Handles.{Drains}
 use Rattle.kanal_state.specs.Makes.{IsNoted}
@@ -36,7 +36,7 @@ module _ {T W : Type 0} where
   none-left (Shut closing) lacking = refl
   none-left (WasDrained count ended moved) lacking = absurd (true≢false (sym lacking))
 
-  none-drained : (made : Made T W) → is_no_memory (reply_of made) ≡ true → drained_of made ≡ []
+  none-drained : (made : StepResult T W) → is_no_memory (reply_of made) ≡ true → drained_of made ≡ []
   none-drained made lacking = none-left made.leaving lacking
 
   holds-left : (before now : List T) (leaving : Leaving T W) → now ≡ before ++ drained_of_left leaving → IfErr (drained_by (reply_of_left leaving)) (λ _. now ≡ before)
@@ -46,7 +46,7 @@ module _ {T W : Type 0} where
   holds-left before now (WasDrained count ended vectors) moved = tt
 
   -- a refused drain leaves the vector as it was
-  pub refused_holds : (before now : List T) (made : Made T W) → now ≡ before ++ drained_of made → IfErr (drained_by (reply_of made)) (λ _. now ≡ before)
+  pub refused_holds : (before now : List T) (made : StepResult T W) → now ≡ before ++ drained_of made → IfErr (drained_by (reply_of made)) (λ _. now ≡ before)
   refused_holds before now made moved = holds-left before now made.leaving moved
 
   keeps-left : (before now : ℕ) (leaving : Leaving T W) → (is_drained_left leaving ≡ false → now ≡ before) → OnErr (drained_by (reply_of_left leaving)) (now ≡ before)
@@ -56,11 +56,11 @@ module _ {T W : Type 0} where
   keeps-left before now (WasDrained count ended vectors) keeps = tt
 
   -- a refused drain leaves the vector's room as it was
-  pub refused_keeps_room : (before now : ℕ) (made : Made T W) → (is_drained made ≡ false → now ≡ before) → OnErr (drained_by (reply_of made)) (now ≡ before)
+  pub refused_keeps_room : (before now : ℕ) (made : StepResult T W) → (is_drained made ≡ false → now ≡ before) → OnErr (drained_by (reply_of made)) (now ≡ before)
   refused_keeps_room before now made keeps = keeps-left before now made.leaving keeps
 
   -- a drain that was noted
-  pub noted_drains : {P : Type 0} (w : Words T P) (old new : P) (before now : List T) (made : Made T W)
+  pub noted_drains : {P : Type 0} (w : Words T P) (old new : P) (before now : List T) (made : StepResult T W)
       → IsNoted w old new Drain made → now ≡ before ++ drained_of made → Drains w old new before now (drained_by (reply_of made))
   noted_drains w old new before now made n moved =
       elim (cases_Bool (is_no_memory (reply_of made))) [

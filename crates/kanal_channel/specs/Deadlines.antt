@@ -6,26 +6,26 @@ use Rattle.kanal_state.specs.Entries.{withdrawal}
 use Rattle.kanal_state.specs.Results.{InTime, back_after, back_by}
 use Rattle.kanal_state.specs.Timed.{IsTooLate}
 use Rattle.kanal_state.specs.Words.{Words}
-use Rattle.kanal_channel.specs.declared.blocking.Came.{Came}
-use Rattle.kanal_channel.specs.declared.blocking.Came.TheVariants.{Replied, Settled, Withdrawn}
+use Rattle.kanal_channel.specs.declared.blocking.WaitOutcome.{WaitOutcome}
+use Rattle.kanal_channel.specs.declared.blocking.WaitOutcome.TheVariants.{Replied, Settled, Withdrawn}
 use Rattle.kanal_channel.specs.Starts.{HasCome}
 
 module _ {T : Type 0} where
   -- the answer of a call with a deadline, for what it came to
-  abbrev pub answer_in_time : {R : Type 0} → InTime T R → Came T → R
+  abbrev pub answer_in_time : {R : Type 0} → InTime T R → WaitOutcome T → R
   answer_in_time answers (Replied reply) = answers.by_reply reply
   answer_in_time answers (Settled outcome) = answers.by_outcome outcome
   answer_in_time answers (Withdrawn back) = answers.late
 
   -- the message that a send with a deadline gives back, for what it came to
-  abbrev pub back_in_time : Came T → Option T
+  abbrev pub back_in_time : WaitOutcome T → Option T
   back_in_time (Replied reply) = back_by reply
   back_in_time (Settled outcome) = back_after outcome
   back_in_time (Withdrawn back) = back
 
 module _ {T P : Type 0} where
   -- how a wait ended that was to be taken back: it was settled and the pass has learnt of that, or the pass took it back
-  abbrev pub HasEnded : Words T P → P → P → ℕ → Came T → Type 0
+  abbrev pub HasEnded : Words T P → P → P → ℕ → WaitOutcome T → Type 0
   HasEnded w old new ticket (Settled outcome) = w.looks old new × w.settled new (ticket, outcome)
   HasEnded w old new ticket (Withdrawn back) = w.makes old new (withdrawal ticket back) × IsTold (withdrawal ticket back)
   HasEnded w old new ticket (Replied reply) = ⊥
@@ -35,5 +35,5 @@ module _ {T P : Type 0} where
   TakesBack w answered deadline old new event back = (late : IsTooLate w answered deadline old new event) × (late.withdrawn.back ≡ back)
 
   -- what a call with this deadline came to
-  abbrev pub HasPassed : Words T P → (ℕ → Type 0) → ℕ → P → P → Event T → Came T → Type 0
+  abbrev pub HasPassed : Words T P → (ℕ → Type 0) → ℕ → P → P → Event T → WaitOutcome T → Type 0
   HasPassed w answered deadline old new event came = HasCome w (TakesBack w answered deadline old new event) old new event came

@@ -5,11 +5,11 @@ use Rattle.kanal_channel.specs.declared.shared.locked.Left.{Left}
 use Rattle.kanal_channel.specs.declared.shared.locked.Locked.{Locked}
 
 module _ {T H P B S C : Type 0} where
-  -- whether the lock still has to be given back
+  -- whether the lock still has to be released
   abbrev pub is_held : Locked T H P B S C → Bool
   is_held locked = locked.held
 
-  -- no call of nobody's was made since the lock was got
+  -- no internal call was made since the lock was got
   abbrev pub IsQuiet : Locked T H P B S C → Type 0
   IsQuiet locked = locked.state.value.0 ≡ locked.cleanup.value
 

@@ -1,12 +1,12 @@
 //! What all calls on the line have in common: one step under the lock, and the wait of a call that must.
 //!
-//! A call takes the lock, makes one step on the state, and gives the lock back. No other module starts a wait,
+//! A call takes the lock, makes one step on the state, and releases the lock. No other module starts a wait,
 //! for threads and for tasks. A wait that was started is owed: what became of it counts it out.
 ghost use Rattle.std.specs.Prelude.{◌≡◌, IfErr, IfOk, false, true};
 ghost use Rattle.kanal_cell.specs.CellEnds.{wait_view};
 ghost use Rattle.kanal_cell.specs.CellRule.{MaySleep};
 ghost use Rattle.kanal_core.specs.Tickets.{number_of};
-ghost use Rattle.kanal_events.specs.Made.{MustWait, is_plain, may_wait};
+ghost use Rattle.kanal_events.specs.StepResult.{MustWait, is_plain, may_wait};
 ghost use Rattle.kanal_state.specs.Counts.{counts_handle, ticket_of};
 ghost use Rattle.kanal_state.specs.Makes.{HasReplied, IsAnswered, SeesWait};
 ghost use Rattle.kanal_state.specs.Waits.{IsWaiting};
@@ -18,13 +18,13 @@ use kanal_cell::signal::WaitEnd;
 use kanal_cell::{Waiting, pause_once};
 use kanal_core::internal::Outcome;
 use kanal_events::event::{Event, Refusal, Reply};
-use kanal_state::{CountedWait, Delivered, History, Seat, WaitStart, ends};
+use kanal_state::{CountedWait, History, WaitResult, WaitStart, WaiterHandle, ends};
 use std::sync::Wait;
 use std::thread;
 
 /// What a call came to that waits where it must.
 #[derive(Drop)]
-pub(crate) enum Came<T> {
+pub(crate) enum WaitOutcome<T> {
     /// It was answered, and did not wait.
     Replied(Reply<T>),
     /// It waited, and this became of the wait.
@@ -34,7 +34,7 @@ pub(crate) enum Came<T> {
 }
 
 /// The wait of a call, with the end at which it is told. It is still to be counted out.
-pub(crate) type Begun<T, H> = (CountedWait, WaitEnd<Delivered<T, H>>);
+pub(crate) type StartedWait<T, H> = (CountedWait, WaitEnd<WaitResult<T, H>>);
 
 impl<T: Drop, H: History<T>> Shared<T, H> {
     /// Makes a call that never waits for the other side, and counts no handle.
@@ -43,7 +43,7 @@ impl<T: Drop, H: History<T>> Shared<T, H> {
         requires uncounted { counts_handle event ≡ false }
         ensures answered { IsAnswered H.words pass.old pass.new event result }
     {
-        self.call_held(self.hold(rt), pass, event)
+        self.call_held(self.lock(rt), pass, event)
     }
 
     /// The same, under the lock that was got.
@@ -59,11 +59,11 @@ impl<T: Drop, H: History<T>> Shared<T, H> {
         ensures answered { IsAnswered H.words pass.old pass.new event result }
     {
         let mut locked = locked;
-        let made = locked.state.call(&self.board, pass, event);
-        self.give_back(locked, pass, made)
+        let made = locked.state.call(&self.log, pass, event);
+        self.unlock_and_wake(locked, pass, made)
     }
 
-    /// Makes a call that waits where it must, under the lock that was got, and gives the lock back. Whoever
+    /// Makes a call that waits where it must, under the lock that was got, and releases the lock. Whoever
     /// calls this has looked before, and paused.
     #[cold]
     pub(crate) fn blocking<R: Wait>(
@@ -72,7 +72,7 @@ impl<T: Drop, H: History<T>> Shared<T, H> {
         locked: Locked<'_, T, H>,
         pass: &mut H::Pass,
         event: Event<T>,
-    ) -> Came<T>
+    ) -> WaitOutcome<T>
         requires waits { may_wait event ≡ true }
         requires quiet { IsQuiet locked }
         ensures come { HasCome H.words never_late pass.old pass.new event result }
@@ -80,13 +80,13 @@ impl<T: Drop, H: History<T>> Shared<T, H> {
         match self.begin_held(locked, pass, event) {
             Ok((counted, end)) => {
                 let delivered = Waiting::new(end).outcome(rt, &self.policy);
-                Came::Settled(self.learn(rt, pass, counted, delivered))
+                WaitOutcome::Settled(self.learn(rt, pass, counted, delivered))
             },
-            Err(reply) => Came::Replied(reply),
+            Err(reply) => WaitOutcome::Replied(reply),
         }
     }
 
-    /// Begins the wait of a call under the lock that was got, and gives the lock back. A channel with a buffer
+    /// Begins the wait of a call under the lock that was got, and releases the lock. A channel with a buffer
     /// looks once more after a pause before that, since the other side is often about to make a place, or to
     /// bring a message.
     ///
@@ -98,7 +98,7 @@ impl<T: Drop, H: History<T>> Shared<T, H> {
         locked: Locked<'_, T, H>,
         pass: &mut H::Pass,
         event: Event<T>,
-    ) -> Result<Begun<T, H>, Reply<T>>
+    ) -> Result<StartedWait<T, H>, Reply<T>>
         requires waits { may_wait event ≡ true }
         requires quiet { IsQuiet locked }
         ensures begun { IfOk result (λ begun. IsWaiting H.words pass.old pass.new event begun.0) }
@@ -109,9 +109,9 @@ impl<T: Drop, H: History<T>> Shared<T, H> {
             return self.begin_held(locked, pass, event);
         }
         let (locked, event) = self.start(locked, pass, event)?;
-        locked.give_back_quiet();
+        locked.unlock_quiet();
         pause_once();
-        self.begin_held(self.hold(rt), pass, event)
+        self.begin_held(self.lock(rt), pass, event)
     }
 
     /// The same, without a second look.
@@ -121,7 +121,7 @@ impl<T: Drop, H: History<T>> Shared<T, H> {
         locked: Locked<'_, T, H>,
         pass: &mut H::Pass,
         event: Event<T>,
-    ) -> Result<Begun<T, H>, Reply<T>>
+    ) -> Result<StartedWait<T, H>, Reply<T>>
         requires waits { may_wait event ≡ true }
         requires quiet { IsQuiet locked }
         ensures begun { IfOk result (λ begun. IsWaiting H.words pass.old pass.new event begun.0) }
@@ -129,11 +129,11 @@ impl<T: Drop, H: History<T>> Shared<T, H> {
         ensures replied { IfErr result (HasReplied H.words pass.old pass.new event) }
     {
         let (locked, event) = self.start(locked, pass, event)?;
-        let Some((end, seat)) = ends(self.alloc) else {
-            locked.give_back_quiet();
+        let Some((end, waiter)) = ends(self.alloc) else {
+            locked.unlock_quiet();
             return Err(event.refused(Refusal::NoMemory));
         };
-        let counted = self.wait(locked, pass, event, seat)?;
+        let counted = self.wait(locked, pass, event, waiter)?;
         Ok((counted, end))
     }
 
@@ -141,14 +141,14 @@ impl<T: Drop, H: History<T>> Shared<T, H> {
     /// seen that it must: its wait is started by `wait`, with memory that is asked for only then.
     ///
     /// # Errors
-    /// The reply of a call that does not wait, with the lock given back: it was made at once, or it was refused
+    /// The reply of a call that does not wait, with the lock released: it was made at once, or it was refused
     /// since the tickets are used up.
     ///
     /// # Examples
     /// ```text
     /// let (locked, event) = shared.start(locked, &mut pass, Event::Recv)?;
-    /// let (end, seat) = ends(alloc)?;
-    /// let counted = shared.wait(locked, &mut pass, event, seat)?;
+    /// let (end, waiter) = ends(alloc)?;
+    /// let counted = shared.wait(locked, &mut pass, event, waiter)?;
     /// ```
     #[inline(always)]
     pub fn start<'a>(
@@ -166,26 +166,26 @@ impl<T: Drop, H: History<T>> Shared<T, H> {
         ensures looks { IfOk result (λ _. H.words.looks pass.old pass.new) }
     {
         let mut locked = locked;
-        let event = match locked.state.start(&self.board, pass, event) {
-            Ok(answered) => return Err(self.give_back_answered(locked, pass, answered)),
+        let event = match locked.state.start(&self.log, pass, event) {
+            Ok(answered) => return Err(self.unlock_answered(locked, pass, answered)),
             Err(event) => event,
         };
         if locked.state.has_ticket() {
             return Ok((locked, event));
         }
-        let reply = locked.state.refuse(&self.board, pass, event);
-        let released = locked.give_back_quiet();
+        let reply = locked.state.refuse(&self.log, pass, event);
+        let released = locked.unlock_quiet();
         Err(reply.open(&released))
     }
 
-    /// Starts the wait of a call that the pass has seen must wait, with the seat, and gives the lock back.
+    /// Starts the wait of a call that the pass has seen must wait, with the waiter's handle, and releases the lock.
     ///
     /// # Errors
-    /// The reply of a call that was refused: nobody waits, and the seat is let go.
+    /// The reply of a call that was refused: nobody waits, and the waiter's handle is let go.
     ///
     /// # Examples
     /// ```text
-    /// let counted = shared.wait(locked, &mut pass, event, seat)?;
+    /// let counted = shared.wait(locked, &mut pass, event, waiter)?;
     /// ```
     #[inline(always)]
     pub fn wait(
@@ -193,7 +193,7 @@ impl<T: Drop, H: History<T>> Shared<T, H> {
         locked: Locked<'_, T, H>,
         pass: &mut H::Pass,
         event: Event<T>,
-        seat: Seat<T, H>,
+        waiter: WaiterHandle<T, H>,
     ) -> Result<CountedWait, Reply<T>>
         requires waits { may_wait event ≡ true }
         requires must { MustWait (line_under locked) event }
@@ -202,12 +202,12 @@ impl<T: Drop, H: History<T>> Shared<T, H> {
         ensures replied { IfErr result (HasReplied H.words pass.old pass.new event) }
     {
         let mut locked = locked;
-        let start = locked.state.wait(&self.board, pass, event, seat);
-        let released = locked.give_back_quiet();
+        let start = locked.state.wait(&self.log, pass, event, waiter);
+        let released = locked.unlock_quiet();
         match start {
             WaitStart::Waits(counted) => Ok(counted),
-            WaitStart::Refused(reply, seat) => {
-                drop(seat.open(&released));
+            WaitStart::Refused(reply, waiter) => {
+                drop(waiter.open(&released));
                 Err(reply.open(&released))
             },
         }
@@ -220,12 +220,12 @@ impl<T: Drop, H: History<T>> Shared<T, H> {
         rt: &R,
         pass: &mut H::Pass,
         counted: CountedWait,
-        delivered: Delivered<T, H>,
+        delivered: WaitResult<T, H>,
     ) -> Outcome<T>
         ensures looks { H.words.looks pass.old pass.new }
         ensures settled { H.words.settled pass.new (number_of (ticket_of counted), result) }
     {
-        let _another = match counted.learn(&self.board, pass, delivered) {
+        let _another = match counted.learn(&self.log, pass, delivered) {
             Ok(outcome) => return outcome,
             Err(counted) => counted,
         };

@@ -8,16 +8,16 @@
 //! over a `Shared` counts them by tokens, as `kanal` does.
 #![tactic(auto)]
 
+mod admin;
 mod blocking;
 mod receiving;
 mod sending;
 mod shared;
-mod sides;
 mod timed;
 
 pub use kanal_cell::{Clock, SystemClock, TestClock, later};
 pub use kanal_state::{
-    Core, Counted, CountedReceiver, CountedSender, CountedWait, Delivered, FirstHandles, OfSide,
-    ReceiveSide, Released, Seat, SendSide, State,
+    Core, Counted, CountedReceiver, CountedSender, CountedWait, FirstHandles, OfSide, ReceiveSide,
+    Released, SendSide, State, WaitResult, WaiterHandle,
 };
 pub use shared::{Left, Locked, Shared};

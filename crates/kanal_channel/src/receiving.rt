@@ -11,7 +11,7 @@ ghost use Rattle.kanal_state.specs.Makes.{HasTooLittleRoom};
 ghost use Rattle.kanal_channel.specs.Deadlines.{HasPassed};
 ghost use Rattle.kanal_channel.specs.Locks.{IsQuiet};
 
-use crate::blocking::Came;
+use crate::blocking::WaitOutcome;
 use crate::shared::{Locked, Shared};
 use crate::timed::received_in_time;
 use kanal_cell::{Clock, later, pause_once};
@@ -44,10 +44,10 @@ impl<T: Drop, H: History<T>> Shared<T, H> {
         ensures received { Receives H.words pass.old pass.new result }
         ensures got { IfOk result (λ message. H.exchanges pass.old pass.new [] (message ∷ [])) }
     {
-        let mut locked = self.hold(rt);
-        match locked.state.pop(&self.board, pass) {
+        let mut locked = self.lock(rt);
+        match locked.state.pop(&self.log, pass) {
             Some(message) => {
-                locked.give_back_quiet();
+                locked.unlock_quiet();
                 Ok(message)
             },
             None => self.recv_held(rt, locked, pass),
@@ -87,12 +87,12 @@ impl<T: Drop, H: History<T>> Shared<T, H> {
         if !locked.state.is_empty() {
             return self.recv_waiting(rt, locked, pass);
         }
-        locked.give_back_quiet();
+        locked.unlock_quiet();
         pause_once();
-        let mut locked = self.hold(rt);
-        match locked.state.pop(&self.board, pass) {
+        let mut locked = self.lock(rt);
+        match locked.state.pop(&self.log, pass) {
             Some(message) => {
-                locked.give_back_quiet();
+                locked.unlock_quiet();
                 Ok(message)
             },
             None => self.recv_waiting(rt, locked, pass),
@@ -112,9 +112,9 @@ impl<T: Drop, H: History<T>> Shared<T, H> {
         ensures received { Receives H.words pass.old pass.new result }
     {
         match self.blocking(rt, locked, pass, Event::Recv) {
-            Came::Replied(reply) => received_by(reply),
-            Came::Settled(outcome) => received_after(outcome),
-            Came::Withdrawn(_back) => unreachable!(),
+            WaitOutcome::Replied(reply) => received_by(reply),
+            WaitOutcome::Settled(outcome) => received_after(outcome),
+            WaitOutcome::Withdrawn(_back) => unreachable!(),
         }
     }
 
@@ -135,10 +135,10 @@ impl<T: Drop, H: History<T>> Shared<T, H> {
         ensures got { IfOk result (λ came.
             H.exchanges pass.old pass.new [] (option_to_list came)) }
     {
-        let mut locked = self.hold(rt);
-        match locked.state.try_pop(&self.board, pass) {
+        let mut locked = self.lock(rt);
+        match locked.state.try_pop(&self.log, pass) {
             Some(message) => {
-                locked.give_back_quiet();
+                locked.unlock_quiet();
                 Ok(Some(message))
             },
             None => self.try_recv_held(locked, pass),
@@ -173,11 +173,11 @@ impl<T: Drop, H: History<T>> Shared<T, H> {
     pub fn try_recv_realtime(&self, pass: &mut H::Pass) -> Result<Option<T>, ReceiveError>
         ensures received { TriesToReceiveNow H.words pass.old pass.new result }
     {
-        let Some((mut locked, left)) = self.try_hold() else {
+        let Some((mut locked, left)) = self.try_lock() else {
             return Ok(None);
         };
-        let made = locked.state.call(&self.board, pass, Event::TryRecv);
-        asked_by(self.give_back_tried(locked, left, pass, made))
+        let made = locked.state.call(&self.log, pass, Event::TryRecv);
+        asked_by(self.unlock_tried(locked, left, pass, made))
     }
 
     /// Receives a message, and waits where there is none, until the deadline, which is the clock's moment
@@ -228,15 +228,15 @@ impl<T: Drop, H: History<T>> Shared<T, H> {
         pass: &mut H::Pass,
         clock: &C,
         deadline: u64,
-    ) -> Came<T>
+    ) -> WaitOutcome<T>
         ensures passed { HasPassed H.words (C.answers clock.now) deadline pass.old pass.new
             Event.Recv result }
     {
-        let mut locked = self.hold(rt);
-        match locked.state.pop(&self.board, pass) {
+        let mut locked = self.lock(rt);
+        match locked.state.pop(&self.log, pass) {
             Some(message) => {
-                locked.give_back_quiet();
-                Came::Replied(Reply::Got(message))
+                locked.unlock_quiet();
+                WaitOutcome::Replied(Reply::Got(message))
             },
             None => self.timed(rt, locked, pass, Event::Recv, clock, deadline),
         }
@@ -266,8 +266,8 @@ impl<T: Drop, H: History<T>> Shared<T, H> {
             → HasTooLittleRoom H.words pass.new (vec_len into.old) (vec_capacity into.old) }
         ensures no_growth { OnErr result (vec_capacity into.new ≡ vec_capacity into.old) }
     {
-        let mut locked = self.hold(rt);
-        let made = locked.state.drain(&self.board, pass, into);
-        drained_by(self.give_back(locked, pass, made))
+        let mut locked = self.lock(rt);
+        let made = locked.state.drain(&self.log, pass, into);
+        drained_by(self.unlock_and_wake(locked, pass, made))
     }
 }

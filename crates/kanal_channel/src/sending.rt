@@ -11,7 +11,7 @@ ghost use Rattle.kanal_state.specs.Results.{entered_by};
 ghost use Rattle.kanal_channel.specs.Deadlines.{HasPassed};
 ghost use Rattle.kanal_channel.specs.Locks.{IsQuiet};
 
-use crate::blocking::Came;
+use crate::blocking::WaitOutcome;
 use crate::shared::{Locked, Shared};
 use crate::timed::sent_in_time;
 use kanal_cell::{Clock, later, pause_once};
@@ -56,10 +56,10 @@ impl<T: Drop, H: History<T>> Shared<T, H> {
         ensures sent { Sends H.words pass.old pass.new message result }
         ensures put { IfOk result (λ _. H.exchanges pass.old pass.new (message ∷ []) []) }
     {
-        let mut locked = self.hold(rt);
-        match locked.state.push(&self.board, pass, message) {
+        let mut locked = self.lock(rt);
+        match locked.state.push(&self.log, pass, message) {
             Ok(()) => {
-                locked.give_back_quiet();
+                locked.unlock_quiet();
                 Ok(())
             },
             Err(message) => self.send_held(rt, locked, pass, message),
@@ -101,12 +101,12 @@ impl<T: Drop, H: History<T>> Shared<T, H> {
         if !locked.state.is_full() {
             return self.send_waiting(rt, locked, pass, message);
         }
-        locked.give_back_quiet();
+        locked.unlock_quiet();
         pause_once();
-        let mut locked = self.hold(rt);
-        match locked.state.push(&self.board, pass, message) {
+        let mut locked = self.lock(rt);
+        match locked.state.push(&self.log, pass, message) {
             Ok(()) => {
-                locked.give_back_quiet();
+                locked.unlock_quiet();
                 Ok(())
             },
             Err(message) => self.send_waiting(rt, locked, pass, message),
@@ -126,9 +126,9 @@ impl<T: Drop, H: History<T>> Shared<T, H> {
         ensures sent { Sends H.words pass.old pass.new message result }
     {
         match self.blocking(rt, locked, pass, Event::Send(message)) {
-            Came::Replied(reply) => sent_by(reply),
-            Came::Settled(outcome) => sent_after(outcome),
-            Came::Withdrawn(_back) => unreachable!(),
+            WaitOutcome::Replied(reply) => sent_by(reply),
+            WaitOutcome::Settled(outcome) => sent_after(outcome),
+            WaitOutcome::Withdrawn(_back) => unreachable!(),
         }
     }
 
@@ -173,10 +173,10 @@ impl<T: Drop, H: History<T>> Shared<T, H> {
         ensures entered { result ≡ Ok true → back.new ≡ None }
         ensures kept { result ≢ Ok true → back.new ≡ Some message }
     {
-        let mut locked = self.hold(rt);
-        match locked.state.try_push(&self.board, pass, message) {
+        let mut locked = self.lock(rt);
+        match locked.state.try_push(&self.log, pass, message) {
             Ok(()) => {
-                locked.give_back_quiet();
+                locked.unlock_quiet();
                 Ok(true)
             },
             Err(message) => self.offer_held(locked, pass, message, back),
@@ -261,14 +261,12 @@ impl<T: Drop, H: History<T>> Shared<T, H> {
         ensures entered { result ≡ Ok true → back.new ≡ None }
         ensures kept { result ≢ Ok true → back.new ≡ Some message }
     {
-        let Some((mut locked, left)) = self.try_hold() else {
+        let Some((mut locked, left)) = self.try_lock() else {
             *back = Some(message);
             return Ok(false);
         };
-        let made = locked
-            .state
-            .call(&self.board, pass, Event::TrySend(message));
-        restored(self.give_back_tried(locked, left, pass, made), back)
+        let made = locked.state.call(&self.log, pass, Event::TrySend(message));
+        restored(self.unlock_tried(locked, left, pass, made), back)
     }
 
     /// Sends the option's message if it can enter at once and the lock is free, and empties the option exactly
@@ -394,15 +392,15 @@ impl<T: Drop, H: History<T>> Shared<T, H> {
         message: T,
         clock: &C,
         deadline: u64,
-    ) -> Came<T>
+    ) -> WaitOutcome<T>
         ensures passed { HasPassed H.words (C.answers clock.now) deadline pass.old pass.new
             (Event.Send message) result }
     {
-        let mut locked = self.hold(rt);
-        match locked.state.push(&self.board, pass, message) {
+        let mut locked = self.lock(rt);
+        match locked.state.push(&self.log, pass, message) {
             Ok(()) => {
-                locked.give_back_quiet();
-                Came::Replied(Reply::Sent)
+                locked.unlock_quiet();
+                WaitOutcome::Replied(Reply::Sent)
             },
             Err(message) => self.timed(rt, locked, pass, Event::Send(message), clock, deadline),
         }

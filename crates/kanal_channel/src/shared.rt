@@ -1,14 +1,14 @@
 //! What the handles of a channel share: the lock round the core and its history, and the notices of those
 //! that may not wait for the lock.
 //!
-//! A call takes the lock, makes one step, and gives the lock back; only then it tells those whose waits the step
+//! A call takes the lock, makes one step, and releases the lock; only then it tells those whose waits the step
 //! settled. A call that may not wait leaves a notice where the lock is held, which whoever gets the lock next
-//! applies. `locked` alone takes the notices, and `release` alone gives the lock back and tells.
+//! applies. `locked` alone takes the notices, and `unlock` alone releases the lock and tells.
 ghost use Rattle.std.specs.Prelude.{◌≡◌, IsErrOf};
 ghost use Rattle.kanal_core.specs.Channel.{line_of};
 
 mod locked;
-mod release;
+mod unlock;
 
 use kanal_cell::WaitPolicy;
 use kanal_core::error::NewError;
@@ -23,7 +23,7 @@ use std::sync::Arc;
 ///
 /// It goes with its state and its notices together.
 pub struct Shared<T, H: History<T>> {
-    pub(crate) board: H::Board,
+    pub(crate) log: H::Log,
     pub(crate) state: Mutex<State<T, H>>,
     pub(crate) alloc: Global,
     pub(crate) has_buffer: bool,
@@ -34,7 +34,7 @@ pub struct Shared<T, H: History<T>> {
 impl<T: Drop, H: History<T>> Drop for Shared<T, H> {
     fn drop(self) {
         let Shared {
-            board,
+            log,
             state,
             alloc: _,
             has_buffer: _,
@@ -42,14 +42,14 @@ impl<T: Drop, H: History<T>> Drop for Shared<T, H> {
             notices,
         } = self;
         state.into_inner().end(notices);
-        drop(board);
+        drop(log);
         drop(policy);
     }
 }
 
 impl<T: Drop, H: History<T>> Shared<T, H> {
     /// A free lock round the core and what is kept of the calls that led to its line, with what makes
-    /// the calls that are nobody's, and no notices. The memory of waits is asked of `alloc`.
+    /// the internal calls, and no notices. The memory of waits is asked of `alloc`.
     ///
     /// # Examples
     /// ```text
@@ -60,19 +60,19 @@ impl<T: Drop, H: History<T>> Shared<T, H> {
         core: Core<T, H>,
         history: H,
         cleanup: H::Cleanup,
-        board: H::Board,
+        log: H::Log,
         alloc: Global,
     ) -> Self
         requires core { H.stands history (line_of core) }
     {
         let places = core.capacity();
-        Shared::round(State::new(core, history, cleanup), places, board, alloc)
+        Shared::round(State::new(core, history, cleanup), places, log, alloc)
     }
 
     /// A free lock round this state, of which so many messages may lie in the buffer, and no notices.
-    fn round(state: State<T, H>, places: usize, board: H::Board, alloc: Global) -> Self {
+    fn round(state: State<T, H>, places: usize, log: H::Log, alloc: Global) -> Self {
         Shared {
-            board,
+            log,
             state: Mutex::new(state),
             alloc,
             has_buffer: places > 0,
@@ -95,7 +95,7 @@ impl<T: Drop, H: History<T>> Shared<T, H> {
         core: Core<T, H>,
         history: H,
         cleanup: H::Cleanup,
-        board: H::Board,
+        log: H::Log,
         alloc: Global,
     ) -> Result<(Arc<Self>, FirstHandles), NewError>
         requires core { H.stands history (line_of core) }
@@ -103,7 +103,7 @@ impl<T: Drop, H: History<T>> Shared<T, H> {
     {
         let places = core.capacity();
         let (state, first) = State::with_handles(core, history, cleanup);
-        let Ok(shared) = Arc::new(alloc, Shared::round(state, places, board, alloc)) else {
+        let Ok(shared) = Arc::new(alloc, Shared::round(state, places, log, alloc)) else {
             return Err(NewError::NoMemory);
         };
         Ok((shared, first))
@@ -113,10 +113,10 @@ impl<T: Drop, H: History<T>> Shared<T, H> {
     ///
     /// # Examples
     /// ```text
-    /// let other = pass.again(shared.board());
+    /// let other = pass.again(shared.log());
     /// ```
-    pub fn board(&self) -> &H::Board {
-        &self.board
+    pub fn log(&self) -> &H::Log {
+        &self.log
     }
 
     /// What the memory of waits is asked of.
@@ -157,14 +157,14 @@ impl<T: Drop, H: History<T>> Shared<T, H> {
     /// shared.drop_handle(counted);   the last sender ends the receivers that wait
     /// ```
     pub fn drop_handle<S: OfSide>(&self, counted: Counted<S>) {
-        match self.try_hold() {
+        match self.try_lock() {
             Some((mut locked, left)) => {
-                let gone = locked.state.drop_handle(&self.board, counted);
-                self.give_back_gone(locked, left, gone);
+                let gone = locked.state.drop_handle(&self.log, counted);
+                self.unlock_dropped(locked, left, gone);
             },
             None => {
                 self.notices.add_handle(counted);
-                self.look();
+                self.drain_notices();
             },
         }
     }
@@ -176,14 +176,14 @@ impl<T: Drop, H: History<T>> Shared<T, H> {
     /// shared.leave(counted);   withdraws the wait, or leaves a notice where the lock is held
     /// ```
     pub fn leave(&self, counted: CountedWait) {
-        match self.try_hold() {
+        match self.try_lock() {
             Some((mut locked, left)) => {
-                let found = locked.state.leave(&self.board, counted);
-                self.give_back_left(locked, left, found);
+                let found = locked.state.leave(&self.log, counted);
+                self.unlock_left(locked, left, found);
             },
             None => {
                 self.notices.add_wait(counted);
-                self.look();
+                self.drain_notices();
             },
         }
     }

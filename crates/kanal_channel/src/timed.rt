@@ -4,13 +4,13 @@
 //! by a call of its own; where that finds nobody waiting the outcome is on its way, and is waited for.
 ghost use Rattle.std.specs.Prelude.{◌≡◌, None, true};
 ghost use Rattle.kanal_core.specs.Tickets.{number_of};
-ghost use Rattle.kanal_events.specs.Made.{may_wait};
+ghost use Rattle.kanal_events.specs.StepResult.{may_wait};
 ghost use Rattle.kanal_state.specs.Counts.{ticket_of};
 ghost use Rattle.kanal_state.specs.Results.{receive_in_time, send_in_time};
 ghost use Rattle.kanal_channel.specs.Deadlines.{HasEnded, HasPassed, answer_in_time, back_in_time};
 ghost use Rattle.kanal_channel.specs.Locks.{IsQuiet};
 
-use crate::blocking::Came;
+use crate::blocking::WaitOutcome;
 use crate::shared::{Locked, Shared};
 use kanal_cell::{Clock, Waiting};
 use kanal_core::error::{ReceiveErrorTimeout, SendErrorTimeout};
@@ -19,13 +19,13 @@ use kanal_events::event::Event;
 use kanal_state::answers::{
     timed_received_after, timed_received_by, timed_sent_after, timed_sent_by,
 };
-use kanal_state::{CountedWait, Delivered, History};
+use kanal_state::{CountedWait, History, WaitResult};
 use std::sync::Wait;
 use std::time;
 
 /// The answer of a send with a deadline, for what it came to; a message that comes back goes into the option.
 pub(crate) fn sent_in_time<T: Drop>(
-    came: Came<T>,
+    came: WaitOutcome<T>,
     option: &mut Option<T>,
 ) -> Result<(), SendErrorTimeout>
     requires empty { option.old ≡ None }
@@ -33,9 +33,9 @@ pub(crate) fn sent_in_time<T: Drop>(
     ensures back { option.new ≡ back_in_time came }
 {
     match came {
-        Came::Replied(reply) => timed_sent_by(reply, option),
-        Came::Settled(outcome) => timed_sent_after(outcome, option),
-        Came::Withdrawn(back) => {
+        WaitOutcome::Replied(reply) => timed_sent_by(reply, option),
+        WaitOutcome::Settled(outcome) => timed_sent_after(outcome, option),
+        WaitOutcome::Withdrawn(back) => {
             *option = back;
             Err(SendErrorTimeout::Timeout)
         },
@@ -43,19 +43,18 @@ pub(crate) fn sent_in_time<T: Drop>(
 }
 
 /// The answer of a receive with a deadline, for what it came to.
-pub(crate) fn received_in_time<T: Drop>(came: Came<T>) -> Result<T, ReceiveErrorTimeout>
+pub(crate) fn received_in_time<T: Drop>(came: WaitOutcome<T>) -> Result<T, ReceiveErrorTimeout>
     ensures { result ≡ answer_in_time receive_in_time came }
 {
     match came {
-        Came::Replied(reply) => timed_received_by(reply),
-        Came::Settled(outcome) => timed_received_after(outcome),
-        Came::Withdrawn(_back) => Err(ReceiveErrorTimeout::Timeout),
+        WaitOutcome::Replied(reply) => timed_received_by(reply),
+        WaitOutcome::Settled(outcome) => timed_received_after(outcome),
+        WaitOutcome::Withdrawn(_back) => Err(ReceiveErrorTimeout::Timeout),
     }
 }
 
 impl<T: Drop, H: History<T>> Shared<T, H> {
-    /// Makes a call that waits where it must, until the deadline, under the lock that was got, and gives the
-    /// lock back.
+    /// Makes a call that waits where it must, until the deadline, under the lock that was got, and releases it.
     #[cold]
     pub(crate) fn timed<R: Wait + time::Clock, C: Clock>(
         &self,
@@ -65,7 +64,7 @@ impl<T: Drop, H: History<T>> Shared<T, H> {
         event: Event<T>,
         clock: &C,
         deadline: u64,
-    ) -> Came<T>
+    ) -> WaitOutcome<T>
         requires waits { may_wait event ≡ true }
         requires quiet { IsQuiet locked }
         ensures passed { HasPassed H.words (C.answers clock.now) deadline pass.old pass.new event
@@ -73,10 +72,10 @@ impl<T: Drop, H: History<T>> Shared<T, H> {
     {
         let (counted, end) = match self.begin(rt, locked, pass, event) {
             Ok((counted, end)) => (counted, end),
-            Err(reply) => return Came::Replied(reply),
+            Err(reply) => return WaitOutcome::Replied(reply),
         };
         match Waiting::new(end).outcome_until(rt, &self.policy, clock, deadline) {
-            Ok(delivered) => Came::Settled(self.learn(rt, pass, counted, delivered)),
+            Ok(delivered) => WaitOutcome::Settled(self.learn(rt, pass, counted, delivered)),
             Err((waiting, _late)) => self.end(rt, pass, counted, waiting),
         }
     }
@@ -88,13 +87,13 @@ impl<T: Drop, H: History<T>> Shared<T, H> {
         rt: &R,
         pass: &mut H::Pass,
         counted: CountedWait,
-        waiting: Waiting<Delivered<T, H>>,
-    ) -> Came<T>
+        waiting: Waiting<WaitResult<T, H>>,
+    ) -> WaitOutcome<T>
         ensures ended { HasEnded H.words pass.old pass.new (number_of (ticket_of counted)) result }
     {
-        let mut locked = self.hold(rt);
-        let withdrawn = locked.state.withdraw(&self.board, pass, counted);
-        let released = locked.give_back_quiet();
+        let mut locked = self.lock(rt);
+        let withdrawn = locked.state.withdraw(&self.log, pass, counted);
+        let released = locked.unlock_quiet();
         match withdrawn {
             Ok(waiter) => {
                 let Waiter {
@@ -103,11 +102,11 @@ impl<T: Drop, H: History<T>> Shared<T, H> {
                     w,
                 } = waiter.open(&released);
                 drop(w);
-                Came::Withdrawn(message)
+                WaitOutcome::Withdrawn(message)
             },
             Err(counted) => {
                 let delivered = waiting.outcome(rt, &self.policy);
-                Came::Settled(self.learn(rt, pass, counted, delivered))
+                WaitOutcome::Settled(self.learn(rt, pass, counted, delivered))
             },
         }
     }

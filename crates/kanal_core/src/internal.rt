@@ -6,8 +6,8 @@
 //! contract which step it is.
 //!
 //! No other module uses `buffer` and `wait_list`. The calls on counts and the close are in `handles`, the drain is in
-//! `draining`, and what can be asked is in `questions`. Whoever shares a core puts it behind a lock, and settles or
-//! drops what a call hands out only after the release.
+//! `draining`, and what can be asked is in `queries`. Whoever shares a core puts it behind a lock, and settles or drops
+//! what a call hands out only after the release.
 ghost use Rattle.std.specs.Prelude.{◌≡◌, ◌≢◌, ◌⊎◌, ◌≤◌, ℕ, false, ◌↔◌, [], true, length, map, IfOk, IfErr, IfNone, IsErr, IsErrOf, IsOk, IsSome, Some, None};
 ghost use Rattle.std.specs.Borrow.{sem};
 ghost use Rattle.std.specs.Fn.{FnReturnsAt};
@@ -26,14 +26,14 @@ use std::alloc::Global;
 use std::marker::Model;
 use std::sync::ledger::Ledger;
 
-mod alone;
 mod buffer;
 mod draining;
+mod fast_path;
 mod handles;
 mod leaving;
 mod links;
 mod outcome;
-mod questions;
+mod queries;
 mod slots;
 mod steps;
 mod wait_list;

@@ -6,8 +6,8 @@ use Rattle.kanal_core.specs.declared.internal.outcome.Waiter.{Waiter}
 use Rattle.kanal_core.specs.Channel.{Channel, after_drain, sealed}
 use Rattle.kanal_core.specs.Waiters.{receiver_first, same_ticket, sender_first, without}
 use Rattle.kanal_core.specs.Calls.{WaitsLast}
-use Rattle.kanal_events.specs.declared.made.Kept.{Kept}
-use Rattle.kanal_events.specs.declared.made.Kept.TheVariants.{Ticket as Waiting, Back}
+use Rattle.kanal_events.specs.declared.step_result.Kept.{Kept}
+use Rattle.kanal_events.specs.declared.step_result.Kept.TheVariants.{Ticket as Waiting, Back}
 use Rattle.kanal_events.specs.Given.{AreKept, Gives, GivesNone, GivesOne}
 
 -- what stands in a list stands there with one more at its end

@@ -4,8 +4,8 @@ use Rattle.kanal_core.specs.declared.internal.outcome.Ticket.{Ticket}
 use Rattle.kanal_core.specs.declared.internal.outcome.Waiter.{Waiter}
 use Rattle.kanal_core.specs.Channel.{Channel}
 use Rattle.kanal_core.specs.Tickets.{number_of}
-use Rattle.kanal_events.specs.declared.made.Kept.{Kept}
-use Rattle.kanal_events.specs.declared.made.Kept.TheVariants.{Ticket as Waiting, Back}
+use Rattle.kanal_events.specs.declared.step_result.Kept.{Kept}
+use Rattle.kanal_events.specs.declared.step_result.Kept.TheVariants.{Ticket as Waiting, Back}
 
 module _ {T W : Type 0} where
   -- the ticket of each who waits stands at its number among the tickets that were given

@@ -3,13 +3,13 @@ use Rattle.std.specs.Prelude.{◌≡◌, List, [], ◌∷◌, ◌++◌, Option, 
 use Rattle.kanal_core.specs.declared.internal.outcome.Settled.{Settled}
 use Rattle.kanal_core.specs.declared.internal.outcome.Waiter.{Waiter}
 use Rattle.kanal_events.specs.declared.event.Event.{Event}
-use Rattle.kanal_events.specs.declared.made.Leaving.{Leaving}
-use Rattle.kanal_events.specs.declared.made.Leaving.TheVariants.{One, All, Shut, Drained}
-use Rattle.kanal_events.specs.declared.made.Answered.{Answered}
-use Rattle.kanal_events.specs.declared.made.Made.{Made}
-use Rattle.kanal_events.specs.declared.made.Kept.{Kept}
-use Rattle.kanal_events.specs.declared.made.Kept.TheVariants.{Ticket as Waiting, Back}
-use Rattle.kanal_events.specs.Made.{made_of}
+use Rattle.kanal_events.specs.declared.step_result.Leaving.{Leaving}
+use Rattle.kanal_events.specs.declared.step_result.Leaving.TheVariants.{One, All, Shut, Drained}
+use Rattle.kanal_events.specs.declared.step_result.Answered.{Answered}
+use Rattle.kanal_events.specs.declared.step_result.StepResult.{StepResult}
+use Rattle.kanal_events.specs.declared.step_result.Kept.{Kept}
+use Rattle.kanal_events.specs.declared.step_result.Kept.TheVariants.{Ticket as Waiting, Back}
+use Rattle.kanal_events.specs.StepResult.{made_of}
 use Rattle.kanal_events.specs.Steps.{message_of}
 
 module _ {T W : Type 0} where
@@ -26,7 +26,7 @@ module _ {T W : Type 0} where
   gone_of_left (Drained count ended moved) = ended
 
   -- those whose waits a step settled, with what they brought
-  abbrev pub gone_of : Made T W → List (Settled T W)
+  abbrev pub gone_of : StepResult T W → List (Settled T W)
   gone_of made = gone_of_left made.leaving
 
   -- these were the oldest that waited, each with its ticket and what it brought; the others stay as they were

@@ -1,4 +1,4 @@
 pub mod Steps
 pub mod Given
-pub mod Made
+pub mod StepResult
 pub mod Leaving

@@ -7,5 +7,5 @@
 #![tactic(auto)]
 
 pub mod event;
-pub mod made;
+pub mod step_result;
 pub mod steps;

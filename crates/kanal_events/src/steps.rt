@@ -12,10 +12,10 @@ ghost use Rattle.kanal_core.specs.Calls.{IsFull, IsEmpty};
 ghost use Rattle.kanal_events.specs.Steps.{Tells, answer as answer_of, is_no_memory, only};
 ghost use Rattle.kanal_events.specs.Given.{Gives, GivesNone};
 ghost use Rattle.kanal_events.specs.Leaving.{Comes, Leave, LeaveTried, gone_of};
-ghost use Rattle.kanal_events.specs.Made.{Keeps, MustWait, Tries, drained_of, entered, got, is_drained, is_plain, may_wait, not_waiting, reply_of, told_of, withdrawn};
+ghost use Rattle.kanal_events.specs.StepResult.{Keeps, MustWait, Tries, drained_of, entered, got, is_drained, is_plain, may_wait, not_waiting, reply_of, told_of, withdrawn};
 
 use crate::event::{Ask, Event, Refusal, Reply, Side};
-use crate::made::{Answered, Kept, Made, Moved};
+use crate::step_result::{Answered, Kept, Moved, StepResult};
 use kanal_core::error::{DrainError, WaitError};
 use kanal_core::internal::{ChannelInternal, Offer, Settled, Steps, Take, Ticket, Waiter};
 use std::marker::Brand;
@@ -59,53 +59,53 @@ pub fn pop<T: Drop, W: Drop>(core: &mut ChannelInternal<T, W>) -> Option<T>
 
 /// Offers the message of a call that doesn't wait.
 #[tactic(auto, using(crate::proofs::Leaving::oldest_leaves))]
-fn try_send<T: Drop, W: Drop>(core: &mut ChannelInternal<T, W>, message: T) -> Made<T, W>
+fn try_send<T: Drop, W: Drop>(core: &mut ChannelInternal<T, W>, message: T) -> StepResult<T, W>
     ensures told { Tells (line_of core.old) (Event.TrySend message)
         (told_of (line_of core.new) result) }
     ensures tickets { GivesNone core.old core.new }
     ensures leave { Leave core.old.waiters (gone_of result) core.new.waiters }
 {
     match core.offer(message) {
-        Offer::Entered => Made::replied(Reply::Yes),
-        Offer::Handed(settled) => Made::one(Reply::Yes, Some(settled)),
-        Offer::Full(back) => Made::replied(Reply::No(back)),
-        Offer::Closed(back) => Made::replied(Reply::Refused(Refusal::Closed, Some(back))),
-        Offer::ReceiveClosed(back) => Made::replied(Reply::Refused(
+        Offer::Entered => StepResult::replied(Reply::Yes),
+        Offer::Handed(settled) => StepResult::one(Reply::Yes, Some(settled)),
+        Offer::Full(back) => StepResult::replied(Reply::No(back)),
+        Offer::Closed(back) => StepResult::replied(Reply::Refused(Refusal::Closed, Some(back))),
+        Offer::ReceiveClosed(back) => StepResult::replied(Reply::Refused(
             Refusal::ReceiveClosed,
             Some(back),
         )),
-        Offer::Sealed(back) => Made::replied(Reply::Refused(Refusal::Sealed, Some(back))),
-        Offer::NoMemory(back) => Made::replied(Reply::Refused(Refusal::NoMemory, Some(back))),
+        Offer::Sealed(back) => StepResult::replied(Reply::Refused(Refusal::Sealed, Some(back))),
+        Offer::NoMemory(back) => StepResult::replied(Reply::Refused(Refusal::NoMemory, Some(back))),
     }
 }
 
 /// Asks for a message, for a call that doesn't wait.
 #[tactic(auto, using(crate::proofs::Leaving::oldest_leaves))]
-fn try_recv<T: Drop, W: Drop>(core: &mut ChannelInternal<T, W>) -> Made<T, W>
+fn try_recv<T: Drop, W: Drop>(core: &mut ChannelInternal<T, W>) -> StepResult<T, W>
     ensures told { Tells (line_of core.old) Event.TryRecv (told_of (line_of core.new) result) }
     ensures tickets { GivesNone core.old core.new }
     ensures leave { Leave core.old.waiters (gone_of result) core.new.waiters }
 {
     match core.take() {
-        Take::Got(message, settled) => Made::one(Reply::Got(message), settled),
-        Take::Closed => Made::replied(Reply::Refused(Refusal::Closed, None)),
-        Take::SendClosed => Made::replied(Reply::Refused(Refusal::SendClosed, None)),
-        Take::Empty => Made::replied(Reply::Nothing),
+        Take::Got(message, settled) => StepResult::one(Reply::Got(message), settled),
+        Take::Closed => StepResult::replied(Reply::Refused(Refusal::Closed, None)),
+        Take::SendClosed => StepResult::replied(Reply::Refused(Refusal::SendClosed, None)),
+        Take::Empty => StepResult::replied(Reply::Nothing),
     }
 }
 
 /// Asks for a message, for a call whose deadline has passed.
 #[tactic(auto, using(crate::proofs::Leaving::oldest_leaves))]
-fn recv_late<T: Drop, W: Drop>(core: &mut ChannelInternal<T, W>) -> Made<T, W>
+fn recv_late<T: Drop, W: Drop>(core: &mut ChannelInternal<T, W>) -> StepResult<T, W>
     ensures told { Tells (line_of core.old) Event.RecvLate (told_of (line_of core.new) result) }
     ensures tickets { GivesNone core.old core.new }
     ensures leave { Leave core.old.waiters (gone_of result) core.new.waiters }
 {
     match core.take() {
-        Take::Got(message, settled) => Made::one(Reply::Got(message), settled),
-        Take::Closed => Made::replied(Reply::Refused(Refusal::Closed, None)),
-        Take::SendClosed => Made::replied(Reply::Refused(Refusal::Timeout, None)),
-        Take::Empty => Made::replied(Reply::Refused(Refusal::Timeout, None)),
+        Take::Got(message, settled) => StepResult::one(Reply::Got(message), settled),
+        Take::Closed => StepResult::replied(Reply::Refused(Refusal::Closed, None)),
+        Take::SendClosed => StepResult::replied(Reply::Refused(Refusal::Timeout, None)),
+        Take::Empty => StepResult::replied(Reply::Refused(Refusal::Timeout, None)),
     }
 }
 
@@ -266,7 +266,7 @@ pub fn make_waiting<T: Drop, W: Drop>(
     core: &mut ChannelInternal<T, W>,
     event: Event<T>,
     w: W,
-) -> (Made<T, W>, Kept<W>)
+) -> (StepResult<T, W>, Kept<W>)
     requires waits { may_wait event ≡ true }
     ensures told { Tells (line_of core.old) event (told_of (line_of core.new) result.0) }
     ensures kept { Keeps (reply_of result.0) result.1 }
@@ -276,7 +276,7 @@ pub fn make_waiting<T: Drop, W: Drop>(
         Ok(answered) => (answered.into_made(), Kept::Back(w)),
         Err(event) => {
             let (reply, kept) = wait(core, event, w);
-            (Made::replied(reply), kept)
+            (StepResult::replied(reply), kept)
         },
     }
 }
@@ -314,7 +314,10 @@ pub fn withdraw<T: Drop, W: Drop>(
 /// drain(&mut core, &mut messages)   replies  Drained(2)   after two messages entered
 /// ```
 #[tactic(auto, using(crate::proofs::Leaving::drained_leaves))]
-pub fn drain<T: Drop, W: Drop>(core: &mut ChannelInternal<T, W>, into: &mut Vec<T>) -> Made<T, W>
+pub fn drain<T: Drop, W: Drop>(
+    core: &mut ChannelInternal<T, W>,
+    into: &mut Vec<T>,
+) -> StepResult<T, W>
     ensures told { Tells (line_of core.old) Event.Drain (told_of (line_of core.new) result) }
     ensures moved { into.new.items ≡ into.old.items ++ drained_of result }
     ensures memory { is_no_memory (reply_of result) ≡ true
@@ -329,81 +332,81 @@ pub fn drain<T: Drop, W: Drop>(core: &mut ChannelInternal<T, W>, into: &mut Vec<
     match core.drain_into(into) {
         Ok((count, ended)) => {
             let after = Snapshot::of(&*into);
-            Made::drained(count, ended, Moved { before, after })
+            StepResult::drained(count, ended, Moved { before, after })
         },
-        Err(DrainError::Closed) => Made::replied(Reply::Refused(Refusal::Closed, None)),
-        Err(DrainError::NoMemory) => Made::replied(Reply::Refused(Refusal::NoMemory, None)),
+        Err(DrainError::Closed) => StepResult::replied(Reply::Refused(Refusal::Closed, None)),
+        Err(DrainError::NoMemory) => StepResult::replied(Reply::Refused(Refusal::NoMemory, None)),
     }
 }
 
 /// Seals the channel.
 #[tactic(auto, using(crate::proofs::Leaving::sealed_leaves))]
-fn seal<T: Drop, W: Drop>(core: &mut ChannelInternal<T, W>) -> Made<T, W>
+fn seal<T: Drop, W: Drop>(core: &mut ChannelInternal<T, W>) -> StepResult<T, W>
     ensures told { Tells (line_of core.old) Event.Seal (told_of (line_of core.new) result) }
     ensures tickets { GivesNone core.old core.new }
     ensures leave { Leave core.old.waiters (gone_of result) core.new.waiters }
 {
     match core.seal() {
-        Ok(ended) => Made::all(Reply::Done, ended),
-        Err(_) => Made::replied(Reply::Refused(Refusal::CloseError, None)),
+        Ok(ended) => StepResult::all(Reply::Done, ended),
+        Err(_) => StepResult::replied(Reply::Refused(Refusal::CloseError, None)),
     }
 }
 
 /// Closes the channel.
 #[tactic(auto, using(crate::proofs::Leaving::closed_leaves))]
-fn close<T: Drop, W: Drop>(core: &mut ChannelInternal<T, W>) -> Made<T, W>
+fn close<T: Drop, W: Drop>(core: &mut ChannelInternal<T, W>) -> StepResult<T, W>
     ensures told { Tells (line_of core.old) Event.Close (told_of (line_of core.new) result) }
     ensures tickets { GivesNone core.old core.new }
     ensures leave { Leave core.old.waiters (gone_of result) core.new.waiters }
 {
     match core.close() {
-        Ok(closing) => Made::shut(closing),
-        Err(_) => Made::replied(Reply::Refused(Refusal::CloseError, None)),
+        Ok(closing) => StepResult::shut(closing),
+        Err(_) => StepResult::replied(Reply::Refused(Refusal::CloseError, None)),
     }
 }
 
 /// Counts one more sender.
-fn add_sender<T: Drop, W: Drop>(core: &mut ChannelInternal<T, W>) -> Made<T, W>
+fn add_sender<T: Drop, W: Drop>(core: &mut ChannelInternal<T, W>) -> StepResult<T, W>
     ensures told { Tells (line_of core.old) Event.CloneTx (told_of (line_of core.new) result) }
     ensures tickets { GivesNone core.old core.new }
     ensures leave { Leave core.old.waiters (gone_of result) core.new.waiters }
 {
     match core.add_sender() {
-        Ok(()) => Made::replied(Reply::Done),
-        Err(_) => Made::replied(Reply::Refused(Refusal::TooMany, None)),
+        Ok(()) => StepResult::replied(Reply::Done),
+        Err(_) => StepResult::replied(Reply::Refused(Refusal::TooMany, None)),
     }
 }
 
 /// Counts one more receiver.
-fn add_receiver<T: Drop, W: Drop>(core: &mut ChannelInternal<T, W>) -> Made<T, W>
+fn add_receiver<T: Drop, W: Drop>(core: &mut ChannelInternal<T, W>) -> StepResult<T, W>
     ensures told { Tells (line_of core.old) Event.CloneRx (told_of (line_of core.new) result) }
     ensures tickets { GivesNone core.old core.new }
     ensures leave { Leave core.old.waiters (gone_of result) core.new.waiters }
 {
     match core.add_receiver() {
-        Ok(()) => Made::replied(Reply::Done),
-        Err(_) => Made::replied(Reply::Refused(Refusal::TooMany, None)),
+        Ok(()) => StepResult::replied(Reply::Done),
+        Err(_) => StepResult::replied(Reply::Refused(Refusal::TooMany, None)),
     }
 }
 
 /// Counts one sender less.
 #[tactic(auto, using(crate::proofs::Leaving::sender_leaves))]
-fn drop_sender<T: Drop, W: Drop>(core: &mut ChannelInternal<T, W>) -> Made<T, W>
+fn drop_sender<T: Drop, W: Drop>(core: &mut ChannelInternal<T, W>) -> StepResult<T, W>
     ensures told { Tells (line_of core.old) Event.DropTx (told_of (line_of core.new) result) }
     ensures tickets { GivesNone core.old core.new }
     ensures leave { Leave core.old.waiters (gone_of result) core.new.waiters }
 {
-    Made::all(Reply::Done, core.drop_sender())
+    StepResult::all(Reply::Done, core.drop_sender())
 }
 
 /// Counts one receiver less.
 #[tactic(auto, using(crate::proofs::Leaving::receiver_leaves))]
-fn drop_receiver<T: Drop, W: Drop>(core: &mut ChannelInternal<T, W>) -> Made<T, W>
+fn drop_receiver<T: Drop, W: Drop>(core: &mut ChannelInternal<T, W>) -> StepResult<T, W>
     ensures told { Tells (line_of core.old) Event.DropRx (told_of (line_of core.new) result) }
     ensures tickets { GivesNone core.old core.new }
     ensures leave { Leave core.old.waiters (gone_of result) core.new.waiters }
 {
-    Made::all(Reply::Done, core.drop_receiver())
+    StepResult::all(Reply::Done, core.drop_receiver())
 }
 
 /// Asks a question through a side.
@@ -441,7 +444,7 @@ fn terminated<T: Drop, W: Drop>(core: &ChannelInternal<T, W>) -> Reply<T>
 /// make(&mut core, Event::TryRecv)   replies  Nothing      in a new core
 /// make(&mut core, Event::Close)     replies  Cleared(0)   after that
 /// ```
-pub fn make<T: Drop, W: Drop>(core: &mut ChannelInternal<T, W>, event: Event<T>) -> Made<T, W>
+pub fn make<T: Drop, W: Drop>(core: &mut ChannelInternal<T, W>, event: Event<T>) -> StepResult<T, W>
     requires plain { is_plain event ≡ true }
     ensures told { Tells (line_of core.old) event (told_of (line_of core.new) result) }
     ensures tickets { GivesNone core.old core.new }
@@ -457,8 +460,8 @@ pub fn make<T: Drop, W: Drop>(core: &mut ChannelInternal<T, W>, event: Event<T>)
         Event::DropRx => drop_receiver(core),
         Event::Seal => seal(core),
         Event::Close => close(core),
-        Event::Ask(side, question) => Made::replied(ask(core, side, question)),
-        Event::Terminated => Made::replied(terminated(core)),
+        Event::Ask(side, question) => StepResult::replied(ask(core, side, question)),
+        Event::Terminated => StepResult::replied(terminated(core)),
         Event::Send(_message) => unreachable!(),
         Event::Recv | Event::Drain | Event::Withdraw(_) => unreachable!(),
     }

@@ -3,8 +3,8 @@ use Rattle.std.proofs.Common.{◌≡◌, ◌+◌, ℕ, suc, Bool, true, false, c
 use mathlib.Core.List.{IsPrefix}
 use Rattle.std.proofs.Math.Seq.{take-length}
 use Rattle.std.proofs.lemmas.Bool.{cases_Bool}
-use Rattle.kanal_board.specs.Views.{Known, IsAmong, AreApart, OwnsAllButQuiet}
-use Rattle.kanal_board.proofs.Places.{among-cases, among-left, among-right}
+use Rattle.kanal_log.specs.Views.{Known, IsAmong, AreApart, OwnsAllButQuiet}
+use Rattle.kanal_log.proofs.Places.{among-cases, among-left, among-right}
 use Rattle.kanal_journal.specs.Paired.{History, Demand, sent, asked, cleared_by, kept, receipts, receipts_from, send_stays, demand_stays, without_last, ArePaired, Paired}
 use Rattle.kanal_state.specs.declared.call.Call.{Call}
 use Rattle.kanal_state.specs.Calls.{IsSilent}

@@ -4,8 +4,8 @@ use Rattle.std.proofs.lemmas.List.{append-nil}
 use Rattle.std.proofs.lemmas.Bool.{cases_Bool}
 use Rattle.std.proofs.lemmas.Bool.Decides.{Decides-eqb}
 use mathlib.Core.List.{IsPrefix}
-use Rattle.kanal_board.specs.Views.{IsAmong, AreApart, AreBelow}
-use Rattle.kanal_board.proofs.Places.{among-cases, among-left, among-right}
+use Rattle.kanal_log.specs.Views.{IsAmong, AreApart, AreBelow}
+use Rattle.kanal_log.proofs.Places.{among-cases, among-left, among-right}
 use Rattle.kanal_exchange.specs.Readings.{is_at, read_at}
 
 -- what f reads from all entries, in order

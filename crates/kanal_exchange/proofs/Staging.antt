@@ -1,6 +1,6 @@
 -- How the tale of a stage goes on, and what the passes of a channel between two stages tell together.
 use Rattle.std.proofs.Common.{◌≡◌, ◌+◌, ℕ, List, [], ◌∷◌, ◌++◌, length, map, take, Option, refl, sym, ap, ◌∙◌, subst, arith, length-append}
-use Rattle.kanal_board.specs.Views.{Known}
+use Rattle.kanal_log.specs.Views.{Known}
 use Rattle.kanal_state.specs.declared.call.Call.{Call}
 use Rattle.kanal_exchange.specs.Stages.{Handed, Made, Staged}
 use Rattle.kanal_exchange.specs.Tales.{Tells}

@@ -4,8 +4,8 @@ use mathlib.Core.List.{IsPrefix}
 use Rattle.std.proofs.lemmas.Option.{none-some}
 use Rattle.std.proofs.Math.Seq.{take-length}
 use Rattle.std.proofs.lemmas.List.Sums.{sum_by-append}
-use Rattle.kanal_board.specs.Views.{Known, IsAmong, AreApart, AreBelow, OwnsAllButQuiet}
-use Rattle.kanal_board.proofs.Fronts.{prefix_length, prefix_trans}
+use Rattle.kanal_log.specs.Views.{Known, IsAmong, AreApart, AreBelow, OwnsAllButQuiet}
+use Rattle.kanal_log.proofs.Readers.{prefix_length, prefix_trans}
 use Rattle.kanal_core.specs.Line.{Line}
 use Rattle.kanal_events.specs.Steps.{step}
 use Rattle.kanal_journal.specs.Runs.{numbered, opening_line}

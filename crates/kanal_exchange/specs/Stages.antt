@@ -1,6 +1,6 @@
 -- What a stage does, and what the stages behind a channel make of its messages.
 use Rattle.std.specs.Prelude.{◌≡◌, ℕ, List, [], ◌∷◌, length, map, Option}
-use Rattle.kanal_board.specs.Views.{Known}
+use Rattle.kanal_log.specs.Views.{Known}
 use Rattle.kanal_state.specs.declared.call.Call.{Call}
 use Rattle.kanal_one_history.specs.Puts.{Exchanges}
 use Rattle.kanal_exchange.specs.Tales.{Tells}

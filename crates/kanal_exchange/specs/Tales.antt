@@ -1,6 +1,6 @@
 -- What a pass's own calls put and got.
 use Rattle.std.specs.Prelude.{◌≡◌, ℕ, List, [], ◌∷◌, ◌++◌, length, replicate, Option}
-use Rattle.kanal_board.specs.Views.{Known, AreBelow}
+use Rattle.kanal_log.specs.Views.{Known, AreBelow}
 use Rattle.kanal_journal.specs.Paired.{Demand, sent, asked, cleared_by}
 use Rattle.kanal_state.specs.declared.call.Call.{Call}
 use Rattle.kanal_one_history.specs.Puts.{AreGot, ArePut, Exchanges}

@@ -3,14 +3,14 @@
 //! `overseen` is handed the passes of both threads when they have ended, and says that what was received is what was
 //! sent first. No other module sends or receives a list.
 ghost use Rattle.std.specs.Prelude.{◌≡◌, List, [], Ok, IfOk, take, length};
-ghost use Rattle.kanal_board.specs.Boards.{table_of};
-ghost use Rattle.kanal_board.specs.Shares.{IsWhole, both, half, whole};
-ghost use Rattle.kanal_board.specs.Views.{known};
+ghost use Rattle.kanal_log.specs.Logs.{table_of};
+ghost use Rattle.kanal_log.specs.Shares.{IsWhole, both, half, whole};
+ghost use Rattle.kanal_log.specs.Views.{known};
 ghost use Rattle.kanal_exchange.specs.Tales.{GetsOne, Tells};
 
 use crate::error::{Answer, ExchangeError};
 use crate::threads::both;
-use kanal_one_history::{Call, Channel, Naming, Opened, Pass};
+use kanal_one_history::{Call, Channel, LogId, NewLog, Pass};
 use std::alloc::Global;
 use std::snapshot::Snapshot;
 use std::sync::Wait;
@@ -20,7 +20,7 @@ use std::thread::{Promise, Threads};
 ///
 /// # Errors
 /// Where a send is refused: the channel is closed then, and what is left of the messages is dropped.
-pub(crate) fn send_all<T: Drop, J: Naming, R: Wait>(
+pub(crate) fn send_all<T: Drop, J: LogId, R: Wait>(
     rt: &R,
     channel: &Channel<T, J>,
     mut pass: Pass<T, J>,
@@ -40,7 +40,7 @@ pub(crate) fn send_all<T: Drop, J: Naming, R: Wait>(
 }
 
 /// Receives one message, and puts it behind those that came before.
-fn receive_one<T: Drop, J: Naming, R: Wait>(
+fn receive_one<T: Drop, J: LogId, R: Wait>(
     rt: &R,
     channel: &Channel<T, J>,
     pass: &mut Pass<T, J>,
@@ -58,7 +58,7 @@ fn receive_one<T: Drop, J: Naming, R: Wait>(
 /// # Errors
 /// Where a receive is refused, or there is no memory for the list: the channel is closed then, and what came
 /// is dropped.
-pub(crate) fn receive_all<T: Drop, J: Naming, R: Wait>(
+pub(crate) fn receive_all<T: Drop, J: LogId, R: Wait>(
     rt: &R,
     alloc: Global,
     channel: &Channel<T, J>,
@@ -82,7 +82,7 @@ pub(crate) fn receive_all<T: Drop, J: Naming, R: Wait>(
 
 /// Says of two threads that have ended, and whose passes have all of the right to make calls between them:
 /// what the one received is what the other sent first. It makes no call.
-pub(crate) fn overseen<T: Drop, J: Naming>(
+pub(crate) fn overseen<T: Drop, J: LogId>(
     channel: &Channel<T, J>,
     sender: Pass<T, J>,
     receiver: Pass<T, J>,
@@ -91,42 +91,42 @@ pub(crate) fn overseen<T: Drop, J: Naming>(
     ensures in_order { (put got : List T) → Tells put [] sender → Tells [] got receiver
         → got ≡ take (length got) put }
 {
-    let board = channel.board();
+    let log = channel.log();
     let mut all = sender;
     let mut other = receiver;
-    all.owns_once(board, &mut other);
-    all.learn(board, other);
+    all.owns_once(log, &mut other);
+    all.learn(log, other);
     all.holds();
-    all.owns_all(board);
+    all.owns_all(log);
 }
 
 /// That a thread sent these messages by this pass.
 #[derive(Drop)]
-struct Sent<T, J: Naming> {
+struct Sent<T, J: LogId> {
     messages: Snapshot<Vec<T>>,
     pass: Snapshot<Pass<T, J>>,
 }
 
-impl<T, J: Naming> Promise<Answer<Pass<T, J>>> for Sent<T, J> {
+impl<T, J: LogId> Promise<Answer<Pass<T, J>>> for Sent<T, J> {
     ghost kept_by = { λ p answer. IfOk answer (λ sender. Tells p.messages.value.items [] sender
         × (sender.share ≡ p.pass.value.share)) };
 }
 
 /// That a thread received so many messages by this pass.
 #[derive(Drop)]
-struct Received<T, J: Naming> {
+struct Received<T, J: LogId> {
     pass: Snapshot<Pass<T, J>>,
     count: usize,
 }
 
-impl<T, J: Naming> Promise<Answer<(Vec<T>, Pass<T, J>)>> for Received<T, J> {
+impl<T, J: LogId> Promise<Answer<(Vec<T>, Pass<T, J>)>> for Received<T, J> {
     ghost kept_by = { λ p answer. IfOk answer (λ r. Tells [] r.0.items r.1
         × (r.1.share ≡ p.pass.value.share) × (length r.0.items ≡ p.count)) };
 }
 
 /// The pass, where the other thread was started. Where it was not the channel is closed, so that nobody waits
 /// on it any longer.
-pub(crate) fn started_with<T: Drop, J: Naming, R: Wait>(
+pub(crate) fn started_with<T: Drop, J: LogId, R: Wait>(
     rt: &R,
     channel: &Channel<T, J>,
     mut rest: Pass<T, J>,
@@ -151,7 +151,7 @@ pub(crate) fn sending<T, J, R, G, B>(
 ) -> Answer<(Pass<T, J>, B)>
 where
     T: Drop + Send,
-    J: Naming + Send + Sync,
+    J: LogId + Send + Sync,
     R: Threads + Wait + Sync,
     G: FnOnce(Answer<()>) -> Answer<B>,
     B: Drop,
@@ -184,7 +184,7 @@ pub(crate) fn receiving<T, J, R, G, B>(
 ) -> Answer<((Vec<T>, Pass<T, J>), B)>
 where
     T: Drop + Send,
-    J: Naming + Send + Sync,
+    J: LogId + Send + Sync,
     R: Threads + Wait + Sync,
     G: FnOnce(Answer<()>) -> Answer<B>,
     B: Drop,
@@ -207,7 +207,7 @@ where
 }
 
 /// Lets one thread send the messages and another receive them, on a channel whose only pass this is.
-fn between<T: Drop + Send, J: Naming + Send + Sync, R: Threads + Wait + Sync>(
+fn between<T: Drop + Send, J: LogId + Send + Sync, R: Threads + Wait + Sync>(
     rt: &R,
     alloc: Global,
     channel: &Channel<T, J>,
@@ -218,7 +218,7 @@ fn between<T: Drop + Send, J: Naming + Send + Sync, R: Threads + Wait + Sync>(
     ensures exchanged { IfOk result (λ got. got.items ≡ messages.items) }
 {
     let mut sends = pass;
-    let receives = sends.again(channel.board());
+    let receives = sends.again(channel.log());
     let count = messages.len();
     let (sender, (got, receiver)) = sending(
         rt,
@@ -239,10 +239,10 @@ fn between<T: Drop + Send, J: Naming + Send + Sync, R: Threads + Wait + Sync>(
 }
 
 /// A channel of this capacity, or without limit, and its first pass.
-pub(crate) fn channel_of<T: Drop, J: Naming>(
+pub(crate) fn channel_of<T: Drop, J: LogId>(
     alloc: Global,
     capacity: Option<usize>,
-    opened: Opened<Call<T>>,
+    opened: NewLog<Call<T>>,
 ) -> Result<(Channel<T, J>, Pass<T, J>), ExchangeError>
     requires name { table_of opened ≡ J.table }
     requires capacity { J.capacity ≡ capacity }
@@ -267,13 +267,13 @@ pub(crate) fn channel_of<T: Drop, J: Naming>(
 ///
 /// # Examples
 /// ```text
-/// exchanged::<_, Brand, _>(&rt, alloc, Some(4), Opened::new(alloc)?, messages)   answers  Ok of the same list
+/// exchanged::<_, Brand, _>(&rt, alloc, Some(4), NewLog::new(alloc)?, messages)   answers  Ok of the same list
 /// ```
-pub fn exchanged<T: Drop + Send, J: Naming + Send + Sync, R: Threads + Wait + Sync>(
+pub fn exchanged<T: Drop + Send, J: LogId + Send + Sync, R: Threads + Wait + Sync>(
     rt: &R,
     alloc: Global,
     capacity: Option<usize>,
-    opened: Opened<Call<T>>,
+    opened: NewLog<Call<T>>,
     messages: Vec<T>,
 ) -> Result<Vec<T>, ExchangeError>
     requires name { table_of opened ≡ J.table }

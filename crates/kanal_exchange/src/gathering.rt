@@ -3,22 +3,22 @@
 //! When the three threads have ended, their passes have all of the right to make calls between them. So what was
 //! received is a merge of what the two sent.
 ghost use Rattle.std.specs.Prelude.{◌≡◌, ◌+◌, List, [], IfOk, length};
-ghost use Rattle.kanal_board.specs.Boards.{table_of};
-ghost use Rattle.kanal_board.specs.Shares.{IsWhole, both, half, whole};
-ghost use Rattle.kanal_board.specs.Views.{known};
+ghost use Rattle.kanal_log.specs.Logs.{table_of};
+ghost use Rattle.kanal_log.specs.Shares.{IsWhole, both, half, whole};
+ghost use Rattle.kanal_log.specs.Views.{known};
 ghost use Rattle.kanal_exchange.specs.Merges.{IsMerge};
 ghost use Rattle.kanal_exchange.specs.Tales.{Tells};
 
 use crate::error::{Answer, ExchangeError};
 use crate::exchange::{channel_of, receive_all, sending, started_with};
-use kanal_one_history::{Call, Channel, Naming, Opened, Pass};
+use kanal_one_history::{Call, Channel, LogId, NewLog, Pass};
 use std::alloc::Global;
 use std::sync::Wait;
 use std::thread::Threads;
 
 /// Says of three threads that have ended, and whose passes have all of the right to make calls between them:
 /// what the one received, if it is as much as the others sent, is a merge of what they sent. It makes no call.
-fn overseen<T: Drop, J: Naming>(
+fn overseen<T: Drop, J: LogId>(
     channel: &Channel<T, J>,
     one: Pass<T, J>,
     two: Pass<T, J>,
@@ -29,21 +29,21 @@ fn overseen<T: Drop, J: Naming>(
         → Tells [] got receiver → length got ≡ length first + length second
         → IsMerge got first second }
 {
-    let board = channel.board();
+    let log = channel.log();
     let mut all = one;
     let mut two = two;
     let mut other = receiver;
-    all.owns_once(board, &mut two);
-    all.owns_once(board, &mut other);
-    two.owns_once(board, &mut other);
-    all.learn(board, two);
-    all.learn(board, other);
+    all.owns_once(log, &mut two);
+    all.owns_once(log, &mut other);
+    two.owns_once(log, &mut other);
+    all.learn(log, two);
+    all.learn(log, other);
     all.holds();
-    all.owns_all(board);
+    all.owns_all(log);
 }
 
 /// Lets a thread send the messages, and receives as many as are to come.
-fn send_and_receive<T: Drop + Send, J: Naming + Send + Sync, R: Threads + Wait + Sync>(
+fn send_and_receive<T: Drop + Send, J: LogId + Send + Sync, R: Threads + Wait + Sync>(
     rt: &R,
     alloc: Global,
     channel: &Channel<T, J>,
@@ -75,7 +75,7 @@ fn send_and_receive<T: Drop + Send, J: Naming + Send + Sync, R: Threads + Wait +
 }
 
 /// Lets two threads send their messages and another receive all, on a channel whose only pass this is.
-fn gathered_on<T: Drop + Send, J: Naming + Send + Sync, R: Threads + Wait + Sync>(
+fn gathered_on<T: Drop + Send, J: LogId + Send + Sync, R: Threads + Wait + Sync>(
     rt: &R,
     alloc: Global,
     channel: &Channel<T, J>,
@@ -90,8 +90,8 @@ fn gathered_on<T: Drop + Send, J: Naming + Send + Sync, R: Threads + Wait + Sync
         return Err(ExchangeError::NoMemory);
     };
     let mut one = pass;
-    let mut two = one.again(channel.board());
-    let other = two.again(channel.board());
+    let mut two = one.again(channel.log());
+    let other = two.again(channel.log());
     let (one, (two, (got, receiver))) = sending(
         rt,
         channel,
@@ -127,13 +127,13 @@ fn gathered_on<T: Drop + Send, J: Naming + Send + Sync, R: Threads + Wait + Sync
 ///
 /// # Examples
 /// ```text
-/// gathered::<_, Brand, _>(&rt, alloc, None, Opened::new(alloc)?, evens, odds)   answers  Ok of a merge of the two
+/// gathered::<_, Brand, _>(&rt, alloc, None, NewLog::new(alloc)?, evens, odds)   answers  Ok of a merge of the two
 /// ```
-pub fn gathered<T: Drop + Send, J: Naming + Send + Sync, R: Threads + Wait + Sync>(
+pub fn gathered<T: Drop + Send, J: LogId + Send + Sync, R: Threads + Wait + Sync>(
     rt: &R,
     alloc: Global,
     capacity: Option<usize>,
-    opened: Opened<Call<T>>,
+    opened: NewLog<Call<T>>,
     first: Vec<T>,
     second: Vec<T>,
 ) -> Result<Vec<T>, ExchangeError>

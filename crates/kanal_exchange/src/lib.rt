@@ -22,6 +22,6 @@ pub use error::ExchangeError;
 pub use exchange::exchanged;
 pub use gathering::gathered;
 pub use kanal_core::error::{NewError, ReceiveError, SendError};
-pub use kanal_one_history::{Call, Naming, Opened};
+pub use kanal_one_history::{Call, LogId, NewLog};
 pub use pipeline::{Stage, mapped, mapped_by_two};
 pub use tasks::{exchanged_from_task, exchanged_to_task};

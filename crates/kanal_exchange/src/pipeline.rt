@@ -3,16 +3,16 @@
 //! Who receives by a stage says what was made of the messages that came by its pass. So what the whole makes follows
 //! from what each channel's two passes tell, and one stage more is one thread and one channel more.
 ghost use Rattle.std.specs.Prelude.{◌≡◌, [], Ok, IfOk, IfSome, map};
-ghost use Rattle.kanal_board.specs.Boards.{table_of};
-ghost use Rattle.kanal_board.specs.Shares.{half, whole};
-ghost use Rattle.kanal_board.specs.Views.{known};
+ghost use Rattle.kanal_log.specs.Logs.{table_of};
+ghost use Rattle.kanal_log.specs.Shares.{half, whole};
+ghost use Rattle.kanal_log.specs.Views.{known};
 ghost use Rattle.kanal_exchange.specs.Stages.{Handed, Made, Staged, by_two};
 ghost use Rattle.kanal_exchange.specs.Tales.{Tells};
 
 use crate::error::{Answer, ExchangeError};
 use crate::exchange::{channel_of, overseen, receiving, sending, started_with};
 use crate::threads::both;
-use kanal_one_history::{Call, Channel, Naming, Opened, Pass};
+use kanal_one_history::{Call, Channel, LogId, NewLog, Pass};
 use std::alloc::Global;
 use std::snapshot::Snapshot;
 use std::sync::Wait;
@@ -51,7 +51,7 @@ pub trait Stage {
 }
 
 /// Receives one message, and sends on what the stage makes of it.
-fn hand_on<S: Stage, J: Naming, K: Naming, R: Wait>(
+fn hand_on<S: Stage, J: LogId, K: LogId, R: Wait>(
     rt: &R,
     stage: &S,
     before: &Channel<S::Input, J>,
@@ -73,7 +73,7 @@ fn hand_on<S: Stage, J: Naming, K: Naming, R: Wait>(
 /// # Errors
 /// Where it was not: the channel before is closed then, on which a thread may wait. Where a receive, the stage
 /// or a send is refused: both channels are closed then.
-fn hand_on_all<S: Stage, J: Naming, K: Naming, R: Wait>(
+fn hand_on_all<S: Stage, J: LogId, K: LogId, R: Wait>(
     rt: &R,
     stage: &S,
     before: &Channel<S::Input, J>,
@@ -111,8 +111,8 @@ fn receive_by_stage<S, J, K, R>(
 ) -> Result<(Vec<S::Output>, Pass<S::Input, J>), ExchangeError>
 where
     S: Stage + Sync,
-    J: Naming + Send + Sync,
-    K: Naming + Send + Sync,
+    J: LogId + Send + Sync,
+    K: LogId + Send + Sync,
     R: Threads + Wait + Sync,
     requires fresh { hears.own ≡ [] }
     requires first { first ≡ known [] [] whole }
@@ -121,7 +121,7 @@ where
     ensures share { IfOk result (λ r. r.1.share ≡ hears.share) }
 {
     let mut tells = first;
-    let reads = tells.again(behind.board());
+    let reads = tells.again(behind.log());
     let hand_on = move |started: Answer<()>| -> Answer<(Pass<S::Input, J>, Pass<S::Output, K>)>
         requires { (hears.own ≡ []) × (tells ≡ known [] [] (half whole)) }
         ensures { IfOk result (λ r. Staged (S.value stage.entry.now) count r.0 r.1
@@ -146,15 +146,15 @@ fn mapped_on<S, J, K, R>(
 ) -> Result<Vec<S::Output>, ExchangeError>
 where
     S: Stage + Sync,
-    J: Naming + Send + Sync,
-    K: Naming + Send + Sync,
+    J: LogId + Send + Sync,
+    K: LogId + Send + Sync,
     R: Threads + Wait + Sync,
     requires before { pass ≡ known [] [] whole }
     requires behind { first ≡ known [] [] whole }
     ensures mapped { IfOk result (λ made. made.items ≡ map (S.value stage.now) messages.items) }
 {
     let mut sends = pass;
-    let hears = sends.again(before.board());
+    let hears = sends.again(before.log());
     let count = messages.len();
     let receive = move |started: Answer<()>| -> Answer<(Vec<S::Output>, Pass<S::Input, J>)>
         requires { (hears ≡ known [] [] (half whole)) × (first ≡ known [] [] whole) }
@@ -192,15 +192,15 @@ pub fn mapped<S, J, K, R>(
     alloc: Global,
     stage: &S,
     capacity: Option<usize>,
-    opened: Opened<Call<S::Input>>,
+    opened: NewLog<Call<S::Input>>,
     capacity_behind: Option<usize>,
-    opened_behind: Opened<Call<S::Output>>,
+    opened_behind: NewLog<Call<S::Output>>,
     messages: Vec<S::Input>,
 ) -> Result<Vec<S::Output>, ExchangeError>
 where
     S: Stage + Sync,
-    J: Naming + Send + Sync,
-    K: Naming + Send + Sync,
+    J: LogId + Send + Sync,
+    K: LogId + Send + Sync,
     R: Threads + Wait + Sync,
     requires name { table_of opened ≡ J.table }
     requires capacity { J.capacity ≡ capacity }
@@ -215,13 +215,13 @@ where
 
 /// That a thread received by this stage what became of so many messages, which came by this pass.
 #[derive(Drop)]
-struct Staging<S: Stage, J: Naming> {
+struct Staging<S: Stage, J: LogId> {
     stage: Snapshot<S>,
     pass: Snapshot<Pass<S::Input, J>>,
     count: usize,
 }
 
-impl<S: Stage, J: Naming> Promise<Answer<(Vec<S::Output>, Pass<S::Input, J>)>> for Staging<S, J> {
+impl<S: Stage, J: LogId> Promise<Answer<(Vec<S::Output>, Pass<S::Input, J>)>> for Staging<S, J> {
     ghost kept_by = { λ p answer. IfOk answer (λ r. Made (λ messages. map (S.value p.stage.value) messages) p.count
         r.0.items r.1 × (r.1.share ≡ p.pass.value.share)) };
 }
@@ -241,8 +241,8 @@ fn receiving_by_stage<S, J, K, R, G, B>(
 ) -> Answer<((Vec<S::Output>, Pass<S::Input, J>), B)>
 where
     S: Stage + Sync,
-    J: Naming + Send + Sync,
-    K: Naming + Send + Sync,
+    J: LogId + Send + Sync,
+    K: LogId + Send + Sync,
     R: Threads + Wait + Sync,
     G: FnOnce(Answer<()>) -> Answer<B>,
     B: Drop,
@@ -282,9 +282,9 @@ fn receive_by_two<S, U, J, K, L, R>(
 where
     S: Stage + Sync,
     U: Stage<Input = S::Output> + Sync,
-    J: Naming + Send + Sync,
-    K: Naming + Send + Sync,
-    L: Naming + Send + Sync,
+    J: LogId + Send + Sync,
+    K: LogId + Send + Sync,
+    L: LogId + Send + Sync,
     R: Threads + Wait + Sync,
     requires fresh { hears.own ≡ [] }
     requires first { (first ≡ known [] [] whole) × (second ≡ known [] [] whole) }
@@ -292,7 +292,7 @@ where
     ensures share { IfOk result (λ r. r.1.share ≡ hears.share) }
 {
     let mut tells = first;
-    let reads = tells.again(between.board());
+    let reads = tells.again(between.log());
     let hand_on = move |started: Answer<()>| -> Answer<(Pass<S::Input, J>, Pass<S::Output, K>)>
         requires { (hears.own ≡ []) × (tells ≡ known [] [] (half whole)) }
         ensures { IfOk result (λ r. Staged (S.value stage.entry.now) count r.0 r.1
@@ -323,15 +323,15 @@ fn mapped_by_two_on<S, U, J, K, L, R>(
 where
     S: Stage + Sync,
     U: Stage<Input = S::Output> + Sync,
-    J: Naming + Send + Sync,
-    K: Naming + Send + Sync,
-    L: Naming + Send + Sync,
+    J: LogId + Send + Sync,
+    K: LogId + Send + Sync,
+    L: LogId + Send + Sync,
     R: Threads + Wait + Sync,
     requires first { (pass ≡ known [] [] whole) × (first ≡ known [] [] whole) × (second ≡ known [] [] whole) }
     ensures mapped { IfOk result (λ made. made.items ≡ by_two (S.value stage.now) (U.value after.now) messages.items) }
 {
     let mut sends = pass;
-    let hears = sends.again(before.board());
+    let hears = sends.again(before.log());
     let count = messages.len();
     let receive = move |started: Answer<()>| -> Answer<(Vec<U::Output>, Pass<S::Input, J>)>
         requires { (hears ≡ known [] [] (half whole)) × (first ≡ known [] [] whole) × (second ≡ known [] [] whole) }
@@ -374,19 +374,19 @@ pub fn mapped_by_two<S, U, J, K, L, R>(
     stage: &S,
     after: &U,
     capacity: Option<usize>,
-    opened: Opened<Call<S::Input>>,
+    opened: NewLog<Call<S::Input>>,
     capacity_between: Option<usize>,
-    opened_between: Opened<Call<S::Output>>,
+    opened_between: NewLog<Call<S::Output>>,
     capacity_behind: Option<usize>,
-    opened_behind: Opened<Call<U::Output>>,
+    opened_behind: NewLog<Call<U::Output>>,
     messages: Vec<S::Input>,
 ) -> Result<Vec<U::Output>, ExchangeError>
 where
     S: Stage + Sync,
     U: Stage<Input = S::Output> + Sync,
-    J: Naming + Send + Sync,
-    K: Naming + Send + Sync,
-    L: Naming + Send + Sync,
+    J: LogId + Send + Sync,
+    K: LogId + Send + Sync,
+    L: LogId + Send + Sync,
     R: Threads + Wait + Sync,
     requires name { table_of opened ≡ J.table }
     requires capacity { J.capacity ≡ capacity }

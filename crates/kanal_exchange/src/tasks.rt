@@ -3,9 +3,9 @@
 //! A task makes its calls one after the other. The executor may refuse a future, whose pass is gone then; so a second
 //! pass lies beside it, which closes the channel.
 ghost use Rattle.std.specs.Prelude.{◌≡◌, ◌∷◌, [], IfOk, length};
-ghost use Rattle.kanal_board.specs.Boards.{table_of};
-ghost use Rattle.kanal_board.specs.Shares.{both, half, whole};
-ghost use Rattle.kanal_board.specs.Views.{known};
+ghost use Rattle.kanal_log.specs.Logs.{table_of};
+ghost use Rattle.kanal_log.specs.Shares.{both, half, whole};
+ghost use Rattle.kanal_log.specs.Views.{known};
 ghost use Rattle.kanal_one_history.specs.Puts.{Exchanges};
 ghost use Rattle.kanal_exchange.specs.Tales.{Tells};
 
@@ -13,14 +13,14 @@ use crate::error::{Answer, ExchangeError};
 use crate::exchange::{channel_of, overseen, receiving, sending, started_with};
 use futures::executor::block_on;
 use kanal_futures::{recv_in_task, send_in_task};
-use kanal_one_history::{Call, Channel, Naming, Opened, Pass};
+use kanal_one_history::{Call, Channel, LogId, NewLog, Pass};
 use std::alloc::{AllocGlobal, Global};
 use std::random::RandomSource;
 use std::sync::Wait;
 use std::thread::Threads;
 
 /// Sends one message in a task.
-fn send_one<T: Drop, J: Naming, R: Wait + RandomSource + AllocGlobal>(
+fn send_one<T: Drop, J: LogId, R: Wait + RandomSource + AllocGlobal>(
     rt: &R,
     channel: &Channel<T, J>,
     pass: Pass<T, J>,
@@ -40,7 +40,7 @@ fn send_one<T: Drop, J: Naming, R: Wait + RandomSource + AllocGlobal>(
 }
 
 /// Receives one message in a task.
-fn receive_one<T: Drop, J: Naming, R: Wait + RandomSource + AllocGlobal>(
+fn receive_one<T: Drop, J: LogId, R: Wait + RandomSource + AllocGlobal>(
     rt: &R,
     channel: &Channel<T, J>,
     pass: Pass<T, J>,
@@ -58,7 +58,7 @@ fn receive_one<T: Drop, J: Naming, R: Wait + RandomSource + AllocGlobal>(
 }
 
 /// Sends all messages in a task, in order.
-fn send_each<T: Drop, J: Naming, R: Wait + RandomSource + AllocGlobal>(
+fn send_each<T: Drop, J: LogId, R: Wait + RandomSource + AllocGlobal>(
     rt: &R,
     channel: &Channel<T, J>,
     mut pass: Pass<T, J>,
@@ -75,7 +75,7 @@ fn send_each<T: Drop, J: Naming, R: Wait + RandomSource + AllocGlobal>(
 }
 
 /// Receives so many messages in a task.
-fn receive_each<T: Drop, J: Naming, R: Wait + RandomSource + AllocGlobal>(
+fn receive_each<T: Drop, J: LogId, R: Wait + RandomSource + AllocGlobal>(
     rt: &R,
     alloc: Global,
     channel: &Channel<T, J>,
@@ -97,7 +97,7 @@ fn receive_each<T: Drop, J: Naming, R: Wait + RandomSource + AllocGlobal>(
 }
 
 /// The same, and the channel is closed where a send or the task is refused.
-fn send_all_in_task<T: Drop, J: Naming, R: Wait + RandomSource + AllocGlobal>(
+fn send_all_in_task<T: Drop, J: LogId, R: Wait + RandomSource + AllocGlobal>(
     rt: &R,
     channel: &Channel<T, J>,
     pass: Pass<T, J>,
@@ -108,11 +108,11 @@ fn send_all_in_task<T: Drop, J: Naming, R: Wait + RandomSource + AllocGlobal>(
     ensures share { IfOk result (λ p. p.share ≡ both (half pass.share) (half pass.share)) }
 {
     let mut pass = pass;
-    let mut beside = pass.again(channel.board());
+    let mut beside = pass.again(channel.log());
     match send_each(rt, channel, pass, messages) {
         Ok(sender) => {
             let mut sender = sender;
-            sender.learn(channel.board(), beside);
+            sender.learn(channel.log(), beside);
             Ok(sender)
         },
         Err(refused) => {
@@ -124,7 +124,7 @@ fn send_all_in_task<T: Drop, J: Naming, R: Wait + RandomSource + AllocGlobal>(
 
 /// The same, and the channel is closed where a receive or the task is refused, or there is no memory for the
 /// list.
-fn receive_all_in_task<T: Drop, J: Naming, R: Wait + RandomSource + AllocGlobal>(
+fn receive_all_in_task<T: Drop, J: LogId, R: Wait + RandomSource + AllocGlobal>(
     rt: &R,
     alloc: Global,
     channel: &Channel<T, J>,
@@ -137,11 +137,11 @@ fn receive_all_in_task<T: Drop, J: Naming, R: Wait + RandomSource + AllocGlobal>
     ensures count { IfOk result (λ r. length r.0.items ≡ count) }
 {
     let mut pass = pass;
-    let mut beside = pass.again(channel.board());
+    let mut beside = pass.again(channel.log());
     match receive_each(rt, alloc, channel, pass, count) {
         Ok((got, receiver)) => {
             let mut receiver = receiver;
-            receiver.learn(channel.board(), beside);
+            receiver.learn(channel.log(), beside);
             Ok((got, receiver))
         },
         Err(refused) => {
@@ -161,13 +161,13 @@ fn to_task<T, J, R>(
 ) -> Result<Vec<T>, ExchangeError>
 where
     T: Drop + Send,
-    J: Naming + Send + Sync,
+    J: LogId + Send + Sync,
     R: Threads + Wait + RandomSource + AllocGlobal + Sync,
     requires first { pass ≡ known [] [] whole }
     ensures exchanged { IfOk result (λ got. got.items ≡ messages.items) }
 {
     let mut sends = pass;
-    let receives = sends.again(channel.board());
+    let receives = sends.again(channel.log());
     let count = messages.len();
     let (sender, (got, receiver)) = sending(
         rt,
@@ -198,13 +198,13 @@ fn from_task<T, J, R>(
 ) -> Result<Vec<T>, ExchangeError>
 where
     T: Drop + Send,
-    J: Naming + Send + Sync,
+    J: LogId + Send + Sync,
     R: Threads + Wait + RandomSource + AllocGlobal + Sync,
     requires first { pass ≡ known [] [] whole }
     ensures exchanged { IfOk result (λ got. got.items ≡ messages.items) }
 {
     let mut sends = pass;
-    let receives = sends.again(channel.board());
+    let receives = sends.again(channel.log());
     let count = messages.len();
     let ((got, receiver), sender) = receiving(
         rt,
@@ -242,12 +242,12 @@ pub fn exchanged_to_task<T, J, R>(
     rt: &R,
     alloc: Global,
     capacity: Option<usize>,
-    opened: Opened<Call<T>>,
+    opened: NewLog<Call<T>>,
     messages: Vec<T>,
 ) -> Result<Vec<T>, ExchangeError>
 where
     T: Drop + Send,
-    J: Naming + Send + Sync,
+    J: LogId + Send + Sync,
     R: Threads + Wait + RandomSource + AllocGlobal + Sync,
     requires name { table_of opened ≡ J.table }
     requires capacity { J.capacity ≡ capacity }
@@ -274,12 +274,12 @@ pub fn exchanged_from_task<T, J, R>(
     rt: &R,
     alloc: Global,
     capacity: Option<usize>,
-    opened: Opened<Call<T>>,
+    opened: NewLog<Call<T>>,
     messages: Vec<T>,
 ) -> Result<Vec<T>, ExchangeError>
 where
     T: Drop + Send,
-    J: Naming + Send + Sync,
+    J: LogId + Send + Sync,
     R: Threads + Wait + RandomSource + AllocGlobal + Sync,
     requires name { table_of opened ≡ J.table }
     requires capacity { J.capacity ≡ capacity }

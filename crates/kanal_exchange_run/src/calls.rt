@@ -2,7 +2,7 @@
 //!
 //! The name of each channel is picked here, in proofs alone.
 use kanal_exchange::{
-    Call, ExchangeError, Opened, Stage, exchanged, exchanged_from_task, exchanged_to_task,
+    Call, ExchangeError, NewLog, Stage, exchanged, exchanged_from_task, exchanged_to_task,
     gathered, mapped, mapped_by_two,
 };
 use std::alloc::{AllocGlobal, Global};
@@ -12,8 +12,8 @@ use std::sync::Wait;
 use std::thread::Threads;
 
 /// The history of a channel that is to be made.
-fn opened<T: Drop>(alloc: Global) -> Result<Opened<Call<T>>, ExchangeError> {
-    Opened::new(alloc).map_err(|_refused| ExchangeError::NoMemory)
+fn opened<T: Drop>(alloc: Global) -> Result<NewLog<Call<T>>, ExchangeError> {
+    NewLog::new(alloc).map_err(|_refused| ExchangeError::NoMemory)
 }
 
 /// The messages, sent by one thread and received by another.

@@ -1,7 +1,7 @@
 -- Where a call in a task is, what it began with, and what is left of a poll.
 use Rattle.std.specs.Prelude.{◌≡◌, ℕ, Bool, true, false, Option, Some, None}
 use Rattle.kanal_channel.specs.Locks.{IsQuiet}
-use Rattle.kanal_futures.specs.declared.asks.Opening.{Opening}
+use Rattle.kanal_futures.specs.declared.operation.Opening.{Opening}
 use Rattle.kanal_futures.specs.declared.progress.Progress.{Progress}
 use Rattle.kanal_futures.specs.declared.progress.Progress.TheVariants.{Zero, Waiting, Done}
 use Rattle.kanal_futures.specs.declared.progress.Rest.{Rest}

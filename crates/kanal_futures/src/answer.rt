@@ -4,7 +4,7 @@
 ghost use Rattle.std.specs.Prelude.{◌≡◌};
 ghost use Rattle.kanal_futures.specs.Answers.{Answers};
 
-use crate::asks::{Asks, Opening};
+use crate::operation::{Asks, Opening};
 use kanal_state::History;
 use std::marker::Model;
 

@@ -11,7 +11,7 @@ ghost use Rattle.kanal_futures.specs.Tasks.{Fits, begun_with, is_fresh, passes};
 ghost use Rattle.kanal_futures.specs.Futures.{IsPoll, IsPolled, call_begun, call_kept, call_source, call_waits};
 
 use crate::answer::Answered;
-use crate::asks::{Asks, Opening};
+use crate::operation::{Asks, Opening};
 use crate::progress::{Progress, Rest};
 use crate::started::Started;
 use crate::wakers::Wakers;
@@ -125,7 +125,7 @@ impl<'a, T: Drop, H: History<T>, M: Drop, A: Asks<T, M>> TaskCall<'a, T, H, M, A
         let Some((pass, asked)) = self.state.take() else {
             return Err(Rest::Begun);
         };
-        let Some(mut locked) = self.shared.try_lock() else {
+        let Some(mut locked) = self.shared.try_lock_raw() else {
             return Err(Rest::Refused(pass, asked));
         };
         if !self.shared.is_quiet() {
@@ -133,9 +133,9 @@ impl<'a, T: Drop, H: History<T>, M: Drop, A: Asks<T, M>> TaskCall<'a, T, H, M, A
         }
         let opening = Opening::of(&pass, &asked);
         let mut pass = pass;
-        match A::at_once(&mut locked, self.shared.board(), &mut pass, asked) {
+        match A::at_once(&mut locked, self.shared.log(), &mut pass, asked) {
             Ok(answer) => {
-                locked.give_back_quiet();
+                locked.unlock_quiet();
                 Ok(Answered::new(opening, pass, answer))
             },
             Err(asked) => Err(Rest::Held(locked, pass, asked)),
@@ -189,7 +189,7 @@ impl<'a, T: Drop, H: History<T>, M: Drop, A: Asks<T, M>> TaskCall<'a, T, H, M, A
         requires over { call_begun self.old ≡ None }
         ensures polled { IsPolled (pass, asked) cx.old cx.new self.old self.new result }
     {
-        match locked.catch_up() {
+        match locked.apply_notices() {
             Some(locked) => self.begin_held(locked, pass, asked, cx),
             None => self.retry(pass, asked, cx),
         }

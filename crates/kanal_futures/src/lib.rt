@@ -6,14 +6,14 @@
 //! `Receiving` and `Sending` carry a pass between their polls, and answer with it: `into_parts` says in the
 //! history's own words which call the pass made. They are one future, in `call`. `ReceiveFuture` and
 //! `SendFuture` answer without the pass, which has no content, for handles that have none. They are one, too,
-//! in `plain`. What a send and a receive differ in is said by `asks`. `ReceiveStream` is one receive after the
+//! in `plain`. What a send and a receive differ in is said by `operation`. `ReceiveStream` is one receive after the
 //! other, by a pass that it carries.
 #![tactic(auto)]
 
 mod answer;
-mod asks;
 mod call;
 mod earlier;
+mod operation;
 mod plain;
 mod progress;
 mod receiving;

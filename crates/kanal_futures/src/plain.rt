@@ -12,8 +12,8 @@ ghost use Rattle.kanal_futures.specs.Plain.{HasAnswered, call_of, future_source,
 ghost use Rattle.kanal_futures.specs.Tasks.{Fits, begun_with};
 
 use crate::answer::Answered;
-use crate::asks::Asks;
 use crate::call::TaskCall;
+use crate::operation::Asks;
 use crate::progress::Rest;
 use futures::Future;
 use futures::task::{Context, Poll};

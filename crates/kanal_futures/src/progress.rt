@@ -5,7 +5,7 @@
 ghost use Rattle.std.specs.Prelude.{◌≡◌, false, true, IfNone, IfSome, IsSome, Some, None};
 ghost use Rattle.kanal_futures.specs.Tasks.{answered_by, begun_by, is_fresh, is_waiting, passes};
 
-use crate::asks::Asks;
+use crate::operation::Asks;
 use crate::started::Started;
 use kanal_channel::{Locked, Shared};
 use kanal_state::History;

@@ -5,7 +5,7 @@ ghost use Rattle.std.specs.Prelude.{◌≡◌, ◌∷◌, [], IfErr, IfOk, Err, 
 ghost use Rattle.kanal_channel.specs.Locks.{IsQuiet};
 ghost use Rattle.kanal_core.specs.declared.error.ReceiveError.{ReceiveError};
 ghost use Rattle.kanal_events.specs.declared.event.Event.TheVariants.{Recv};
-ghost use Rattle.kanal_events.specs.Made.{may_wait};
+ghost use Rattle.kanal_events.specs.StepResult.{may_wait};
 ghost use Rattle.kanal_state.specs.Handles.{Receives};
 ghost use Rattle.kanal_state.specs.Results.{received_after, received_by};
 ghost use Rattle.kanal_futures.specs.Answers.{Answers};
@@ -13,8 +13,8 @@ ghost use Rattle.kanal_futures.specs.Futures.{call_begun};
 ghost use Rattle.kanal_futures.specs.Plain.{is_over};
 
 use crate::answer::Answered;
-use crate::asks::Asks;
 use crate::call::TaskCall;
+use crate::operation::Asks;
 use crate::plain::PlainFuture;
 use kanal_channel::{Locked, Shared};
 use kanal_core::error::ReceiveError;
@@ -49,7 +49,7 @@ impl<T> Asks<T, ()> for OfReceive {
     #[inline(always)]
     fn at_once<H: History<T>>(
         locked: &mut Locked<'_, T, H>,
-        board: &H::Board,
+        log: &H::Log,
         pass: &mut H::Pass,
         _asked: (),
     ) -> Result<Result<T, ReceiveError>, ()>
@@ -60,7 +60,7 @@ impl<T> Asks<T, ()> for OfReceive {
         ensures refused { IfErr result (λ back. (back ≡ _asked) × (pass.new ≡ pass.old)) }
         ensures quiet { IsQuiet locked.old → IsQuiet locked.new }
     {
-        match locked.state.pop(board, pass) {
+        match locked.state.pop(log, pass) {
             Some(message) => Ok(Ok(message)),
             None => Err(()),
         }
@@ -120,7 +120,7 @@ impl<T: Drop, H: History<T>> Received<T, H> {
 /// makes no call and asks for another poll: at once where the channel has no buffer, and else after a pause,
 /// which is longer with each such poll in a row.
 ///
-/// A drop waits for nobody, too: a started wait is withdrawn by a call that is nobody's, and a message that
+/// A drop waits for nobody, too: a started wait is withdrawn by an internal call, and a message that
 /// was handed over before is dropped. The pass is gone then.
 pub type Receiving<'a, T, H> = TaskCall<'a, T, H, (), OfReceive>;
 

@@ -5,7 +5,7 @@ ghost use Rattle.std.specs.Prelude.{◌≡◌, ◌∷◌, [], IfErr, IfOk, Err, 
 ghost use Rattle.kanal_channel.specs.Locks.{IsQuiet};
 ghost use Rattle.kanal_core.specs.declared.error.SendError.{SendError};
 ghost use Rattle.kanal_events.specs.declared.event.Event.TheVariants.{Send};
-ghost use Rattle.kanal_events.specs.Made.{may_wait};
+ghost use Rattle.kanal_events.specs.StepResult.{may_wait};
 ghost use Rattle.kanal_state.specs.Handles.{Sends};
 ghost use Rattle.kanal_state.specs.Results.{sent_after, sent_by};
 ghost use Rattle.kanal_futures.specs.Answers.{Answers};
@@ -13,8 +13,8 @@ ghost use Rattle.kanal_futures.specs.Futures.{call_begun};
 ghost use Rattle.kanal_futures.specs.Plain.{message_in};
 
 use crate::answer::Answered;
-use crate::asks::Asks;
 use crate::call::TaskCall;
+use crate::operation::Asks;
 use crate::plain::PlainFuture;
 use kanal_channel::{Locked, Shared};
 use kanal_core::error::SendError;
@@ -49,7 +49,7 @@ impl<T> Asks<T, T> for OfSend {
     #[inline(always)]
     fn at_once<H: History<T>>(
         locked: &mut Locked<'_, T, H>,
-        board: &H::Board,
+        log: &H::Log,
         pass: &mut H::Pass,
         asked: T,
     ) -> Result<Result<(), SendError>, T>
@@ -60,7 +60,7 @@ impl<T> Asks<T, T> for OfSend {
         ensures refused { IfErr result (λ back. (back ≡ asked) × (pass.new ≡ pass.old)) }
         ensures quiet { IsQuiet locked.old → IsQuiet locked.new }
     {
-        locked.state.push(board, pass, asked)?;
+        locked.state.push(log, pass, asked)?;
         Ok(Ok(()))
     }
 
@@ -118,7 +118,7 @@ impl<T: Drop, H: History<T>> Sent<T, H> {
 /// lock the poll makes no call and asks for another poll: at once where the channel has no buffer, and else
 /// after a pause, which is longer with each such poll in a row.
 ///
-/// A drop waits for nobody, too: a message that waits is withdrawn by a call that is nobody's, and dropped.
+/// A drop waits for nobody, too: a message that waits is withdrawn by an internal call, and dropped.
 /// The pass is gone then.
 pub type Sending<'a, T, H> = TaskCall<'a, T, H, T, OfSend>;
 

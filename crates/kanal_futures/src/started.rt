@@ -6,17 +6,17 @@ ghost use Rattle.std.specs.Prelude.{◌≡◌, IfErr, IfOk, Some, true};
 ghost use Rattle.futures.specs.Task.{Covers, Keeps};
 ghost use Rattle.kanal_cell.specs.CellRule.{HasNotLeft};
 ghost use Rattle.kanal_cell.specs.CellEnds.{wait_view};
-ghost use Rattle.kanal_events.specs.Made.{may_wait};
+ghost use Rattle.kanal_events.specs.StepResult.{may_wait};
 ghost use Rattle.kanal_state.specs.Makes.{HasReplied, HasWaited};
 ghost use Rattle.kanal_state.specs.Waits.{IsWaiting};
 ghost use Rattle.kanal_channel.specs.Locks.{IsQuiet};
 ghost use Rattle.kanal_futures.specs.Tasks.{opened, source_of};
 
-use crate::asks::{Asks, Opening};
+use crate::operation::{Asks, Opening};
 use crate::wakers::Wakers;
 use futures::task::{Context, Poll};
 use kanal_cell::signal::WaitEnd;
-use kanal_channel::{CountedWait, Delivered, Locked, Shared};
+use kanal_channel::{CountedWait, Locked, Shared, WaitResult};
 use kanal_core::internal::{Outcome, Ticket};
 use kanal_events::event::{Event, Refusal, Reply};
 use kanal_state::History;
@@ -42,7 +42,7 @@ pub(crate) struct Started<T, H: History<T>, M, A: Asks<T, M>> {
     opening: Opening<H::Pass, M>,
     pass: H::Pass,
     counted: CountedWait,
-    end: WaitEnd<Delivered<T, H>>,
+    end: WaitEnd<WaitResult<T, H>>,
     asks: PhantomData<A>,
 }
 
@@ -65,7 +65,7 @@ impl<T: Drop, H: History<T>, M: Drop, A: Asks<T, M>> Started<T, H, M, A> {
         opening: Opening<H::Pass, M>,
         pass: H::Pass,
         counted: CountedWait,
-        end: WaitEnd<Delivered<T, H>>,
+        end: WaitEnd<WaitResult<T, H>>,
     ) -> Self
         requires unspent { HasNotLeft (wait_view end) }
         requires waits { IsWaiting H.words opening.pass.value pass (A.event opening.asked.value) counted }
@@ -86,7 +86,7 @@ impl<T: Drop, H: History<T>, M: Drop, A: Asks<T, M>> Started<T, H, M, A> {
     }
 
     /// What became of the wait, where it was settled.
-    fn poll(&mut self) -> Option<Delivered<T, H>>
+    fn poll(&mut self) -> Option<WaitResult<T, H>>
         ensures same { self.new ≡ self.old }
     {
         self.end.poll()
@@ -94,7 +94,7 @@ impl<T: Drop, H: History<T>, M: Drop, A: Asks<T, M>> Started<T, H, M, A> {
 
     /// The end of the call, where this became of its wait; where it is another's, which no run has shown, the
     /// wait goes on.
-    fn finish(self, board: &H::Board, delivered: Delivered<T, H>) -> Result<Settled<T, H, M>, Self>
+    fn finish(self, log: &H::Log, delivered: WaitResult<T, H>) -> Result<Settled<T, H, M>, Self>
         ensures begun { IfOk result (λ r. opened r.0 ≡ self) }
         ensures waited { IfOk result (λ r. HasWaited H.words self.0 r.1 (A.event self.1) r.2) }
         ensures lost { IfErr result (λ started. started ≡ self) }
@@ -106,7 +106,7 @@ impl<T: Drop, H: History<T>, M: Drop, A: Asks<T, M>> Started<T, H, M, A> {
             end,
             asks,
         } = self;
-        match counted.learn(board, &mut pass, delivered) {
+        match counted.learn(log, &mut pass, delivered) {
             Ok(outcome) => {
                 drop(end);
                 Ok((opening, pass, outcome))
@@ -141,7 +141,7 @@ impl<T: Drop, H: History<T>, M: Drop, A: Asks<T, M>> Started<T, H, M, A> {
             wakers.renew(shared, started.ticket(), cx);
             return Err(started);
         };
-        match started.finish(shared.board(), delivered) {
+        match started.finish(shared.log(), delivered) {
             Ok(settled) => Ok(settled),
             Err(started) => {
                 let _: Poll<()> = cx.yield_now();
@@ -150,7 +150,7 @@ impl<T: Drop, H: History<T>, M: Drop, A: Asks<T, M>> Started<T, H, M, A> {
         }
     }
 
-    /// Gives the wait up: nobody's call withdraws it, or a notice is left. It waits for nobody.
+    /// Gives the wait up: an internal call withdraws it, or a notice is left. It waits for nobody.
     #[cold]
     pub(crate) fn leave(self, shared: &Shared<T, H>) {
         let Started {
@@ -173,7 +173,7 @@ impl<T: Drop, H: History<T>, M: Drop, A: Asks<T, M>> Started<T, H, M, A> {
 fn let_go<T: Drop, H: History<T>>(
     shared: &Shared<T, H>,
     counted: CountedWait,
-    delivered: Delivered<T, H>,
+    delivered: WaitResult<T, H>,
 ) {
     if let Some(counted) = counted.told(&delivered) {
         shared.leave(counted);
@@ -182,7 +182,7 @@ fn let_go<T: Drop, H: History<T>>(
 }
 
 impl Wakers {
-    /// Makes a call under the lock that was got, and gives the lock back; where it must wait, its wait is
+    /// Makes a call under the lock that was got, and releases the lock; where it must wait, its wait is
     /// started.
     pub(crate) fn begin<T: Drop, H: History<T>, M: Drop, A: Asks<T, M>>(
         &self,
@@ -219,7 +219,7 @@ impl Wakers {
         pass: &mut H::Pass,
         event: Event<T>,
         cx: &mut Context<'_>,
-    ) -> Result<(CountedWait, WaitEnd<Delivered<T, H>>), Reply<T>>
+    ) -> Result<(CountedWait, WaitEnd<WaitResult<T, H>>), Reply<T>>
         requires waits { may_wait event ≡ true }
         requires quiet { IsQuiet locked }
         ensures begun { IfOk result (λ begun. IsWaiting H.words pass.old pass.new event begun.0) }
@@ -229,11 +229,11 @@ impl Wakers {
         ensures kept { Keeps cx.old cx.new }
     {
         let (locked, event) = shared.start(locked, pass, event)?;
-        let Some((end, seat)) = self.cell(shared.alloc(), cx) else {
-            locked.give_back_quiet();
+        let Some((end, waiter)) = self.cell(shared.alloc(), cx) else {
+            locked.unlock_quiet();
             return Err(event.refused(Refusal::NoMemory));
         };
-        let counted = shared.wait(locked, pass, event, seat)?;
+        let counted = shared.wait(locked, pass, event, waiter)?;
         Ok((counted, end))
     }
 }

@@ -9,7 +9,7 @@ ghost use Rattle.kanal_cell.specs.CellEnds.{wait_view};
 use futures::task::{Context, Poll, Source, Waker};
 use kanal_cell::signal;
 use kanal_cell::signal::WaitEnd;
-use kanal_channel::{Delivered, Seat, Shared};
+use kanal_channel::{Shared, WaitResult, WaiterHandle};
 use kanal_core::internal::Ticket;
 use kanal_state::History;
 use std::alloc::Global;
@@ -43,17 +43,17 @@ impl Wakers {
         &self,
         alloc: Global,
         cx: &mut Context<'_>,
-    ) -> Option<(WaitEnd<Delivered<T, H>>, Seat<T, H>)>
+    ) -> Option<(WaitEnd<WaitResult<T, H>>, WaiterHandle<T, H>)>
         ensures unspent { IfSome result (λ cell. HasNotLeft (wait_view cell.0)) }
         ensures registered { IfSome result (λ _. Covers cx.new (λ s. s ≡ self.now.source.id)) }
         ensures kept { Keeps cx.old cx.new }
     {
         let (end, settling) = signal::new(alloc).ok()?;
-        let mut seat = Seat::of_task(alloc, settling)?;
+        let mut waiter = WaiterHandle::of_task(alloc, settling)?;
         let mut waker = None;
         let _: Poll<()> = cx.register(&self.source, &mut waker);
-        seat.renew(&mut waker);
-        Some((end, seat))
+        waiter.renew(&mut waker);
+        Some((end, waiter))
     }
 
     /// Puts the task's waker into the entry of the wait with the ticket. Where the lock is held, or nobody
@@ -78,13 +78,13 @@ impl Wakers {
     fn swap<T: Drop, H: History<T>>(&mut self, shared: &Shared<T, H>, ticket: Ticket) -> bool
         ensures source { self.new.source.id ≡ self.old.source.id }
     {
-        let Some((mut locked, left)) = shared.try_hold() else {
+        let Some((mut locked, left)) = shared.try_lock() else {
             return false;
         };
         let waits = locked.state.renew(ticket, &mut self.spare);
-        let released = locked.release();
+        let released = locked.unlock();
         shared.tell_left(left, &released);
-        shared.look();
+        shared.drain_notices();
         waits
     }
 }

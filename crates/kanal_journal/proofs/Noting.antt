@@ -15,8 +15,8 @@ use Rattle.kanal_journal.specs.declared.journal.running.Running.{Running}
 use Rattle.kanal_journal.specs.Runs.{Account, IsTold, added, numbered as with_number, handles_after, opening, opening_line}
 use Rattle.kanal_journal.specs.Given.{AreGiven, waiting_count}
 use Rattle.kanal_events.specs.Steps.{is_done}
-use Rattle.kanal_events.specs.Made.{told_of, reply_of, settled_of, drained_of, cleared_of}
-use Rattle.kanal_journal.specs.Made.{Made, IsAnswered}
+use Rattle.kanal_events.specs.StepResult.{told_of, reply_of, settled_of, drained_of, cleared_of}
+use Rattle.kanal_journal.specs.StepResult.{StepResult, IsAnswered}
 use Rattle.kanal_journal.specs.Running.{IsNoted, IsOpened, IsWithinEvents, IsSame, account_of}
 use Rattle.kanal_journal.proofs.Counting.{told-counts, told-count}
 use Rattle.kanal_journal.proofs.Numbering.{numbered-more}
@@ -76,7 +76,7 @@ module _ {T : Type 0} where
   few-more handles e r = (omega arith, omega arith)
 
   -- what an answered event settles, drains and clears is within what waited and what the line held
-  pub answered-counts : (handles : Handles) (old new : Line T) (e : Event T) (before after : List T) (made : Made T) → tickets (under old.capacity old.line) ≡ [] → IsAnswered handles old e new before after made
+  pub answered-counts : (handles : Handles) (old new : Line T) (e : Event T) (before after : List T) (made : StepResult T) → tickets (under old.capacity old.line) ≡ [] → IsAnswered handles old e new before after made
       → (length (settled_of made) + waiting_count new + old.next ≤ waiting_count old + new.next) × (length after + length new.line ≤ length before + length old.line + 1) × (length (cleared_of made) + length new.line ≤ length old.line + 1)
   answered-counts handles old new e before after made below is =
       let k = told-counts (λ x. 1) old below handles e (told_of new made) is.told in
@@ -115,7 +115,7 @@ module _ {T : Type 0} where
       (ap line_of opened.core) opened.handles refl opened.settled opened.drained opened.cleared
 
   -- one event more brings no more than one event can
-  pub within-next : (n : ℕ) (old new : Running T) (e : Event T) (made : Made T) → tickets (under old.core.capacity (line_of old.core).line) ≡ [] → IsWithinEvents n old
+  pub within-next : (n : ℕ) (old new : Running T) (e : Event T) (made : StepResult T) → tickets (under old.core.capacity (line_of old.core).line) ≡ [] → IsWithinEvents n old
       → IsAnswered old.handles (line_of old.core) e (line_of new.core) old.drained.items new.drained.items made → new.handles ≡ handles_after old.handles e (reply_of made)
       → AreGiven new.tickets.items new.core → length new.tickets.items ≤ length old.tickets.items + 1
       → new.settled.items ≡ old.settled.items ++ with_number n (settled_of made) → new.cleared.items ≡ old.cleared.items ++ cleared_of made → IsWithinEvents (n + 1) new

@@ -20,8 +20,8 @@ use running::Running;
 use std::alloc::Global;
 
 mod calls;
+mod collect;
 mod handles;
-mod notes;
 mod recorded_state;
 mod recorder;
 mod report;
@@ -93,7 +93,7 @@ pub fn run<T: Drop>(
     for event in events {
         step(&mut running, &mut replies, event);
     }
-    notes::move_left(running.core.into_messages(), &mut left);
+    collect::move_left(running.core.into_messages(), &mut left);
     Ok(Report {
         replies,
         settled: running.settled,

@@ -1,7 +1,7 @@
 -- What a call put or got, in the history and in each longer one, and what it means for all that was kept.
 use Rattle.std.proofs.Common.{◌≡◌, ℕ, List, [], ◌∷◌, ◌++◌, map, filter, Option, Some, None, refl, sym, ap, subst}
 use mathlib.Core.List.{IsPrefix}
-use Rattle.kanal_board.specs.Views.{Known}
+use Rattle.kanal_log.specs.Views.{Known}
 use Rattle.kanal_core.specs.declared.internal.outcome.Outcome.TheVariants.{Taken, Given}
 use Rattle.kanal_events.specs.declared.event.Event.{Event}
 use Rattle.kanal_events.specs.declared.event.Reply.{Reply}

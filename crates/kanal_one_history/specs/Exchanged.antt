@@ -1,6 +1,6 @@
 -- What calls put and got, by the history that keeps all calls.
 use Rattle.std.proofs.Common.{◌≡◌, ℕ, List, [], ◌∷◌, Option, refl, sym, ap, ◌∙◌, subst}
-use Rattle.kanal_board.specs.Views.{Known}
+use Rattle.kanal_log.specs.Views.{Known}
 use Rattle.kanal_core.specs.declared.internal.outcome.Outcome.{Outcome}
 use Rattle.kanal_core.specs.declared.internal.outcome.Outcome.TheVariants.{Taken, Given}
 use Rattle.kanal_events.specs.declared.event.Event.{Event}

@@ -1,7 +1,7 @@
 -- What passes tell of one history of calls.
 use Rattle.std.specs.Prelude.{◌≡◌, ℕ, List, [], ◌∷◌, ◌++◌, length, Option}
 use mathlib.Core.List.{IsPrefix}
-use Rattle.kanal_board.specs.Views.{Known}
+use Rattle.kanal_log.specs.Views.{Known}
 use Rattle.kanal_events.specs.Steps.{step}
 use Rattle.kanal_state.specs.declared.call.Call.{Call}
 use Rattle.kanal_state.specs.Calls.{call_of}
@@ -24,7 +24,7 @@ module _ {T : Type 0} where
     pub own : new.own ≡ old.own
     pub share : new.share ≡ old.share
 
-  -- nobody's call was made: it is the last of a history that goes on from what was seen before, and one line of messages tells so after all the calls before it
+  -- an internal call was made: it is the last of a history that goes on from what was seen before, and one line of messages tells so after all the calls before it
   pub record Cleans (capacity : Option ℕ) (old new : List (Call T)) (call : Call T) : Type 0 where
     pub before : List (Call T)
     pub seen : IsPrefix old before
@@ -41,7 +41,7 @@ module _ {T : Type 0} where
         settled = λ pass pair. HasSettled pass.log pair;
       }
 
-  -- what is told of calls that are nobody's
+  -- what is told of internal calls
   abbrev pub cleanup_words : Option ℕ → Words T (List (Call T))
   cleanup_words capacity =
       record {

@@ -1,6 +1,6 @@
 -- What the waits of a history came to, and which messages its calls put and got.
 use Rattle.std.specs.Prelude.{◌≡◌, ◌⊎◌, ℕ, false, List, [], ◌∷◌, ◌++◌, Option, Some, None}
-use Rattle.kanal_board.specs.Views.{Known}
+use Rattle.kanal_log.specs.Views.{Known}
 use Rattle.kanal_core.specs.declared.internal.outcome.Outcome.{Outcome}
 use Rattle.kanal_core.specs.declared.internal.outcome.Outcome.TheVariants.{Taken, Given}
 use Rattle.kanal_events.specs.declared.event.Event.TheVariants.{Withdraw}

@@ -2,17 +2,17 @@
 //!
 //! Such a channel is the shared one: its calls are those of `kanal_channel`, each of which takes a pass.
 ghost use Rattle.std.specs.Prelude.{◌≡◌, ◌↔◌, [], IfOk, IsErrOf, None, Some};
-ghost use Rattle.kanal_board.specs.Boards.{table_of};
-ghost use Rattle.kanal_board.specs.Shares.{whole};
-ghost use Rattle.kanal_board.specs.Views.{known};
+ghost use Rattle.kanal_log.specs.Logs.{table_of};
+ghost use Rattle.kanal_log.specs.Shares.{whole};
+ghost use Rattle.kanal_log.specs.Views.{known};
 ghost use Rattle.kanal_core.specs.Line.{last_word};
 
 use crate::history::GhostHistory;
 use crate::pass::Pass;
-use kanal_board::{Naming, Opened};
 use kanal_channel::Shared;
 use kanal_core::error::NewError;
 use kanal_core::internal::ChannelInternal;
+use kanal_log::{LogId, NewLog};
 use kanal_state::Call;
 use std::alloc::Global;
 
@@ -21,7 +21,7 @@ pub type Channel<T, J> = Shared<T, GhostHistory<T, J>>;
 
 /// A new bounded channel for so many messages, with one sender and one receiver, and its first pass.
 ///
-/// The caller knows that the name is the board's, and that the name's capacity is this one.
+/// The caller knows that the name is the log's, and that the name's capacity is this one.
 ///
 /// # Errors
 /// `TooLarge` exactly for `usize::MAX`, and `NoMemory` where there is no memory for the buffer.
@@ -31,10 +31,10 @@ pub type Channel<T, J> = Shared<T, GhostHistory<T, J>>;
 /// let (channel, mut pass) = bounded::<u64, J>(alloc, 2, opened)?;
 /// channel.send(&rt, &mut pass, 7)   answers  Ok(())
 /// ```
-pub fn bounded<T: Drop, J: Naming>(
+pub fn bounded<T: Drop, J: LogId>(
     alloc: Global,
     capacity: usize,
-    opened: Opened<Call<T>>,
+    opened: NewLog<Call<T>>,
 ) -> Result<(Channel<T, J>, Pass<T, J>), NewError>
     requires name { table_of opened ≡ J.table }
     requires capacity { J.capacity ≡ Some capacity }
@@ -42,31 +42,31 @@ pub fn bounded<T: Drop, J: Naming>(
     ensures large { IsErrOf result NewError.TooLarge ↔ (capacity ≡ last_word) }
 {
     let core = ChannelInternal::new(alloc, capacity)?;
-    let (board, mut history, pass) = GhostHistory::opened(opened);
-    let cleanup = history.cleanup(&board);
-    Ok((Shared::new(core, history, cleanup, board, alloc), pass))
+    let (log, mut history, pass) = GhostHistory::opened(opened);
+    let cleanup = history.cleanup(&log);
+    Ok((Shared::new(core, history, cleanup, log, alloc), pass))
 }
 
 /// A new channel without limit, with one sender and one receiver, and its first pass. It asks for no
 /// memory.
 ///
-/// The caller knows that the name is the board's, and that the name has no capacity.
+/// The caller knows that the name is the log's, and that the name has no capacity.
 ///
 /// # Examples
 /// ```text
 /// let (channel, mut pass) = unbounded::<u64, J>(alloc, opened);
 /// channel.send(&rt, &mut pass, 7)   answers  Ok(()), or Err(NoMemory)
 /// ```
-pub fn unbounded<T: Drop, J: Naming>(
+pub fn unbounded<T: Drop, J: LogId>(
     alloc: Global,
-    opened: Opened<Call<T>>,
+    opened: NewLog<Call<T>>,
 ) -> (Channel<T, J>, Pass<T, J>)
     requires name { table_of opened ≡ J.table }
     requires capacity { J.capacity ≡ None }
     ensures fresh { result.1 ≡ known [] [] whole }
 {
     let core = ChannelInternal::unbounded(alloc);
-    let (board, mut history, pass) = GhostHistory::opened(opened);
-    let cleanup = history.cleanup(&board);
-    (Shared::new(core, history, cleanup, board, alloc), pass)
+    let (log, mut history, pass) = GhostHistory::opened(opened);
+    let cleanup = history.cleanup(&log);
+    (Shared::new(core, history, cleanup, log, alloc), pass)
 }

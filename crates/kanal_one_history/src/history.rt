@@ -2,12 +2,12 @@
 //!
 //! Its type keeps that the calls are legal; the line to which they led is the line after them.
 ghost use Rattle.std.specs.Prelude.{◌≡◌, []};
-ghost use Rattle.kanal_board.specs.Boards.{table_of};
-ghost use Rattle.kanal_board.specs.Shares.{whole};
-ghost use Rattle.kanal_board.specs.Views.{known};
+ghost use Rattle.kanal_log.specs.Logs.{table_of};
+ghost use Rattle.kanal_log.specs.Shares.{whole};
+ghost use Rattle.kanal_log.specs.Views.{known};
 
 use crate::pass::{Cleanup, Pass, Prefix};
-use kanal_board::{Board, EntryOf, Keeper, Naming, Opened};
+use kanal_log::{EntryOf, GhostLog, LogId, NewLog, Writer};
 use kanal_state::{Call, History};
 use std::marker::Model;
 
@@ -15,57 +15,57 @@ use std::marker::Model;
 ///
 /// Contracts see the calls, the first one first. One line of messages tells of them what was told of them.
 #[derive(Drop)]
-pub struct GhostHistory<T, J: Naming> {
-    keeper: Keeper<Call<T>, J>,
+pub struct GhostHistory<T, J: LogId> {
+    writer: Writer<Call<T>, J>,
 }
 
-impl<T, J: Naming> Model for GhostHistory<T, J> {
+impl<T, J: LogId> Model for GhostHistory<T, J> {
     ghost use Rattle.std.specs.Prelude.{List};
     ghost use Rattle.kanal_state.specs.declared.call.Call.{Call};
     ghost use Rattle.kanal_one_history.specs.Calls.{IsLegal};
 
     ghost Value = { List (Call T) };
 
-    ghost view = { λ h. h.keeper };
+    ghost view = { λ h. h.writer };
 
-    ghost invariant = { λ h. IsLegal J.capacity h.keeper };
+    ghost invariant = { λ h. IsLegal J.capacity h.writer };
 }
 
-impl<T, J: Naming> GhostHistory<T, J> {
-    /// The board under a name, a history of no calls on it, and its first pass, which has all of the right to
-    /// add calls. The caller knows that the name is this board's.
+impl<T, J: LogId> GhostHistory<T, J> {
+    /// The log under a name, a history of no calls on it, and its first pass, which has all of the right to
+    /// add calls. The caller knows that the name is this log's.
     ///
     /// # Examples
     /// ```text
-    /// let (board, mut history, pass) = GhostHistory::<u64, J>::opened(opened);
+    /// let (log, mut history, pass) = GhostHistory::<u64, J>::opened(opened);
     /// pass   has seen nothing
     /// ```
-    pub fn opened(opened: Opened<Call<T>>) -> (Board<Call<T>, J>, GhostHistory<T, J>, Pass<T, J>)
+    pub fn opened(opened: NewLog<Call<T>>) -> (GhostLog<Call<T>, J>, GhostHistory<T, J>, Pass<T, J>)
         requires name { table_of opened ≡ J.table }
         ensures empty { result.1 ≡ [] }
         ensures first { result.2 ≡ known [] [] whole }
     {
-        let (board, keeper, front) = opened.named::<J>();
-        (board, GhostHistory { keeper }, Pass { front })
+        let (log, writer, reader) = opened.named::<J>();
+        (log, GhostHistory { writer }, Pass { reader })
     }
 
-    /// What makes the calls that are nobody's. It has seen all.
+    /// What makes the internal calls. It has seen all.
     ///
     /// # Examples
     /// ```text
-    /// let cleanup = history.cleanup(&board);
+    /// let cleanup = history.cleanup(&log);
     /// ```
-    pub fn cleanup(&mut self, board: &Board<Call<T>, J>) -> Cleanup<T, J>
+    pub fn cleanup(&mut self, log: &GhostLog<Call<T>, J>) -> Cleanup<T, J>
         ensures all { result ≡ self.old }
         ensures same { self.new ≡ self.old }
     {
         Cleanup {
-            front: self.keeper.read(board),
+            reader: self.writer.read(log),
         }
     }
 }
 
-impl<T, J: Naming> History<T> for GhostHistory<T, J> {
+impl<T, J: LogId> History<T> for GhostHistory<T, J> {
     ghost use Rattle.std.specs.Prelude.{◌≡◌};
     ghost use Rattle.kanal_one_history.specs.Calls.{HasSettled, line_after};
     ghost use Rattle.kanal_one_history.specs.Exchanged.{ghost_exchanges};
@@ -75,7 +75,7 @@ impl<T, J: Naming> History<T> for GhostHistory<T, J> {
 
     type Pass = Pass<T, J>;
 
-    type Board = Board<Call<T>, J>;
+    type Log = GhostLog<Call<T>, J>;
 
     type Prefix = Prefix<T, J>;
 
@@ -94,50 +94,50 @@ impl<T, J: Naming> History<T> for GhostHistory<T, J> {
     #[inline(always)]
     fn append<X, Y, M: EntryOf<X, Y, Call<T>>>(
         &mut self,
-        board: &Board<Call<T>, J>,
+        log: &GhostLog<Call<T>, J>,
         pass: &mut Pass<T, J>,
         about: &X,
         answer: &Y,
     ) {
-        let keeper = &mut self.keeper;
-        keeper.append_of::<X, Y, M>(board, &mut pass.front, about, answer);
+        let writer = &mut self.writer;
+        writer.append_of::<X, Y, M>(log, &mut pass.reader, about, answer);
     }
 
     #[inline(always)]
     fn append_silent<X, Y, M: EntryOf<X, Y, Call<T>>>(
         &mut self,
-        board: &Board<Call<T>, J>,
+        log: &GhostLog<Call<T>, J>,
         cleanup: &mut Cleanup<T, J>,
         about: &X,
         answer: &Y,
     ) {
-        let keeper = &mut self.keeper;
-        keeper.append_quiet_of::<X, Y, M>(board, &mut cleanup.front, about, answer);
+        let writer = &mut self.writer;
+        writer.append_quiet_of::<X, Y, M>(log, &mut cleanup.reader, about, answer);
     }
 
     #[inline(always)]
-    fn cleanup_prefix(board: &Board<Call<T>, J>, cleanup: &mut Cleanup<T, J>) -> Prefix<T, J> {
-        Prefix::of(board, &mut cleanup.front)
+    fn cleanup_prefix(log: &GhostLog<Call<T>, J>, cleanup: &mut Cleanup<T, J>) -> Prefix<T, J> {
+        Prefix::of(log, &mut cleanup.reader)
     }
 
     #[inline(always)]
-    fn show(&mut self, board: &Board<Call<T>, J>, pass: &mut Pass<T, J>) {
-        self.keeper.show(board, &mut pass.front);
+    fn show(&mut self, log: &GhostLog<Call<T>, J>, pass: &mut Pass<T, J>) {
+        self.writer.show(log, &mut pass.reader);
     }
 
     #[inline(always)]
-    fn prefix(board: &Board<Call<T>, J>, pass: &mut Pass<T, J>) -> Prefix<T, J> {
-        Prefix::of(board, &mut pass.front)
+    fn prefix(log: &GhostLog<Call<T>, J>, pass: &mut Pass<T, J>) -> Prefix<T, J> {
+        Prefix::of(log, &mut pass.reader)
     }
 
     #[inline(always)]
-    fn again(board: &Board<Call<T>, J>, prefix: &mut Prefix<T, J>) -> Prefix<T, J> {
-        prefix.again(board)
+    fn again(log: &GhostLog<Call<T>, J>, prefix: &mut Prefix<T, J>) -> Prefix<T, J> {
+        prefix.again(log)
     }
 
     #[inline(always)]
-    fn learn(board: &Board<Call<T>, J>, pass: &mut Pass<T, J>, prefix: Prefix<T, J>) {
-        prefix.teach(board, pass);
+    fn learn(log: &GhostLog<Call<T>, J>, pass: &mut Pass<T, J>, prefix: Prefix<T, J>) {
+        prefix.teach(log, pass);
     }
 
     ghost sound = { ghost_sound J.capacity };

@@ -1,18 +1,18 @@
 //! The passes by which threads call a channel with one history, and what of a pass goes to waiters.
 //!
 //! Its types keep that what was seen is legal. A pass makes no call by itself: the calls are the channel's, which has
-//! the board and the lock.
+//! the log and the lock.
 ghost use Rattle.std.specs.Prelude.{◌≡◌, ◌++◌, ℕ, [], take};
 ghost use mathlib.Core.List.{IsPrefix};
-ghost use Rattle.kanal_board.specs.Shares.{IsWhole, both, half};
-ghost use Rattle.kanal_board.specs.Views.{AreApart, AreDistinct, OneBegins, OwnsAllButQuiet, known};
+ghost use Rattle.kanal_log.specs.Shares.{IsWhole, both, half};
+ghost use Rattle.kanal_log.specs.Views.{AreApart, AreDistinct, OneBegins, OwnsAllButQuiet, known};
 ghost use Rattle.kanal_state.specs.Calls.{IsSilent};
 ghost use Rattle.kanal_journal.specs.Paired.{Paired};
 ghost use Rattle.kanal_one_history.specs.Accounts.{LeadsAsTold};
 ghost use Rattle.kanal_one_history.specs.Calls.{IsLegal, history_of};
 ghost use Rattle.kanal_one_history.specs.Puts.{EachEndsOnce, WaitsAsSettled, WaitsComeFirst};
 
-use kanal_board::{Board, Front, Naming};
+use kanal_log::{GhostLog, LogId, Reader};
 use kanal_state::Call;
 use std::marker::Model;
 
@@ -22,24 +22,24 @@ use std::marker::Model;
 /// share of the right to add calls, which it always has. Dropping a pass ends nothing: the counts of a channel
 /// change by calls alone.
 #[derive(Drop)]
-pub struct Pass<T, J: Naming> {
-    pub(crate) front: Front<Call<T>, J>,
+pub struct Pass<T, J: LogId> {
+    pub(crate) reader: Reader<Call<T>, J>,
 }
 
-impl<T, J: Naming> Model for Pass<T, J> {
-    ghost use Rattle.kanal_board.specs.Shares.{HasShare};
-    ghost use Rattle.kanal_board.specs.Views.{Known};
+impl<T, J: LogId> Model for Pass<T, J> {
+    ghost use Rattle.kanal_log.specs.Shares.{HasShare};
+    ghost use Rattle.kanal_log.specs.Views.{Known};
     ghost use Rattle.kanal_state.specs.declared.call.Call.{Call};
     ghost use Rattle.kanal_one_history.specs.Calls.{IsLegal};
 
     ghost Value = { Known (Call T) };
 
-    ghost view = { λ p. p.front };
+    ghost view = { λ p. p.reader };
 
-    ghost invariant = { λ p. IsLegal J.capacity p.front.log × HasShare p.front.share };
+    ghost invariant = { λ p. IsLegal J.capacity p.reader.log × HasShare p.reader.share };
 }
 
-impl<T, J: Naming> Pass<T, J> {
+impl<T, J: LogId> Pass<T, J> {
     /// What holds of every pass, for a caller's proof; it does nothing when it runs.
     ///
     /// One line of messages tells of the calls that the pass has seen what was told of them. At every cut of
@@ -62,7 +62,7 @@ impl<T, J: Naming> Pass<T, J> {
         ensures waits_first { WaitsComeFirst self.now.log }
         ensures leads { LeadsAsTold J.capacity self.now.log }
     {
-        let _ = &self.front;
+        let _ = &self.reader;
     }
 
     /// A pass for another thread, which has seen as much and owns no call. Each of the two has half of the
@@ -70,14 +70,14 @@ impl<T, J: Naming> Pass<T, J> {
     ///
     /// # Examples
     /// ```text
-    /// let other = pass.again(&board);   goes to another thread
+    /// let other = pass.again(&log);   goes to another thread
     /// ```
-    pub fn again(&mut self, board: &Board<Call<T>, J>) -> Self
+    pub fn again(&mut self, log: &GhostLog<Call<T>, J>) -> Self
         ensures copy { result ≡ known self.old.log [] (half self.old.share) }
         ensures same { self.new ≡ known self.old.log self.old.own (half self.old.share) }
     {
         Pass {
-            front: self.front.again(board),
+            reader: self.reader.again(log),
         }
     }
 
@@ -88,32 +88,32 @@ impl<T, J: Naming> Pass<T, J> {
     ///
     /// # Examples
     /// ```text
-    /// pass.learn(&board, other);   where `other` comes back from another thread
+    /// pass.learn(&log, other);   where `other` comes back from another thread
     /// ```
-    pub fn learn(&mut self, board: &Board<Call<T>, J>, other: Self)
+    pub fn learn(&mut self, log: &GhostLog<Call<T>, J>, other: Self)
         ensures this { IsPrefix self.old.log self.new.log }
         ensures that { IsPrefix other.log self.new.log }
         ensures one { OneBegins self.old.log other.log }
         ensures own { self.new.own ≡ other.own ++ self.old.own }
         ensures share { self.new.share ≡ both other.share self.old.share }
     {
-        let Pass { front } = other;
-        self.front.learn(board, front);
+        let Pass { reader } = other;
+        self.reader.learn(log, reader);
     }
 
-    /// A pass that has all of the right to add calls owns each call that it has seen, but for calls of nobody's,
+    /// A pass that has all of the right to add calls owns each call that it has seen, but for internal calls,
     /// which put no message, ask for none and clear none. It changes nothing, and waits for nobody.
     ///
     /// # Examples
     /// ```text
-    /// one.owns_all(&board);   where all other passes came back by `learn`
+    /// one.owns_all(&log);   where all other passes came back by `learn`
     /// ```
-    pub fn owns_all(&mut self, board: &Board<Call<T>, J>)
+    pub fn owns_all(&mut self, log: &GhostLog<Call<T>, J>)
         requires whole { IsWhole self.old.share }
         ensures same { self.new ≡ self.old }
         ensures each { OwnsAllButQuiet (λ call. IsSilent call.event) self.old.log self.old.own }
     {
-        self.front.owns_all(board);
+        self.reader.owns_all(log);
     }
 
     /// Two passes have seen beginnings of one history: one of the two begins with the other. It changes
@@ -121,13 +121,13 @@ impl<T, J: Naming> Pass<T, J> {
     ///
     /// # Examples
     /// ```text
-    /// one.compare(&board, &mut other);   and the caller's proof has it
+    /// one.compare(&log, &mut other);   and the caller's proof has it
     /// ```
-    pub fn compare(&mut self, board: &Board<Call<T>, J>, other: &mut Self)
+    pub fn compare(&mut self, log: &GhostLog<Call<T>, J>, other: &mut Self)
         ensures same { (self.new ≡ self.old) × (other.new ≡ other.old) }
         ensures one { OneBegins self.old.log other.old.log }
     {
-        self.front.compare(board, &mut other.front);
+        self.reader.compare(log, &mut other.reader);
     }
 
     /// No entry of the history answers for two calls: no place is own to both passes, and none stands
@@ -136,85 +136,85 @@ impl<T, J: Naming> Pass<T, J> {
     ///
     /// # Examples
     /// ```text
-    /// one.owns_once(&board, &mut other);   and the caller's proof has it
+    /// one.owns_once(&log, &mut other);   and the caller's proof has it
     /// ```
-    pub fn owns_once(&mut self, board: &Board<Call<T>, J>, other: &mut Self)
+    pub fn owns_once(&mut self, log: &GhostLog<Call<T>, J>, other: &mut Self)
         ensures same { (self.new ≡ self.old) × (other.new ≡ other.old) }
         ensures apart { AreApart self.old.own other.old.own }
         ensures each { AreDistinct self.old.own × AreDistinct other.old.own }
     {
-        self.front.compare(board, &mut other.front);
+        self.reader.compare(log, &mut other.reader);
     }
 }
 
 /// What a pass has seen of a channel's history, by which no call can be made. It takes no bytes, and contracts
 /// see the calls.
 #[derive(Drop)]
-pub struct Prefix<T, J: Naming> {
-    front: Front<Call<T>, J>,
+pub struct Prefix<T, J: LogId> {
+    reader: Reader<Call<T>, J>,
 }
 
-impl<T, J: Naming> Model for Prefix<T, J> {
+impl<T, J: LogId> Model for Prefix<T, J> {
     ghost use Rattle.std.specs.Prelude.{◌≡◌, List, []};
-    ghost use Rattle.kanal_board.specs.Shares.{nothing};
+    ghost use Rattle.kanal_log.specs.Shares.{nothing};
     ghost use Rattle.kanal_state.specs.declared.call.Call.{Call};
     ghost use Rattle.kanal_one_history.specs.Calls.{IsLegal};
 
     ghost Value = { List (Call T) };
 
-    ghost view = { λ p. p.front.log };
+    ghost view = { λ p. p.reader.log };
 
-    ghost invariant = { λ p. IsLegal J.capacity p.front.log × (p.front.own ≡ [])
-        × (p.front.share ≡ nothing) };
+    ghost invariant = { λ p. IsLegal J.capacity p.reader.log × (p.reader.own ≡ [])
+        × (p.reader.share ≡ nothing) };
 }
 
-impl<T, J: Naming> Prefix<T, J> {
-    /// What the front has seen.
-    pub(crate) fn of(board: &Board<Call<T>, J>, front: &mut Front<Call<T>, J>) -> Self
-        requires legal { IsLegal J.capacity front.old.log }
-        ensures seen { result ≡ front.old.log }
-        ensures same { front.new ≡ front.old }
+impl<T, J: LogId> Prefix<T, J> {
+    /// What the reader has seen.
+    pub(crate) fn of(log: &GhostLog<Call<T>, J>, reader: &mut Reader<Call<T>, J>) -> Self
+        requires legal { IsLegal J.capacity reader.old.log }
+        ensures seen { result ≡ reader.old.log }
+        ensures same { reader.new ≡ reader.old }
     {
         Prefix {
-            front: front.read(board),
+            reader: reader.read(log),
         }
     }
 
     /// The same once more.
-    pub(crate) fn again(&mut self, board: &Board<Call<T>, J>) -> Self
+    pub(crate) fn again(&mut self, log: &GhostLog<Call<T>, J>) -> Self
         ensures seen { result ≡ self.old }
         ensures same { self.new ≡ self.old }
     {
-        Prefix::of(board, &mut self.front)
+        Prefix::of(log, &mut self.reader)
     }
 
     /// The pass learns it, and makes no call.
-    pub(crate) fn teach(self, board: &Board<Call<T>, J>, pass: &mut Pass<T, J>)
+    pub(crate) fn teach(self, log: &GhostLog<Call<T>, J>, pass: &mut Pass<T, J>)
         ensures this { IsPrefix pass.old.log pass.new.log }
         ensures that { IsPrefix self pass.new.log }
         ensures own { pass.new.own ≡ pass.old.own }
         ensures share { pass.new.share ≡ pass.old.share }
     {
-        let Prefix { front } = self;
-        pass.front.learn(board, front);
+        let Prefix { reader } = self;
+        pass.reader.learn(log, reader);
     }
 }
 
-/// What makes the calls that are nobody's: the drops of handles, and the withdrawals of waits that were left.
+/// What makes the internal calls: the drops of handles, and the withdrawals of waits that were left.
 /// It takes no bytes, and contracts see the calls that it has seen.
 #[derive(Drop)]
-pub struct Cleanup<T, J: Naming> {
-    pub(crate) front: Front<Call<T>, J>,
+pub struct Cleanup<T, J: LogId> {
+    pub(crate) reader: Reader<Call<T>, J>,
 }
 
-impl<T, J: Naming> Model for Cleanup<T, J> {
+impl<T, J: LogId> Model for Cleanup<T, J> {
     ghost use Rattle.std.specs.Prelude.{List};
     ghost use Rattle.kanal_state.specs.declared.call.Call.{Call};
     ghost use Rattle.kanal_one_history.specs.Calls.{IsLegal};
 
     ghost Value = { List (Call T) };
 
-    ghost view = { λ c. c.front.log };
+    ghost view = { λ c. c.reader.log };
 
-    ghost invariant = { λ c. IsLegal J.capacity c.front.log };
+    ghost invariant = { λ c. IsLegal J.capacity c.reader.log };
 }

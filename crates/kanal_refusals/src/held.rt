@@ -34,9 +34,9 @@ fn leaves_by_notice<R: Wait>(
     if tally.run == Run::Setup {
         return Some(());
     }
-    let locked = shared.hold(rt);
+    let locked = shared.lock(rt);
     drop(sending);
     let left = shared.left_waits();
-    locked.give_back_quiet();
+    locked.unlock_quiet();
     holds(left == 1 && shared.left_waits() == 0 && shared.try_recv(rt, &mut ()) == Ok(None))
 }

@@ -7,8 +7,8 @@ use Rattle.kanal_core.specs.Moves.{add_receiver, add_sender, last_count}
 use Rattle.kanal_events.specs.declared.event.Event.{Event}
 use Rattle.kanal_events.specs.declared.event.Side.{Side}
 use Rattle.kanal_events.specs.declared.event.Side.TheVariants.{Tx, Rx}
-use Rattle.kanal_events.specs.declared.made.Made.{Made}
-use Rattle.kanal_events.specs.Made.{reply_of}
+use Rattle.kanal_events.specs.declared.step_result.StepResult.{StepResult}
+use Rattle.kanal_events.specs.StepResult.{reply_of}
 use Rattle.kanal_events.specs.Steps.{Told, Tells, cloned}
 use Rattle.kanal_state.specs.Makes.{IsNoted, IsReplied}
 use Rattle.kanal_state.specs.Results.{counted_by}
@@ -39,7 +39,7 @@ module _ {T : Type 0} where
   more_settles l side event told is tells = settles-none l side told (subst (λ e. Tells l e told) is tells)
 
   -- and memory is never refused to it
-  pub more_counted : {P W : Type 0} (w : Words T P) (old new : P) (side : Side) (event : Event T) (made : Made T W) (answer : Result (Unit {0}) NoMore)
+  pub more_counted : {P W : Type 0} (w : Words T P) (old new : P) (side : Side) (event : Event T) (made : StepResult T W) (answer : Result (Unit {0}) NoMore)
       → event ≡ one_more side → IsNoted w old new event made → answer ≡ counted_by (reply_of made) → IsReplied w old new (one_more side) counted_by answer
   more_counted w old new side event made answer is noted reads =
       let here : IsNoted w old new (one_more side) made = subst (λ e. IsNoted w old new e made) is noted in

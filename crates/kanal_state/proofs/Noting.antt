@@ -9,9 +9,9 @@ use Rattle.kanal_events.specs.declared.event.Event.TheVariants.{Send, TrySend, R
 use Rattle.kanal_events.specs.declared.event.Reply.{Reply}
 use Rattle.kanal_events.specs.declared.event.Reply.TheVariants.{Sent, Yes, Got, Nothing, Refused, Waits}
 use Rattle.kanal_events.specs.declared.event.Refusal.TheVariants.{Closed, ReceiveClosed, Sealed, SendClosed, TooMany}
-use Rattle.kanal_events.specs.declared.made.Made.{Made}
+use Rattle.kanal_events.specs.declared.step_result.StepResult.{StepResult}
 use Rattle.kanal_events.specs.Steps.{Told, step, Tells, is_no_memory, moving, nothing_there, only, take_front, wait}
-use Rattle.kanal_events.specs.Made.{entered, got, told_of}
+use Rattle.kanal_events.specs.StepResult.{entered, got, told_of}
 use Rattle.kanal_state.specs.Calls.{IsDrop, IsSilent, IsToldOn, call_of, line_by}
 use Rattle.kanal_state.specs.declared.call.Call.{Call}
 use Rattle.kanal_state.specs.Entries.{call_from, told_by, tried_entry, tried_receipt}
@@ -78,7 +78,7 @@ module _ {T : Type 0} where
 
 module _ {T W : Type 0} where
   -- a drop that was made is told so on the line that it found
-  pub drop_on : (l new : Line T) (event asked : Event T) (m : Made T W) → asked ≡ event → IsDrop event → Tells l event (told_of new m) → IsToldOn l (call_from asked m) × IsSilent asked
+  pub drop_on : (l new : Line T) (event asked : Event T) (m : StepResult T W) → asked ≡ event → IsDrop event → Tells l event (told_of new m) → IsToldOn l (call_from asked m) × IsSilent asked
   drop_on l new event asked m was drops tells =
       let told : call_from event m ≡ call_of event (step l event) = told-on l event (told_of new m) (drop_told l event (told_of new m) drops tells) in
       subst (λ e. (call_from e m ≡ call_of e (step l e)) × IsSilent e) (sym was) (told, drop_silent event drops)

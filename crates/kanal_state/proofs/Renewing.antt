@@ -9,7 +9,7 @@ use Rattle.kanal_core.specs.declared.internal.outcome.Waiter.{Waiter}
 use Rattle.kanal_core.specs.Channel.{Channel, line_of, entry_of, demand_of}
 use Rattle.kanal_core.specs.Line.{bare}
 use Rattle.kanal_core.specs.Waiters.{same_ticket, waiter_of, with_w, without}
-use Rattle.kanal_state.specs.Renewing.{Brought, Renews, Swaps, TakesRoom}
+use Rattle.kanal_state.specs.Renewing.{Brought, Renews, Swaps, TakesNode}
 
 module _ {T W : Type 0} where
   -- what is read of waiters without their W is read alike where one has another W
@@ -58,22 +58,22 @@ module _ {T W : Type 0} (t : Ticket) (old : List (Waiter T W)) (was now : W) (Q 
       let same : was ≡ w.w = cc (e) in
       (now, refl, subst (λ v. P v now) same holds)
 
--- who waits with the ticket brought a seat that swapped its waker
+-- who waits with the ticket brought a waiter's handle that swapped its waker
 pub renews : {T : Type 0} (t : Ticket) (spare after : Option Waker) (old : List (Waiter T Brought)) (was now : Brought)
     → Some was ≡ option_map (λ w. w.w) (waiter_of t old) → Swaps spare was now after → Renews t spare old (with_w t now old) after
 renews t spare after old was now e swaps =
     found t old was now ((with_w t now old ≡ old) × (after ≡ spare)) (λ a b. Swaps spare a b after) (waiter_of t old) e swaps
 
 module _ {T : Type 0} (t : Ticket) (old : List (Waiter T Brought)) where
-  -- who waits with the ticket brought a seat out of which the room was taken
-  pub takes_room : (was now : Brought) (taken : Bool) → Some was ≡ option_map (λ w. w.w) (waiter_of t old) → taken ≡ was.has_room
-      → now ≡ record was { has_room = false } → TakesRoom t old (with_w t now old) taken
-  takes_room was now taken e room stays = at (waiter_of t old) e
+  -- who waits with the ticket brought a waiter's handle out of which the reserved node was taken
+  pub takes_node : (was now : Brought) (taken : Bool) → Some was ≡ option_map (λ w. w.w) (waiter_of t old) → taken ≡ was.has_node
+      → now ≡ record was { has_node = false } → TakesNode t old (with_w t now old) taken
+  takes_node was now taken e node stays = at (waiter_of t old) e
     where
       at : (o : Option (Waiter T Brought)) → Some was ≡ option_map (λ w. w.w) o
           → MatchOption o ((with_w t now old ≡ old) × (taken ≡ false))
-          (λ w. (with_w t now old ≡ with_w t (record w.w { has_room = false }) old) × (taken ≡ w.w.has_room))
+          (λ w. (with_w t now old ≡ with_w t (record w.w { has_node = false }) old) × (taken ≡ w.w.has_node))
       at None e = absurd (cc (e))
       at (Some w) e =
           let same : was ≡ w.w = cc (e) in
-          (ap (λ v. with_w t v old) (stays ∙ ap (λ (v : Brought). record v { has_room = false }) same), room ∙ ap (λ v. v.has_room) same)
+          (ap (λ v. with_w t v old) (stays ∙ ap (λ (v : Brought). record v { has_node = false }) same), node ∙ ap (λ v. v.has_node) same)

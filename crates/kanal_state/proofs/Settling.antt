@@ -13,10 +13,10 @@ use Rattle.kanal_events.specs.declared.event.Reply.TheVariants.{Waits}
 use Rattle.kanal_events.specs.Steps.{is_no_memory, no_memory}
 use Rattle.kanal_events.specs.Steps.{IsWait}
 use Rattle.kanal_state.specs.declared.call.Call.{Call}
-use Rattle.kanal_events.specs.declared.made.Made.{Made}
+use Rattle.kanal_events.specs.declared.step_result.StepResult.{StepResult}
 use Rattle.kanal_core.specs.Line.{Line}
 use Rattle.kanal_state.specs.Calls.{IsIn, IsTold}
-use Rattle.kanal_events.specs.Made.{settled_of, reply_of}
+use Rattle.kanal_events.specs.StepResult.{settled_of, reply_of}
 use Rattle.kanal_state.specs.Entries.{MayLack, call_from, entry, receipt, replied, tried_entry, tried_receipt}
 use Rattle.kanal_state.specs.Words.{Words, AreSound, HaveSettled, HaveShown}
 use Rattle.kanal_state.specs.Handles.{TriesToReceive, TriesToSend}
@@ -49,7 +49,7 @@ module _ {T P : Type 0} (w : Words T P) (sound : AreSound w) where
         | inr clear ↦ made_settled old new call (n.stands clear).0
       ]
 
-  pub noted_settled : {W : Type 0} (old new : P) (event : Event T) (made : Made T W) → IsNoted w old new event made → HaveSettled w new (settled_of made)
+  pub noted_settled : {W : Type 0} (old new : P) (event : Event T) (made : StepResult T W) → IsNoted w old new event made → HaveSettled w new (settled_of made)
   noted_settled old new event made n = kept_settled old new event (call_from event made) n
 
   pub replied-from : {R : Type 0} (old mid new : P) (event : Event T) (read : Reply T → R) (answer : R) → w.looks old mid → IsReplied w mid new event read answer → IsReplied w old new event read answer
@@ -99,11 +99,11 @@ module _ {T P : Type 0} (w : Words T P) where
         | inr clear ↦ inl (record { call = call; made = (n.stands clear).0; asked = n.asked; reads = refl; told = (n.stands clear).1 })
       ]
 
-  pub noted_answered : {W : Type 0} (old new : P) (event : Event T) (made : Made T W) → IsNoted w old new event made → IsAnswered w old new event (reply_of made)
+  pub noted_answered : {W : Type 0} (old new : P) (event : Event T) (made : StepResult T W) → IsNoted w old new event made → IsAnswered w old new event (reply_of made)
   noted_answered old new event made n = kept_answered old new event (call_from event made) n
 
   -- a call that was noted and doesn't wait, once those are told whose waits it settled
-  pub noted_replied : {W : Type 0} (old mid new : P) (event : Event T) (made : Made T W) (reply : Reply T)
+  pub noted_replied : {W : Type 0} (old mid new : P) (event : Event T) (made : StepResult T W) (reply : Reply T)
       → IsNoted w old mid event made → (IsWait (reply_of made) → ⊥) → new ≡ mid → reply ≡ reply_of made → HasReplied w old new event reply
   noted_replied old mid new event made reply n clear same is =
       let here : HasReplied w old mid event (reply_of made) = (noted_answered old mid event made n, clear) in

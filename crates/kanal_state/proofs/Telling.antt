@@ -12,7 +12,7 @@ use Rattle.kanal_events.specs.declared.event.Reply.{Reply}
 use Rattle.kanal_events.specs.declared.event.Reply.TheVariants.{Sent, Yes}
 use Rattle.kanal_events.specs.declared.event.Side.{Side}
 use Rattle.kanal_events.specs.Steps.{Told, step, refused, Tells, MayRefuse, is_no_memory, answer, offer, take, take_front, nothing_there, wait, withdraw, is_closed, seal_line, shut, take_line, cloned}
-use Rattle.kanal_events.specs.Made.{MustWait}
+use Rattle.kanal_events.specs.StepResult.{MustWait}
 
 -- a number that is not 0 is not equal to 0, as it is computed
 not-zero : (n : ℕ) → n ≢ 0 → (n == 0) ≡ false

@@ -5,9 +5,9 @@ use Rattle.kanal_events.specs.declared.event.Event.{Event}
 use Rattle.kanal_events.specs.declared.event.Event.TheVariants.{Send, TrySend, Recv, TryRecv, Withdraw}
 use Rattle.kanal_events.specs.declared.event.Reply.TheVariants.{Got, Sent, Withdrawn, Yes}
 use Rattle.kanal_events.specs.declared.event.Reply.{Reply}
-use Rattle.kanal_events.specs.declared.made.Made.{Made}
+use Rattle.kanal_events.specs.declared.step_result.StepResult.{StepResult}
 use Rattle.kanal_events.specs.Steps.{MayRefuse, Told}
-use Rattle.kanal_events.specs.Made.{MustWait, cleared_of, drained_of, reply_of, settled_of}
+use Rattle.kanal_events.specs.StepResult.{MustWait, cleared_of, drained_of, reply_of, settled_of}
 use Rattle.kanal_state.specs.declared.call.Call.{Call}
 
 module _ {T : Type 0} where
@@ -45,6 +45,6 @@ module _ {T : Type 0} where
 
 module _ {T W : Type 0} where
   -- the call of this event, of which a step told this
-  abbrev pub call_from : Event T → Made T W → Call T
+  abbrev pub call_from : Event T → StepResult T W → Call T
   call_from event made =
       record { event = event; reply = reply_of made; settled = settled_of made; drained = drained_of made; cleared = cleared_of made }

@@ -11,5 +11,5 @@ pub mod Frames
 pub mod Deferred
 pub mod Counts
 pub mod Renewing
-pub mod Seats
+pub mod WaiterHandles
 pub mod Waits

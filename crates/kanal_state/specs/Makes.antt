@@ -8,9 +8,9 @@ use Rattle.kanal_events.specs.declared.event.Event.TheVariants.{Drain, Withdraw}
 use Rattle.kanal_events.specs.declared.event.Reply.{Reply}
 use Rattle.kanal_events.specs.declared.event.Reply.TheVariants.{Waits, Withdrawn}
 use Rattle.kanal_events.specs.Steps.{IsWait, is_no_memory, no_memory}
-use Rattle.kanal_events.specs.declared.made.Answered.{Answered}
-use Rattle.kanal_events.specs.declared.made.Made.{Made}
-use Rattle.kanal_events.specs.Made.{MustWait, made_of, reply_of}
+use Rattle.kanal_events.specs.declared.step_result.Answered.{Answered}
+use Rattle.kanal_events.specs.declared.step_result.StepResult.{StepResult}
+use Rattle.kanal_events.specs.StepResult.{MustWait, made_of, reply_of}
 use Rattle.kanal_state.specs.declared.call.Call.{Call}
 use Rattle.kanal_state.specs.Calls.{IsTold}
 use Rattle.kanal_state.specs.Entries.{MayLack, call_from}
@@ -102,7 +102,7 @@ module _ {T P : Type 0} where
 
 module _ {T P W : Type 0} where
   -- the same of the call that a step told
-  abbrev pub IsNoted : Words T P → P → P → Event T → Made T W → Type 0
+  abbrev pub IsNoted : Words T P → P → P → Event T → StepResult T W → Type 0
   IsNoted w old new event made = IsKept w old new event (call_from event made)
 
   -- the same of a call that waits where it must, and didn't have to; one that must comes back, and the pass has seen that it must

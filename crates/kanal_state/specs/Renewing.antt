@@ -6,13 +6,13 @@ use Rattle.kanal_core.specs.Waiters.{waiter_of, with_w}
 use Rattle.kanal_core.specs.declared.internal.outcome.Ticket.{Ticket}
 use Rattle.kanal_core.specs.declared.internal.outcome.Waiter.{Waiter}
 
--- the cell by which a wait is settled, the waker that settling will wake, and whether there is a room for the entry
+-- the cell by which a wait is settled, the waker that settling will wake, and whether there is a reserved node for the entry
 pub record Brought : Type 0 where
   pub cell : CellName
   pub waker : Option Waker
-  pub has_room : Bool
+  pub has_node : Bool
 
--- the spare waker is in the seat now and the seat's is the spare; without a spare nothing changed
+-- the spare waker is in the waiter's handle now and the one that was there is the spare; without a spare nothing changed
 abbrev pub Swaps : Option Waker → Brought → Brought → Option Waker → Type 0
 Swaps None old new after = (new ≡ old) × (after ≡ None)
 Swaps (Some waker) old new after = (new ≡ record old { waker = Some waker }) × (after ≡ old.waker)
@@ -22,10 +22,10 @@ module _ {T : Type 0} where
   abbrev pub Renews : Ticket → Option Waker → List (Waiter T Brought) → List (Waiter T Brought) → Option Waker → Type 0
   Renews t spare old new after =
       MatchOption (waiter_of t old) ((new ≡ old) × (after ≡ spare))
-      (λ w. (seat : Brought) × (new ≡ with_w t seat old) × Swaps spare w.w seat after)
+      (λ w. (waiter : Brought) × (new ≡ with_w t waiter old) × Swaps spare w.w waiter after)
 
-  -- the waiter with the ticket has no room now: what it had was taken; nobody else changed, and nothing did where it doesn't wait
-  abbrev pub TakesRoom : Ticket → List (Waiter T Brought) → List (Waiter T Brought) → Bool → Type 0
-  TakesRoom t old new taken =
+  -- the waiter with the ticket has no reserved node now: what it had was taken; nobody else changed, and nothing did where it doesn't wait
+  abbrev pub TakesNode : Ticket → List (Waiter T Brought) → List (Waiter T Brought) → Bool → Type 0
+  TakesNode t old new taken =
       MatchOption (waiter_of t old) ((new ≡ old) × (taken ≡ false))
-      (λ w. (new ≡ with_w t (record w.w { has_room = false }) old) × (taken ≡ w.w.has_room))
+      (λ w. (new ≡ with_w t (record w.w { has_node = false }) old) × (taken ≡ w.w.has_node))

@@ -1,9 +1,9 @@
 //! A call, as a history has it.
 //!
 //! Events, replies and outcomes are those of the events and of the core; nothing is defined anew.
-use kanal_board::Entry;
 use kanal_core::internal::Outcome;
 use kanal_events::event::{Event, Reply};
+use kanal_log::Entry;
 use std::collections::LinkedList;
 
 /// A call that was made, and all that was told of it. No value of it is made: it stands in proofs alone.

@@ -1,15 +1,14 @@
 //! That a handle is counted, and that a call waits: tokens of no bytes, each of which has to be counted out.
 //!
-//! The prover refuses to let one go. A handle's is counted out by evidence that its drop was made as a call of
-//! nobody's, or into its channel's notices; a wait's by evidence of what became of it, or into the notices. Who takes
-//! the notices has the handles' tokens again. Nothing else makes a handle's token but a new channel, and the state,
-//! by evidence that a call counted one more; nothing makes a wait's but the state, which hands it out where it starts
-//! the wait.
+//! The prover refuses to let one go. A handle's is counted out by evidence that its drop was made as an internal call,
+//! or into its channel's notices; a wait's by evidence of what became of it, or into the notices. Who takes the notices
+//! has the handles' tokens again. Nothing else makes a handle's token but a new channel, and the state, by evidence
+//! that a call counted one more; nothing makes a wait's but the state, which hands it out where it starts the wait.
 ghost use Rattle.std.specs.Prelude.{◌≡◌, false, IfErr, IfNone, IfOk, IfSome, Ok};
 ghost use Rattle.kanal_core.specs.Channel.{line_of};
 ghost use Rattle.kanal_core.specs.Tickets.{number_of};
 ghost use Rattle.kanal_core.specs.Waiters.{IsPlaced};
-ghost use Rattle.kanal_events.specs.Made.{not_waiting};
+ghost use Rattle.kanal_events.specs.StepResult.{not_waiting};
 ghost use Rattle.kanal_events.specs.Steps.{Tells};
 ghost use Rattle.kanal_state.specs.Entries.{call_from, withdrawal};
 ghost use Rattle.kanal_state.specs.Makes.{IsReplied};
@@ -19,13 +18,13 @@ ghost use Rattle.kanal_state.specs.Counts.{is_counted, one_less, one_more, ticke
 mod notices;
 
 use crate::History;
-use crate::delivered::Delivered;
-use crate::seat::Core;
 use crate::side::{OfSide, ReceiveSide, SendSide};
+use crate::wait_result::WaitResult;
+use crate::waiter_handle::Core;
 use boxcar::tag::{Names, Tag};
 use kanal_core::internal::{Outcome, Ticket, Waiter};
 use kanal_events::event::Event;
-use kanal_events::made::Made;
+use kanal_events::step_result::StepResult;
 pub use notices::{GoneHandles, GoneWaits, Notices};
 use std::marker::PhantomData;
 use std::snapshot::Snapshot;
@@ -95,12 +94,12 @@ impl<S: OfSide> Counted<S> {
         Counted::new()
     }
 
-    /// Counts the handle out: its drop was made as a call of nobody's.
+    /// Counts the handle out: its drop was made as an internal call.
     pub(crate) fn count_out<T, W, H: History<T>>(
         self,
         before: &Snapshot<H::Cleanup>,
         after: &H::Cleanup,
-        made: &Made<T, W>,
+        made: &StepResult<T, W>,
     )
         requires made { H.cleans.makes before.now.value after.now (call_from (one_less S.side) made.now) }
     {
@@ -197,7 +196,7 @@ impl CountedWait {
         drop(stands);
     }
 
-    /// Counts the wait out: a call of nobody's took it back.
+    /// Counts the wait out: an internal call took it back.
     pub(crate) fn taken_back<T, W, H: History<T>>(
         self,
         before: &Snapshot<H::Cleanup>,
@@ -236,7 +235,7 @@ impl CountedWait {
     /// }
     /// ```
     #[inline]
-    pub fn told<T: Drop, H: History<T>>(self, delivered: &Delivered<T, H>) -> Option<Self>
+    pub fn told<T: Drop, H: History<T>>(self, delivered: &WaitResult<T, H>) -> Option<Self>
         ensures told { IfNone result (delivered.now.0 ≡ number_of (ticket_of self)) }
         ensures other { IfSome result (λ back. back ≡ self) }
     {
@@ -255,13 +254,13 @@ impl CountedWait {
     ///
     /// # Examples
     /// ```text
-    /// counted.learn(shared.board(), &mut pass, delivered)   answers  Ok(Outcome::Taken)   where the message was taken
+    /// counted.learn(shared.log(), &mut pass, delivered)   answers  Ok(Outcome::Taken)   where the message was taken
     /// ```
     pub fn learn<T: Drop, H: History<T>>(
         self,
-        board: &H::Board,
+        log: &H::Log,
         pass: &mut H::Pass,
-        delivered: Delivered<T, H>,
+        delivered: WaitResult<T, H>,
     ) -> Result<Outcome<T>, Self>
         ensures looks { IfOk result (λ _. H.words.looks pass.old pass.new) }
         ensures settled { IfOk result (λ outcome.
@@ -272,7 +271,7 @@ impl CountedWait {
             return Err(counted);
         }
         let (outcome, prefix) = delivered.into_parts();
-        H::learn(board, pass, prefix);
+        H::learn(log, pass, prefix);
         Ok(outcome)
     }
 }

@@ -12,13 +12,13 @@ pub mod answers;
 mod call;
 mod caller;
 mod counted;
-mod delivered;
 mod history;
 mod none;
 mod released;
-mod seat;
 mod side;
 mod state;
+mod wait_result;
+mod waiter_handle;
 
 pub use call::Call;
 pub use caller::Caller;
@@ -26,10 +26,10 @@ pub use counted::{
     Counted, CountedReceiver, CountedSender, CountedWait, FirstHandles, GoneHandles, GoneWaits,
     Notices,
 };
-pub use delivered::Delivered;
 pub use history::History;
 pub use none::NoHistory;
 pub use released::{Deferred, Released};
-pub use seat::{Core, Leavers, Seat, ends};
 pub use side::{OfSide, ReceiveSide, SendSide};
 pub use state::{Gone, State, WaitStart};
+pub use wait_result::WaitResult;
+pub use waiter_handle::{Core, Leavers, WaiterHandle, ends};

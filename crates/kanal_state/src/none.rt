@@ -5,7 +5,7 @@ ghost use Rattle.std.specs.Prelude.{◌≡◌};
 
 use crate::call::Call;
 use crate::history::History;
-use kanal_board::EntryOf;
+use kanal_log::EntryOf;
 
 /// Nothing is kept of calls. It is the history of a channel of plain handles.
 #[derive(Drop)]
@@ -17,7 +17,7 @@ impl<T> History<T> for NoHistory {
 
     type Pass = ();
 
-    type Board = ();
+    type Log = ();
 
     type Prefix = ();
 

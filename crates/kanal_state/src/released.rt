@@ -55,7 +55,7 @@ impl<X> Deferred<X> {
     ///
     /// # Examples
     /// ```text
-    /// let made = locked.state.call(board, &mut pass, Event::Close);
+    /// let made = locked.state.call(log, &mut pass, Event::Close);
     /// let released = locked.release();
     /// made.open(&released)   answers  what the close told
     /// ```

@@ -1,6 +1,6 @@
 //! What lies under the lock: the core, and the history of the calls on its line.
 //!
-//! Each call lends the core to one step and has the call that was made kept, before the lock is given back; a call
+//! Each call lends the core to one step and has the call that was made kept, before the lock is released; a call
 //! that is refused for memory is not kept. Nothing else changes a core.
 ghost use Rattle.std.specs.Prelude.{◌≡◌, ◌↔◌, ◌==◌, ◌++◌, true, false, not, None, Some, IsSome, IfErr, IfNone, IfOk, IfSome, OnOk};
 ghost use Rattle.std.specs.Vec.{vec_capacity, vec_len};
@@ -10,7 +10,7 @@ ghost use Rattle.kanal_core.specs.Tickets.{number_of};
 ghost use Rattle.kanal_core.specs.Waiters.{waiter_of, without};
 ghost use Rattle.kanal_events.specs.Leaving.{Leave, LeaveTried, gone_of};
 ghost use Rattle.kanal_events.specs.Steps.{IsWait, Tells, is_no_memory, only};
-ghost use Rattle.kanal_events.specs.Made.{MustWait, Tries, drained_of, entered, got, is_drained, is_plain, may_wait, reply_of, told_of, withdrawn};
+ghost use Rattle.kanal_events.specs.StepResult.{MustWait, Tries, drained_of, entered, got, is_drained, is_plain, may_wait, reply_of, told_of, withdrawn};
 ghost use Rattle.kanal_state.specs.Calls.{IsTold};
 ghost use Rattle.kanal_state.specs.Entries.{entry, receipt, replied, told_by, tried_entry, tried_receipt, withdrawal};
 ghost use Rattle.kanal_state.specs.Makes.{HasTooLittleRoom, IsKept, IsNoted, IsTried};
@@ -19,28 +19,28 @@ ghost use Rattle.kanal_state.specs.Frames.{OnlyLineMoves};
 ghost use Rattle.kanal_state.specs.Renewing.{Renews};
 ghost use Rattle.kanal_state.specs.Waits.{HasStarted, Joins, reply_at};
 
-mod counting;
-mod keeping;
-mod leaving;
+mod handle_count;
+mod internal_calls;
+mod recording;
 
 use crate::History;
 use crate::counted::{CountedWait, FirstHandles, Notices};
 use crate::released::Deferred;
-use crate::seat::{Core, Seat};
+use crate::waiter_handle::{Core, WaiterHandle};
 use futures::task::Waker;
+pub use internal_calls::Gone;
 use kanal_core::internal::{Ticket, Waiter};
 use kanal_events::event::{Event, Refusal, Reply, Side};
-use kanal_events::made::{Answered, Kept, Made};
+use kanal_events::step_result::{Answered, Kept, StepResult};
 use kanal_events::steps;
-use keeping::{
+use recording::{
     Asked, OfAnswer, OfCall, OfEntry, OfReceipt, OfReply, OfTriedEntry, OfTriedReceipt,
     OfWithdrawal, note, note_made,
 };
-pub use leaving::Gone;
 use std::marker::Model;
 use std::snapshot::Snapshot;
 
-/// The core, the history of the calls on its line, and what makes the calls that are nobody's: of a handle
+/// The core, the history of the calls on its line, and what makes the internal calls: of a handle
 /// that is gone, or of a wait that was left. Contracts see what makes those, the line, and who waits with what.
 ///
 /// Its type keeps that what is kept led to that line.
@@ -69,8 +69,8 @@ impl<T, H: History<T>> Model for State<T, H> {
 pub enum WaitStart<T, H: History<T>> {
     /// The call waits. That has to be counted out.
     Waits(CountedWait),
-    /// It was refused so, and the seat that it brought is back.
-    Refused(Deferred<Reply<T>>, Deferred<Seat<T, H>>),
+    /// It was refused so, and the waiter's handle that it brought is back.
+    Refused(Deferred<Reply<T>>, Deferred<WaiterHandle<T, H>>),
 }
 
 /// The reply to a call that must wait, where the tickets are used up.
@@ -96,10 +96,10 @@ fn renew<T: Drop, H: History<T>>(
     ensures waits { (result ≡ true) ↔ IsSome (waiter_of ticket core.old.waiters) }
     ensures renewed { Renews ticket spare.old core.old.waiters core.new.waiters spare.new }
 {
-    let Some(seat) = core.waiting(ticket) else {
+    let Some(waiter) = core.waiting(ticket) else {
         return false;
     };
-    seat.renew(spare);
+    waiter.renew(spare);
     true
 }
 
@@ -161,14 +161,14 @@ impl<T: Drop, H: History<T>> State<T, H> {
     ///
     /// # Examples
     /// ```text
-    /// let made = locked.state.call(board, &mut pass, Event::Close);
+    /// let made = locked.state.call(log, &mut pass, Event::Close);
     /// ```
     pub fn call(
         &mut self,
-        board: &H::Board,
+        log: &H::Log,
         pass: &mut H::Pass,
         event: Event<T>,
-    ) -> Deferred<Made<T, Seat<T, H>>>
+    ) -> Deferred<StepResult<T, WaiterHandle<T, H>>>
         requires plain { is_plain event ≡ true }
         requires uncounted { counts_handle event ≡ false }
         ensures noted { IsNoted H.words pass.old pass.new event result }
@@ -177,12 +177,17 @@ impl<T: Drop, H: History<T>> State<T, H> {
         ensures cleanup { self.new.0 ≡ self.old.0 }
     {
         Deferred {
-            inside: self.make(board, pass, event),
+            inside: self.make(log, pass, event),
         }
     }
 
     /// Makes a call that never waits.
-    fn make(&mut self, board: &H::Board, pass: &mut H::Pass, event: Event<T>) -> Made<T, Seat<T, H>>
+    fn make(
+        &mut self,
+        log: &H::Log,
+        pass: &mut H::Pass,
+        event: Event<T>,
+    ) -> StepResult<T, WaiterHandle<T, H>>
         requires plain { is_plain event ≡ true }
         ensures noted { IsNoted H.words pass.old pass.new event result }
         ensures step { Tells self.old.1 event (told_of self.new.1 result) }
@@ -191,13 +196,13 @@ impl<T: Drop, H: History<T>> State<T, H> {
     {
         let asked = Snapshot::of(&event);
         let made = steps::make(&mut self.core, event);
-        note_made(&mut self.history, board, pass, &asked, &made);
+        note_made(&mut self.history, log, pass, &asked, &made);
         made
     }
 
     /// Makes a send whose message enters where nobody waits; where it doesn't enter so nothing changes.
     #[inline(always)]
-    pub fn push(&mut self, board: &H::Board, pass: &mut H::Pass, message: T) -> Result<(), T>
+    pub fn push(&mut self, log: &H::Log, pass: &mut H::Pass, message: T) -> Result<(), T>
         ensures made { OnOk result (H.words.makes pass.old pass.new (entry message)) }
         ensures told { OnOk result (IsTold (entry message)) }
         ensures refused { IfErr result (λ back. (back ≡ message) × (pass.new ≡ pass.old)) }
@@ -208,13 +213,13 @@ impl<T: Drop, H: History<T>> State<T, H> {
         let asked = Snapshot::of(&message);
         steps::push(&mut self.core, message)?;
         let history = &mut self.history;
-        history.append::<Snapshot<T>, (), OfEntry>(board, pass, &asked, &());
+        history.append::<Snapshot<T>, (), OfEntry>(log, pass, &asked, &());
         Ok(())
     }
 
     /// Makes a receive that gets its message where nobody waits; where it gets none so nothing changes.
     #[inline(always)]
-    pub fn pop(&mut self, board: &H::Board, pass: &mut H::Pass) -> Option<T>
+    pub fn pop(&mut self, log: &H::Log, pass: &mut H::Pass) -> Option<T>
         ensures made { IfSome result (λ m. H.words.makes pass.old pass.new (receipt m)) }
         ensures told { IfSome result (λ m. IsTold (receipt m)) }
         ensures refused { IfNone result (pass.new ≡ pass.old) }
@@ -224,7 +229,7 @@ impl<T: Drop, H: History<T>> State<T, H> {
     {
         let message = steps::pop(&mut self.core)?;
         let history = &mut self.history;
-        history.append::<T, (), OfReceipt>(board, pass, &message, &());
+        history.append::<T, (), OfReceipt>(log, pass, &message, &());
         Some(message)
     }
 
@@ -233,10 +238,10 @@ impl<T: Drop, H: History<T>> State<T, H> {
     ///
     /// # Examples
     /// ```text
-    /// locked.state.try_push(board, &mut pass, 7)   answers  Ok(())   in a channel with a place
+    /// locked.state.try_push(log, &mut pass, 7)   answers  Ok(())   in a channel with a place
     /// ```
     #[inline(always)]
-    pub fn try_push(&mut self, board: &H::Board, pass: &mut H::Pass, message: T) -> Result<(), T>
+    pub fn try_push(&mut self, log: &H::Log, pass: &mut H::Pass, message: T) -> Result<(), T>
         ensures made { OnOk result (H.words.makes pass.old pass.new (tried_entry message)) }
         ensures told { OnOk result (IsTold (tried_entry message)) }
         ensures refused { IfErr result (λ back. (back ≡ message) × (pass.new ≡ pass.old)) }
@@ -245,7 +250,7 @@ impl<T: Drop, H: History<T>> State<T, H> {
         let asked = Snapshot::of(&message);
         steps::push(&mut self.core, message)?;
         let history = &mut self.history;
-        history.append::<Snapshot<T>, (), OfTriedEntry>(board, pass, &asked, &());
+        history.append::<Snapshot<T>, (), OfTriedEntry>(log, pass, &asked, &());
         Ok(())
     }
 
@@ -254,10 +259,10 @@ impl<T: Drop, H: History<T>> State<T, H> {
     ///
     /// # Examples
     /// ```text
-    /// locked.state.try_pop(board, &mut pass)   answers  Some(7)   after 7 entered
+    /// locked.state.try_pop(log, &mut pass)   answers  Some(7)   after 7 entered
     /// ```
     #[inline(always)]
-    pub fn try_pop(&mut self, board: &H::Board, pass: &mut H::Pass) -> Option<T>
+    pub fn try_pop(&mut self, log: &H::Log, pass: &mut H::Pass) -> Option<T>
         ensures made { IfSome result (λ m. H.words.makes pass.old pass.new (tried_receipt m)) }
         ensures told { IfSome result (λ m. IsTold (tried_receipt m)) }
         ensures refused { IfNone result (pass.new ≡ pass.old) }
@@ -265,7 +270,7 @@ impl<T: Drop, H: History<T>> State<T, H> {
     {
         let message = steps::pop(&mut self.core)?;
         let history = &mut self.history;
-        history.append::<T, (), OfTriedReceipt>(board, pass, &message, &());
+        history.append::<T, (), OfTriedReceipt>(log, pass, &message, &());
         Some(message)
     }
 
@@ -275,10 +280,10 @@ impl<T: Drop, H: History<T>> State<T, H> {
     /// The call, where it must wait: the pass has seen that it must.
     pub fn start(
         &mut self,
-        board: &H::Board,
+        log: &H::Log,
         pass: &mut H::Pass,
         event: Event<T>,
-    ) -> Result<Deferred<Answered<T, Seat<T, H>>>, Event<T>>
+    ) -> Result<Deferred<Answered<T, WaiterHandle<T, H>>>, Event<T>>
         requires waits { may_wait event ≡ true }
         ensures tried { IsTried H.words pass.old pass.new event result }
         ensures step { Tries self.old.1 event result self.new.1 }
@@ -291,13 +296,13 @@ impl<T: Drop, H: History<T>> State<T, H> {
         match tried {
             Ok(answered) => {
                 let lacks = answered.lacks_memory();
-                note::<T, Answered<T, Seat<T, H>>, OfAnswer, H>(
-                    history, board, pass, &asked, &answered, lacks,
+                note::<T, Answered<T, WaiterHandle<T, H>>, OfAnswer, H>(
+                    history, log, pass, &asked, &answered, lacks,
                 );
                 Ok(Deferred { inside: answered })
             },
             Err(back) => {
-                history.show(board, pass);
+                history.show(log, pass);
                 Err(back)
             },
         }
@@ -335,7 +340,7 @@ impl<T: Drop, H: History<T>> State<T, H> {
     /// Refuses a call that must wait, since the tickets are used up. That is a call, too.
     pub fn refuse(
         &mut self,
-        board: &H::Board,
+        log: &H::Log,
         pass: &mut H::Pass,
         event: Event<T>,
     ) -> Deferred<Reply<T>>
@@ -350,43 +355,44 @@ impl<T: Drop, H: History<T>> State<T, H> {
         let asked = Snapshot::of(&event);
         let reply = too_many(&self.core, event);
         let lacks = reply.is_no_memory();
-        note::<T, Reply<T>, OfReply, H>(&mut self.history, board, pass, &asked, &reply, lacks);
+        note::<T, Reply<T>, OfReply, H>(&mut self.history, log, pass, &asked, &reply, lacks);
         Deferred { inside: reply }
     }
 
-    /// Starts the wait of a call that must, with the seat. It settles nobody. The wait has to be counted out.
+    /// Starts the wait of a call that must, with the waiter's handle. It settles no wait. This one is to be
+    /// counted out.
     ///
     /// # Examples
     /// ```text
-    /// match locked.state.wait(board, &mut pass, Event::Recv, seat) {
+    /// match locked.state.wait(log, &mut pass, Event::Recv, waiter) {
     ///     WaitStart::Waits(counted) => ..,
-    ///     WaitStart::Refused(reply, seat) => ..,
+    ///     WaitStart::Refused(reply, waiter) => ..,
     /// }
     /// ```
     #[inline]
     pub fn wait(
         &mut self,
-        board: &H::Board,
+        log: &H::Log,
         pass: &mut H::Pass,
         event: Event<T>,
-        seat: Seat<T, H>,
+        waiter: WaiterHandle<T, H>,
     ) -> WaitStart<T, H>
         requires waits { may_wait event ≡ true }
         requires must { MustWait self.old.1 event }
         ensures started { HasStarted H.words pass.old pass.new event result }
         ensures step { Tells self.old.1 event (only self.new.1 (reply_at result)) }
-        ensures joins { Joins self.old.2 event seat result self.new.2 }
+        ensures joins { Joins self.old.2 event waiter result self.new.2 }
         ensures cleanup { self.new.0 ≡ self.old.0 }
     {
         let asked = Snapshot::of(&event);
-        let (reply, kept) = steps::wait(&mut self.core, event, seat);
+        let (reply, kept) = steps::wait(&mut self.core, event, waiter);
         let lacks = reply.is_no_memory();
-        note::<T, Reply<T>, OfReply, H>(&mut self.history, board, pass, &asked, &reply, lacks);
+        note::<T, Reply<T>, OfReply, H>(&mut self.history, log, pass, &asked, &reply, lacks);
         match kept {
             Kept::Ticket(ticket) => WaitStart::Waits(CountedWait::new(ticket)),
-            Kept::Back(seat) => WaitStart::Refused(
+            Kept::Back(waiter) => WaitStart::Refused(
                 Deferred { inside: reply },
-                Deferred { inside: seat },
+                Deferred { inside: waiter },
             ),
         }
     }
@@ -396,14 +402,14 @@ impl<T: Drop, H: History<T>> State<T, H> {
     ///
     /// # Examples
     /// ```text
-    /// locked.state.withdraw(board, &mut pass, counted)   answers  Err(counted)   where its wait was settled
+    /// locked.state.withdraw(log, &mut pass, counted)   answers  Err(counted)   where its wait was settled
     /// ```
     pub fn withdraw(
         &mut self,
-        board: &H::Board,
+        log: &H::Log,
         pass: &mut H::Pass,
         counted: CountedWait,
-    ) -> Result<Deferred<Waiter<T, Seat<T, H>>>, CountedWait>
+    ) -> Result<Deferred<Waiter<T, WaiterHandle<T, H>>>, CountedWait>
         ensures made { IfOk result (λ w. H.words.makes pass.old pass.new
             (withdrawal (number_of (ticket_of counted)) w.message)) }
         ensures told { IfOk result (λ w. IsTold
@@ -422,10 +428,10 @@ impl<T: Drop, H: History<T>> State<T, H> {
         };
         let before = Snapshot::of(pass);
         let history = &mut self.history;
-        history.append::<Ticket, Waiter<T, Seat<T, H>>, OfWithdrawal>(
-            board, pass, &ticket, &waiter,
+        history.append::<Ticket, Waiter<T, WaiterHandle<T, H>>, OfWithdrawal>(
+            log, pass, &ticket, &waiter,
         );
-        counted.withdrawn::<T, Seat<T, H>, H>(&before, pass, &waiter);
+        counted.withdrawn::<T, WaiterHandle<T, H>, H>(&before, pass, &waiter);
         Ok(Deferred { inside: waiter })
     }
 
@@ -433,14 +439,14 @@ impl<T: Drop, H: History<T>> State<T, H> {
     ///
     /// # Examples
     /// ```text
-    /// let made = locked.state.drain(board, &mut pass, &mut messages);
+    /// let made = locked.state.drain(log, &mut pass, &mut messages);
     /// ```
     pub fn drain(
         &mut self,
-        board: &H::Board,
+        log: &H::Log,
         pass: &mut H::Pass,
         into: &mut Vec<T>,
-    ) -> Deferred<Made<T, Seat<T, H>>>
+    ) -> Deferred<StepResult<T, WaiterHandle<T, H>>>
         ensures noted { IsNoted H.words pass.old pass.new Event.Drain result }
         ensures moved { into.new.items ≡ into.old.items ++ drained_of result }
         ensures memory { is_no_memory (reply_of result) ≡ true
@@ -453,7 +459,7 @@ impl<T: Drop, H: History<T>> State<T, H> {
     {
         let asked = Snapshot::of(&Event::Drain);
         let made = steps::drain(&mut self.core, into);
-        note_made(&mut self.history, board, pass, &asked, &made);
+        note_made(&mut self.history, log, pass, &asked, &made);
         Deferred { inside: made }
     }
 

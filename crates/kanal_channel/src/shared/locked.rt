@@ -1,4 +1,4 @@
-//! The lock of a channel as a token that has to be given back, and the notices that are applied under it.
+//! The lock of a channel as a token that has to be released, and the notices that are applied under it.
 //!
 //! Whoever gets the lock has all notices applied before its own step. A call that may wait for the lock then
 //! releases it where they took something out, tells that, and waits for the lock anew; one that may not makes its
@@ -12,7 +12,7 @@ use kanal_state::{Deferred, Gone, History, Leavers, ReceiveSide, Released, SendS
 use std::snapshot::Snapshot;
 use std::sync::{MutexGuard, Wait};
 
-/// The lock of a channel, which has to be given back: the prover refuses a call that lets it go.
+/// The lock of a channel, which has to be released: the prover refuses a call that lets it go.
 ///
 /// While it is held no other call makes a step, and a drop leaves a notice.
 pub struct Locked<'a, T, H: History<T>> {
@@ -66,7 +66,7 @@ impl<T: Drop, H: History<T>> Drop for Locked<'_, T, H> {
     fn drop(self)
         requires given_back { is_held self ≡ false }
     {
-        drop(self.release_after());
+        drop(self.unlock_after_internal());
     }
 }
 
@@ -76,40 +76,40 @@ impl<T: Drop, H: History<T>> Locked<'_, T, H> {
     ///
     /// # Examples
     /// ```text
-    /// let mut locked = shared.hold(&rt);
-    /// locked.give_back_quiet();
+    /// let mut locked = shared.lock(&rt);
+    /// locked.unlock_quiet();
     /// ```
     #[inline]
-    pub fn give_back_quiet(self) -> Released
+    pub fn unlock_quiet(self) -> Released
         requires quiet { IsQuiet self }
     {
         let shared = self.shared;
-        let released = self.release();
+        let released = self.unlock();
         if !shared.is_quiet() {
-            shared.look();
+            shared.drain_notices();
         }
         released
     }
 
-    /// Releases the lock after a call of a caller's pass: no call of nobody's was made. What was settled may be
+    /// Releases the lock after a call of a caller's pass: no internal call was made. What was settled may be
     /// told then, by the answer.
     ///
     /// # Examples
     /// ```text
-    /// let released = locked.release();
+    /// let released = locked.unlock();
     /// shared.tell_left(left, &released);
-    /// shared.look();
+    /// shared.drain_notices();
     /// ```
     #[inline]
-    pub fn release(self) -> Released
+    pub fn unlock(self) -> Released
         requires quiet { IsQuiet self }
     {
-        self.release_after()
+        self.unlock_after_internal()
     }
 
-    /// Releases the lock after a call of nobody's.
+    /// Releases the lock after an internal call.
     #[inline]
-    pub(super) fn release_after(self) -> Released {
+    pub(super) fn unlock_after_internal(self) -> Released {
         let Locked {
             shared: _,
             state,
@@ -125,10 +125,10 @@ impl<T: Drop, H: History<T>> Locked<'_, T, H> {
     ///
     /// # Examples
     /// ```text
-    /// let locked = shared.try_lock()?.catch_up()?;
+    /// let locked = shared.try_lock_raw()?.apply_notices()?;
     /// ```
     #[cold]
-    pub fn catch_up(self) -> Option<Self>
+    pub fn apply_notices(self) -> Option<Self>
         ensures quiet { IfSome result IsQuiet }
     {
         let shared = self.shared;
@@ -136,9 +136,9 @@ impl<T: Drop, H: History<T>> Locked<'_, T, H> {
         match locked.take_left().into_taken() {
             None => Some(locked),
             Some(taken) => {
-                let released = locked.release();
+                let released = locked.unlock();
                 shared.tell_taken(taken, &released);
-                shared.try_lock()
+                shared.try_lock_raw()
             },
         }
     }
@@ -159,11 +159,11 @@ impl<T: Drop, H: History<T>> Shared<T, H> {
     ///
     /// # Examples
     /// ```text
-    /// let mut locked = shared.hold(&rt);
-    /// locked.give_back_quiet();
+    /// let mut locked = shared.lock(&rt);
+    /// locked.unlock_quiet();
     /// ```
     #[inline]
-    pub fn hold<R: Wait>(&self, rt: &R) -> Locked<'_, T, H>
+    pub fn lock<R: Wait>(&self, rt: &R) -> Locked<'_, T, H>
         ensures quiet { IsQuiet result }
     {
         let state = self.guard(rt);
@@ -179,21 +179,21 @@ impl<T: Drop, H: History<T>> Shared<T, H> {
             }
             drop(state);
         }
-        self.guard_anew(rt)
+        self.lock_slow(rt)
     }
 
     /// The same, where the lock was held or there are notices.
     #[cold]
-    fn guard_anew<R: Wait>(&self, rt: &R) -> MutexGuard<'_, State<T, H>> {
+    fn lock_slow<R: Wait>(&self, rt: &R) -> MutexGuard<'_, State<T, H>> {
         for _ in rt.forever() {
             let state = match self.state.try_lock() {
                 Some(state) => state,
-                None => self.contend(rt),
+                None => self.lock_contended(rt),
             };
             if self.is_quiet() {
                 return state;
             }
-            if let Some(state) = self.catch_up(state) {
+            if let Some(state) = self.apply_notices(state) {
                 return state;
             }
         }
@@ -202,7 +202,7 @@ impl<T: Drop, H: History<T>> Shared<T, H> {
 
     /// Applies the notices. Where they take something out, the lock is released, and that is told.
     #[cold]
-    fn catch_up<'a>(
+    fn apply_notices<'a>(
         &'a self,
         state: MutexGuard<'a, State<T, H>>,
     ) -> Option<MutexGuard<'a, State<T, H>>> {
@@ -219,10 +219,10 @@ impl<T: Drop, H: History<T>> Shared<T, H> {
     ///
     /// # Examples
     /// ```text
-    /// shared.try_lock()   answers  None   while another has the lock
+    /// shared.try_lock_raw()   answers  None   while another has the lock
     /// ```
     #[inline]
-    pub fn try_lock(&self) -> Option<Locked<'_, T, H>>
+    pub fn try_lock_raw(&self) -> Option<Locked<'_, T, H>>
         ensures quiet { IfSome result IsQuiet }
     {
         let state = self.state.try_lock()?;
@@ -247,14 +247,14 @@ impl<T: Drop, H: History<T>> Shared<T, H> {
     ///
     /// # Examples
     /// ```text
-    /// let (mut locked, left) = shared.try_hold()?;
-    /// let released = locked.release();
+    /// let (mut locked, left) = shared.try_lock()?;
+    /// let released = locked.unlock();
     /// shared.tell_left(left, &released);
     /// ```
-    pub fn try_hold(&self) -> Option<(Locked<'_, T, H>, Left<T, H>)>
+    pub fn try_lock(&self) -> Option<(Locked<'_, T, H>, Left<T, H>)>
         ensures quiet { IfSome result (λ held. IsQuiet held.0) }
     {
-        let mut locked = self.try_lock()?;
+        let mut locked = self.try_lock_raw()?;
         let left = if self.is_quiet() {
             Left::nothing()
         } else {
@@ -265,7 +265,7 @@ impl<T: Drop, H: History<T>> Shared<T, H> {
 
     /// Waits for a lock that was held: with pauses and naps between the tries, and then asleep.
     #[cold]
-    fn contend<R: Wait>(&self, rt: &R) -> MutexGuard<'_, State<T, H>> {
+    fn lock_contended<R: Wait>(&self, rt: &R) -> MutexGuard<'_, State<T, H>> {
         let contention = Contention::new();
         for tries in 0..LOCK_TRIES {
             contention.pause(rt, tries);
@@ -282,14 +282,14 @@ impl<T: Drop, H: History<T>> Shared<T, H> {
     fn apply(&self, state: &mut State<T, H>) -> Option<Taken<T, H>> {
         self.notices.read();
         let gone = match self.notices.take_waits() {
-            Some(waits) => Some(state.withdraw_left(&self.board, self.alloc, waits)),
+            Some(waits) => Some(state.withdraw_left(&self.log, self.alloc, waits)),
             None => None,
         };
         let senders = self.notices.take_handles::<SendSide>();
-        let (senders, rest) = state.drop_handles(&self.board, senders);
+        let (senders, rest) = state.drop_handles(&self.log, senders);
         self.notices.put_back(rest);
         let receivers = self.notices.take_handles::<ReceiveSide>();
-        let (receivers, rest) = state.drop_handles(&self.board, receivers);
+        let (receivers, rest) = state.drop_handles(&self.log, receivers);
         self.notices.put_back(rest);
         match (gone, senders, receivers) {
             (None, None, None) => None,

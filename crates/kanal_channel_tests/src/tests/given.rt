@@ -2,7 +2,7 @@
 //!
 //! Each ends the test by itself, so that a test has nothing to hand out where something is missing.
 ghost use Rattle.std.specs.Prelude.{◌≡◌, true};
-ghost use Rattle.kanal_events.specs.Made.{may_wait};
+ghost use Rattle.kanal_events.specs.StepResult.{may_wait};
 
 use futures::test::MockTask;
 use kanal::{AsyncReceiver, AsyncSender};
@@ -71,7 +71,7 @@ pub fn counts<T: Drop, R: Wait>(rt: &R, shared: &Shared<T, NoHistory>) -> (u32, 
     )
 }
 
-/// Makes a call that need not wait under the lock, calls `held` before the lock is given back and `between`
+/// Makes a call that need not wait under the lock, calls `held` before the lock is released and `between`
 /// after it, and only then tells who has to be told of the call. The reply; none, and neither is called, where
 /// the call must wait.
 pub fn tell_late<R: Wait, T: Drop, F: FnOnce(), G: FnOnce()>(
@@ -86,18 +86,18 @@ pub fn tell_late<R: Wait, T: Drop, F: FnOnce(), G: FnOnce()>(
     requires between { G.IsAlwaysCallable between }
 {
     let mut pass = ();
-    let mut locked = shared.hold(rt);
-    match locked.state.start(shared.board(), &mut pass, event) {
+    let mut locked = shared.lock(rt);
+    match locked.state.start(shared.log(), &mut pass, event) {
         Ok(answered) => {
             held();
-            let released = locked.release();
+            let released = locked.unlock();
             between();
             let reply = shared.settle(&mut pass, answered.open(&released).into_made(), &released);
-            shared.look();
+            shared.drain_notices();
             Some(reply)
         },
         Err(_event) => {
-            locked.give_back_quiet();
+            locked.unlock_quiet();
             None
         },
     }

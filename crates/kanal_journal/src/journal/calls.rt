@@ -6,26 +6,26 @@ ghost use Rattle.std.specs.Prelude.{◌≡◌, ◌+◌, ◌<◌, ◌≤◌, true
 ghost use Rattle.kanal_core.specs.Channel.{line_of};
 ghost use Rattle.kanal_events.specs.Steps.{Tells};
 ghost use Rattle.kanal_events.specs.Given.{GivesNone};
-ghost use Rattle.kanal_events.specs.Made.{may_wait, reply_of, told_of};
+ghost use Rattle.kanal_events.specs.StepResult.{may_wait, reply_of, told_of};
 ghost use Rattle.kanal_journal.specs.Runs.{has_handle, has_side, handles_after};
 ghost use Rattle.kanal_journal.specs.Given.{AreGiven, AreFew};
-ghost use Rattle.kanal_journal.specs.Made.{IsMade, IsAnswered};
+ghost use Rattle.kanal_journal.specs.StepResult.{IsMade, IsAnswered};
 ghost use Rattle.kanal_events.specs.declared.event.Side.TheVariants.{Tx, Rx};
 
 use super::handles::Handles;
 use kanal_core::internal::{ChannelInternal, Ticket};
 use kanal_events::event::{Event, Refusal, Reply};
-use kanal_events::made::{Kept, Made as MadeWith};
+use kanal_events::step_result::{Kept, StepResult as StepResultWith};
 use kanal_events::steps;
 
 /// A core on which nobody brings anything to a wait.
 pub(crate) type Core<T> = ChannelInternal<T, ()>;
 
 /// What a step of such a core told.
-pub(crate) type Made<T> = MadeWith<T, ()>;
+pub(crate) type StepResult<T> = StepResultWith<T, ()>;
 
 /// Makes a send or a receive, and keeps the ticket of a wait that it starts.
-fn wait<T: Drop>(core: &mut Core<T>, tickets: &mut Vec<Ticket>, event: Event<T>) -> Made<T>
+fn wait<T: Drop>(core: &mut Core<T>, tickets: &mut Vec<Ticket>, event: Event<T>) -> StepResult<T>
     requires waits { may_wait event ≡ true }
     requires room { vec_len tickets.old < vec_capacity tickets.old }
     requires given { AreGiven tickets.old.items core.old }
@@ -43,7 +43,7 @@ fn wait<T: Drop>(core: &mut Core<T>, tickets: &mut Vec<Ticket>, event: Event<T>)
 }
 
 /// Takes back the wait with this ticket, if it waits.
-fn withdraw<T: Drop>(core: &mut Core<T>, tickets: &[Ticket], number: u64) -> Made<T>
+fn withdraw<T: Drop>(core: &mut Core<T>, tickets: &[Ticket], number: u64) -> StepResult<T>
     requires { AreGiven tickets.now core.old }
     ensures told { Tells (line_of core.old) (Event.Withdraw number)
         (told_of (line_of core.new) result) }
@@ -51,16 +51,16 @@ fn withdraw<T: Drop>(core: &mut Core<T>, tickets: &[Ticket], number: u64) -> Mad
 {
     let Some(ticket) = tickets.get(number as usize) else {
         core.holds();
-        return Made::replied(Reply::Refused(Refusal::NotWaiting, None));
+        return StepResult::replied(Reply::Refused(Refusal::NotWaiting, None));
     };
     match steps::withdraw(core, *ticket) {
-        Some(waiter) => Made::replied(Reply::Withdrawn(waiter.message)),
-        None => Made::replied(Reply::Refused(Refusal::NotWaiting, None)),
+        Some(waiter) => StepResult::replied(Reply::Withdrawn(waiter.message)),
+        None => StepResult::replied(Reply::Refused(Refusal::NotWaiting, None)),
     }
 }
 
 /// Clones a sender.
-fn clone_tx<T: Drop>(core: &mut Core<T>, handles: &mut Handles) -> Made<T>
+fn clone_tx<T: Drop>(core: &mut Core<T>, handles: &mut Handles) -> StepResult<T>
     requires { AreFew handles.old }
     ensures told { Tells (line_of core.old) Event.CloneTx (told_of (line_of core.new) result) }
     ensures handles { handles.new ≡ handles_after handles.old Event.CloneTx (reply_of result) }
@@ -74,7 +74,7 @@ fn clone_tx<T: Drop>(core: &mut Core<T>, handles: &mut Handles) -> Made<T>
 }
 
 /// Clones a receiver.
-fn clone_rx<T: Drop>(core: &mut Core<T>, handles: &mut Handles) -> Made<T>
+fn clone_rx<T: Drop>(core: &mut Core<T>, handles: &mut Handles) -> StepResult<T>
     requires { AreFew handles.old }
     ensures told { Tells (line_of core.old) Event.CloneRx (told_of (line_of core.new) result) }
     ensures handles { handles.new ≡ handles_after handles.old Event.CloneRx (reply_of result) }
@@ -88,7 +88,7 @@ fn clone_rx<T: Drop>(core: &mut Core<T>, handles: &mut Handles) -> Made<T>
 }
 
 /// Drops a sender.
-fn drop_tx<T: Drop>(core: &mut Core<T>, handles: &mut Handles) -> Made<T>
+fn drop_tx<T: Drop>(core: &mut Core<T>, handles: &mut Handles) -> StepResult<T>
     requires { has_side handles.old Tx ≡ true }
     ensures told { Tells (line_of core.old) Event.DropTx (told_of (line_of core.new) result) }
     ensures handles { handles.new ≡ handles_after handles.old Event.DropTx (reply_of result) }
@@ -102,7 +102,7 @@ fn drop_tx<T: Drop>(core: &mut Core<T>, handles: &mut Handles) -> Made<T>
 }
 
 /// Drops a receiver.
-fn drop_rx<T: Drop>(core: &mut Core<T>, handles: &mut Handles) -> Made<T>
+fn drop_rx<T: Drop>(core: &mut Core<T>, handles: &mut Handles) -> StepResult<T>
     requires { has_side handles.old Rx ≡ true }
     ensures told { Tells (line_of core.old) Event.DropRx (told_of (line_of core.new) result) }
     ensures handles { handles.new ≡ handles_after handles.old Event.DropRx (reply_of result) }
@@ -123,7 +123,7 @@ fn make<T: Drop>(
     handles: &mut Handles,
     drained: &mut Vec<T>,
     event: Event<T>,
-) -> Made<T>
+) -> StepResult<T>
     requires handle { has_handle handles.old event ≡ true }
     requires few { AreFew handles.old }
     requires room { vec_len tickets.old < vec_capacity tickets.old }
@@ -158,7 +158,7 @@ pub(crate) fn answer<T: Drop>(
     handles: &mut Handles,
     drained: &mut Vec<T>,
     event: Event<T>,
-) -> Made<T>
+) -> StepResult<T>
     requires few { AreFew handles.old }
     requires room { vec_len tickets.old < vec_capacity tickets.old }
     requires given { AreGiven tickets.old.items core.old }
@@ -175,6 +175,6 @@ pub(crate) fn answer<T: Drop>(
     if handles.serve(&event) {
         make(core, tickets, handles, drained, event)
     } else {
-        Made::replied(event.refused(Refusal::NoHandle))
+        StepResult::replied(event.refused(Refusal::NoHandle))
     }
 }

@@ -10,7 +10,7 @@ ghost use Rattle.kanal_journal.specs.Running.{IsNoted, IsOpened, IsWithinEvents,
 use super::calls::Core;
 use super::handles::Handles;
 use super::report::Settlement;
-use super::{calls, notes};
+use super::{calls, collect};
 use kanal_core::error::NewError;
 use kanal_core::internal::{ChannelInternal, Ticket};
 use kanal_events::event::{Event, Reply};
@@ -91,6 +91,6 @@ impl<T: Drop> Running<T> {
             &mut self.drained,
             event,
         );
-        notes::note(number, made, &mut self.settled, &mut self.cleared)
+        collect::note(number, made, &mut self.settled, &mut self.cleared)
     }
 }

@@ -178,7 +178,7 @@ impl Notices {
     ///
     /// # Examples
     /// ```text
-    /// let (ended, rest) = state.drop_handles::<SendSide>(board, notices.take_handles());
+    /// let (ended, rest) = state.drop_handles::<SendSide>(log, notices.take_handles());
     /// ```
     pub fn take_handles<S: OfSide>(&self) -> GoneHandles<S> {
         GoneHandles {

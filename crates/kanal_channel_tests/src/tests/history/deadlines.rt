@@ -4,9 +4,9 @@
 //! other thread settles, and then with one that no run reaches.
 use crate::tests::given::equal;
 use crate::tests::history::exchange::{Calls, MESSAGES};
-use crate::tests::history::given::board;
+use crate::tests::history::given::new_log;
 use kanal_core::error::{ReceiveErrorTimeout, SendErrorTimeout};
-use kanal_one_history::{Channel, Naming, Pass, SystemClock, TestClock};
+use kanal_one_history::{Channel, LogId, Pass, SystemClock, TestClock};
 use std::marker::Brand;
 use std::sync::Wait;
 use std::time;
@@ -16,7 +16,7 @@ use std::time::Duration;
 const TRIES: u64 = 2;
 
 /// Sends a message, and says whether it entered.
-pub(super) fn send<J: Naming, R: Wait + time::Clock>(
+pub(super) fn send<J: LogId, R: Wait + time::Clock>(
     rt: &R,
     channel: &Channel<u64, J>,
     pass: &mut Pass<u64, J>,
@@ -35,7 +35,7 @@ pub(super) fn send<J: Naming, R: Wait + time::Clock>(
 }
 
 /// Receives a message, and says whether it is this one.
-pub(super) fn recv<J: Naming, R: Wait + time::Clock>(
+pub(super) fn recv<J: LogId, R: Wait + time::Clock>(
     rt: &R,
     channel: &Channel<u64, J>,
     pass: &mut Pass<u64, J>,
@@ -56,11 +56,11 @@ pub(super) fn recv<J: Naming, R: Wait + time::Clock>(
 #[test]
 fn until_moments_at_each_capacity(rt: HostRuntime) {
     for capacity in [0, 1, 64] {
-        let opened = board(&rt, rt.alloc());
+        let opened = new_log(&rt, rt.alloc());
         let counts = Calls::Timed.exchange_bounded::<Brand, _>(&rt, rt.alloc(), capacity, opened);
         equal(&rt, counts, Ok((MESSAGES, MESSAGES)));
     }
-    let opened = board(&rt, rt.alloc());
+    let opened = new_log(&rt, rt.alloc());
     let counts = Calls::Timed.exchange_unbounded::<Brand, _>(&rt, rt.alloc(), opened);
     equal(&rt, counts, (MESSAGES, MESSAGES));
 }

@@ -1,11 +1,11 @@
 //! Drains: the whole line goes behind what the vector held, those of waiting senders too.
 ghost use Rattle.std.specs.Prelude.{◌≡◌, Some};
-ghost use Rattle.kanal_board.specs.Boards.{table_of};
+ghost use Rattle.kanal_log.specs.Logs.{table_of};
 
 use crate::tests::given::equal;
-use crate::tests::history::given::board;
+use crate::tests::history::given::new_log;
 use kanal_core::error::{NewError, ReceiveError};
-use kanal_one_history::{Call, Channel, Naming, Opened, Pass};
+use kanal_one_history::{Call, Channel, LogId, NewLog, Pass};
 use std::alloc::Global;
 use std::marker::Brand;
 use std::process::Abort;
@@ -33,7 +33,7 @@ fn in_place(numbers: &Vec<u64>) -> u64 {
 }
 
 /// Sends all numbers.
-fn send_all<J: Naming, R: Wait>(rt: &R, channel: &Channel<u64, J>, mut pass: Pass<u64, J>) -> u64 {
+fn send_all<J: LogId, R: Wait>(rt: &R, channel: &Channel<u64, J>, mut pass: Pass<u64, J>) -> u64 {
     let mut sent = 0u64;
     for number in 0..MESSAGES {
         if channel.send(rt, &mut pass, number).is_ok() {
@@ -44,7 +44,7 @@ fn send_all<J: Naming, R: Wait>(rt: &R, channel: &Channel<u64, J>, mut pass: Pas
 }
 
 /// Waits for one message and takes what else is there, until all have come; counts those in place.
-fn drain_all<J: Naming, R: Wait>(
+fn drain_all<J: LogId, R: Wait>(
     rt: &R,
     alloc: Global,
     channel: &Channel<u64, J>,
@@ -69,11 +69,11 @@ fn drain_all<J: Naming, R: Wait>(
 }
 
 /// One thread fills the channel, and takes all at once.
-fn one_thread<J: Naming, R: Wait + Abort>(
+fn one_thread<J: LogId, R: Wait + Abort>(
     rt: &R,
     alloc: Global,
     capacity: usize,
-    opened: Opened<Call<u64>>,
+    opened: NewLog<Call<u64>>,
 ) -> Result<(), NewError>
     requires name { table_of opened ≡ J.table }
     requires capacity { J.capacity ≡ Some capacity }
@@ -97,17 +97,17 @@ fn one_thread<J: Naming, R: Wait + Abort>(
 }
 
 /// One thread sends, and another drains.
-fn two_threads<J: Naming + Send + Sync, R: Threads + Wait + Sync>(
+fn two_threads<J: LogId + Send + Sync, R: Threads + Wait + Sync>(
     rt: &R,
     alloc: Global,
     capacity: usize,
-    opened: Opened<Call<u64>>,
+    opened: NewLog<Call<u64>>,
 ) -> Result<(u64, u64), NewError>
     requires name { table_of opened ≡ J.table }
     requires capacity { J.capacity ≡ Some capacity }
 {
     let (channel, mut one) = kanal_one_history::bounded::<u64, J>(alloc, capacity, opened)?;
-    let other = one.again(channel.board());
+    let other = one.again(channel.log());
     let shared = &channel;
     Ok(thread::join(
         rt,
@@ -118,10 +118,10 @@ fn two_threads<J: Naming + Send + Sync, R: Threads + Wait + Sync>(
 
 #[test]
 fn a_thousand_at_once_and_those_of_waiting_senders(rt: HostRuntime) {
-    let opened = board(&rt, rt.alloc());
+    let opened = new_log(&rt, rt.alloc());
     let made = one_thread::<Brand, _>(&rt, rt.alloc(), 1_000, opened);
     equal(&rt, made, Ok(()));
-    let opened = board(&rt, rt.alloc());
+    let opened = new_log(&rt, rt.alloc());
     let counts = two_threads::<Brand, _>(&rt, rt.alloc(), 1, opened);
     equal(&rt, counts, Ok((MESSAGES, MESSAGES)));
 }

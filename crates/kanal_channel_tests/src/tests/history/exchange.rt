@@ -1,10 +1,10 @@
 //! An exchange between two threads on one channel, by calls that wait or by calls with deadlines.
 ghost use Rattle.std.specs.Prelude.{◌≡◌, Some, None};
-ghost use Rattle.kanal_board.specs.Boards.{table_of};
+ghost use Rattle.kanal_log.specs.Logs.{table_of};
 
 use crate::tests::history::deadlines;
 use kanal_core::error::NewError;
-use kanal_one_history::{Call, Channel, Naming, Opened, Pass};
+use kanal_one_history::{Call, Channel, LogId, NewLog, Pass};
 use std::alloc::Global;
 use std::sync::Wait;
 use std::thread::Threads;
@@ -24,7 +24,7 @@ pub(super) enum Calls {
 
 impl Calls {
     /// Sends all numbers, and counts those that entered.
-    fn send_all<J: Naming, R: Wait + time::Clock>(
+    fn send_all<J: LogId, R: Wait + time::Clock>(
         self,
         rt: &R,
         channel: &Channel<u64, J>,
@@ -44,7 +44,7 @@ impl Calls {
     }
 
     /// Receives as many, and counts those that came at their turn.
-    fn recv_all<J: Naming, R: Wait + time::Clock>(
+    fn recv_all<J: LogId, R: Wait + time::Clock>(
         self,
         rt: &R,
         channel: &Channel<u64, J>,
@@ -64,13 +64,13 @@ impl Calls {
     }
 
     /// Lets one thread send and the other receive.
-    fn exchange<J: Naming + Send + Sync, R: Threads + Wait + time::Clock + Sync>(
+    fn exchange<J: LogId + Send + Sync, R: Threads + Wait + time::Clock + Sync>(
         self,
         rt: &R,
         channel: &Channel<u64, J>,
         mut one: Pass<u64, J>,
     ) -> (u64, u64) {
-        let other = one.again(channel.board());
+        let other = one.again(channel.log());
         thread::join(
             rt,
             move || -> u64 { self.send_all(rt, channel, one) },
@@ -79,12 +79,12 @@ impl Calls {
     }
 
     /// The same on a new channel of this capacity.
-    pub(super) fn exchange_bounded<J: Naming + Send + Sync, R: Threads + Wait + time::Clock + Sync>(
+    pub(super) fn exchange_bounded<J: LogId + Send + Sync, R: Threads + Wait + time::Clock + Sync>(
         self,
         rt: &R,
         alloc: Global,
         capacity: usize,
-        opened: Opened<Call<u64>>,
+        opened: NewLog<Call<u64>>,
     ) -> Result<(u64, u64), NewError>
         requires name { table_of opened ≡ J.table }
         requires capacity { J.capacity ≡ Some capacity }
@@ -95,9 +95,9 @@ impl Calls {
 
     /// The same on a new channel without limit.
     pub(super) fn exchange_unbounded<
-        J: Naming + Send + Sync,
+        J: LogId + Send + Sync,
         R: Threads + Wait + time::Clock + Sync,
-    >(self, rt: &R, alloc: Global, opened: Opened<Call<u64>>) -> (u64, u64)
+    >(self, rt: &R, alloc: Global, opened: NewLog<Call<u64>>) -> (u64, u64)
         requires name { table_of opened ≡ J.table }
         requires capacity { J.capacity ≡ None }
     {

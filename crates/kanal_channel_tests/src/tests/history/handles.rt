@@ -1,29 +1,29 @@
 //! Handles, futures and a stream of a channel with a history.
 ghost use Rattle.std.specs.Prelude.{◌≡◌};
-ghost use Rattle.kanal_board.specs.Boards.{table_of};
+ghost use Rattle.kanal_log.specs.Logs.{table_of};
 
 use crate::tests::given::{equal, new_task};
-use crate::tests::history::given::{Handles, board, new_handles};
+use crate::tests::history::given::{Handles, new_handles, new_log};
 use futures::stream::StreamExt;
 use futures::task::Poll;
 use futures::test::MockTask;
 use kanal_core::error::{NewError, ReceiveError};
 use kanal_events::event::{Ask, Side};
 use kanal_futures::{receive_stream, recv_in_task, send_in_task};
-use kanal_one_history::{Call, Channel, Naming, Opened, Pass};
+use kanal_one_history::{Call, Channel, LogId, NewLog, Pass};
 use std::alloc::Global;
 use std::marker::Brand;
 use std::process::Abort;
 use std::sync::Wait;
 
 /// A receive in a task waits for a send by another pass, and its pass comes back with the message.
-fn receive_waits<J: Naming, R: Wait + Abort>(
+fn receive_waits<J: LogId, R: Wait + Abort>(
     rt: &R,
     task: &MockTask,
     channel: &Channel<u64, J>,
     pass: &mut Pass<u64, J>,
 ) {
-    let mut receiving = recv_in_task(channel, pass.again(channel.board()));
+    let mut receiving = recv_in_task(channel, pass.again(channel.log()));
     equal(rt, task.poll(&mut receiving).is_pending(), true);
     equal(rt, channel.send(rt, pass, 8), Ok(()));
     let Poll::Ready(Some(received)) = task.poll(&mut receiving) else {
@@ -31,19 +31,19 @@ fn receive_waits<J: Naming, R: Wait + Abort>(
     };
     let (other, answer) = received.into_parts();
     equal(rt, answer, Ok(8));
-    pass.learn(channel.board(), other);
+    pass.learn(channel.log(), other);
     pass.holds();
 }
 
 /// A send in a task waits for a place, and its pass comes back.
-fn send_waits<J: Naming, R: Wait + Abort>(
+fn send_waits<J: LogId, R: Wait + Abort>(
     rt: &R,
     task: &MockTask,
     channel: &Channel<u64, J>,
     pass: &mut Pass<u64, J>,
 ) {
     equal(rt, channel.send(rt, pass, 1), Ok(()));
-    let mut sending = send_in_task(channel, pass.again(channel.board()), 2);
+    let mut sending = send_in_task(channel, pass.again(channel.log()), 2);
     equal(rt, task.poll(&mut sending).is_pending(), true);
     equal(rt, channel.recv(rt, pass), Ok(1));
     let Poll::Ready(Some(sent)) = task.poll(&mut sending) else {
@@ -51,12 +51,12 @@ fn send_waits<J: Naming, R: Wait + Abort>(
     };
     let (other, answer) = sent.into_parts();
     equal(rt, answer, Ok(()));
-    pass.learn(channel.board(), other);
+    pass.learn(channel.log(), other);
     pass.holds();
 }
 
 /// A stream answers what is there and the end, and gives its pass back.
-fn streamed<J: Naming, R: Abort>(rt: &R, task: &MockTask, handles: Handles<J>) {
+fn streamed<J: LogId, R: Abort>(rt: &R, task: &MockTask, handles: Handles<J>) {
     let (sender, receiver, pass) = handles;
     let mut stream = receive_stream(receiver.channel(), pass);
     equal(rt, task.poll(&mut stream.next()), Poll::Ready(Some(2)));
@@ -69,11 +69,11 @@ fn streamed<J: Naming, R: Abort>(rt: &R, task: &MockTask, handles: Handles<J>) {
 
 /// All of these on one channel with one place, after a clone, and an option's message that goes through it by
 /// calls that wait for nobody. How many senders there are, with the clone and after its drop.
-fn rows<J: Naming, R: Wait + Abort>(
+fn rows<J: LogId, R: Wait + Abort>(
     rt: &R,
     alloc: Global,
     capacity: Option<usize>,
-    opened: Opened<Call<u64>>,
+    opened: NewLog<Call<u64>>,
     task: &MockTask,
 ) -> Result<(u32, u32), NewError>
     requires name { table_of opened ≡ J.table }
@@ -97,7 +97,7 @@ fn rows<J: Naming, R: Wait + Abort>(
 
 #[test]
 fn handles_futures_and_a_stream_by_passes(rt: HostRuntime) {
-    let opened = board(&rt, rt.alloc());
+    let opened = new_log(&rt, rt.alloc());
     let task = new_task(&rt);
     let counts = rows::<Brand, _>(&rt, rt.alloc(), Some(1), opened, &task);
     equal(&rt, counts, Ok((2, 1)));

@@ -1,11 +1,11 @@
 //! Passes: they take no bytes, are compared, learn, and own each call once.
 ghost use Rattle.std.specs.Prelude.{◌≡◌, Some};
-ghost use Rattle.kanal_board.specs.Boards.{table_of};
+ghost use Rattle.kanal_log.specs.Logs.{table_of};
 
 use crate::tests::given::equal;
-use crate::tests::history::given::board;
+use crate::tests::history::given::new_log;
 use kanal_core::error::NewError;
-use kanal_one_history::{Call, Channel, Naming, Opened, Pass};
+use kanal_one_history::{Call, Channel, LogId, NewLog, Pass};
 use std::alloc::Global;
 use std::marker::Brand;
 use std::mem::size_of;
@@ -18,29 +18,29 @@ fn a_pass_takes_no_bytes(rt: HostRuntime) {
 }
 
 /// Two passes make a call each, are compared, and one learns what the other has seen.
-fn two_passes<J: Naming, R: Wait>(
+fn two_passes<J: LogId, R: Wait>(
     rt: &R,
     alloc: Global,
     capacity: usize,
-    opened: Opened<Call<u64>>,
+    opened: NewLog<Call<u64>>,
 ) -> Result<bool, NewError>
     requires name { table_of opened ≡ J.table }
     requires capacity { J.capacity ≡ Some capacity }
 {
     let (channel, mut one) = kanal_one_history::bounded::<u64, J>(alloc, capacity, opened)?;
-    let mut other = one.again(channel.board());
+    let mut other = one.again(channel.log());
     let sent = channel.try_send(rt, &mut one, 7);
     let got = channel.try_recv(rt, &mut other);
     one.holds();
-    one.compare(channel.board(), &mut other);
-    one.owns_once(channel.board(), &mut other);
-    one.learn(channel.board(), other);
+    one.compare(channel.log(), &mut other);
+    one.owns_once(channel.log(), &mut other);
+    one.learn(channel.log(), other);
     Ok(sent == Ok(true) && got == Ok(Some(7)))
 }
 
 #[test]
 fn two_passes_of_one_channel(rt: HostRuntime) {
-    let opened = board(&rt, rt.alloc());
+    let opened = new_log(&rt, rt.alloc());
     equal(
         &rt,
         two_passes::<Brand, _>(&rt, rt.alloc(), 1, opened),

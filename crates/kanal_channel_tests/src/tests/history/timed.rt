@@ -1,11 +1,11 @@
 //! Calls with a deadline, by one pass and by clocks that are told what to say.
 ghost use Rattle.std.specs.Prelude.{◌≡◌};
-ghost use Rattle.kanal_board.specs.Boards.{table_of};
+ghost use Rattle.kanal_log.specs.Logs.{table_of};
 
 use crate::tests::given::equal;
-use crate::tests::history::given::{Handles, board, new_handles};
+use crate::tests::history::given::{Handles, new_handles, new_log};
 use kanal_core::error::{NewError, ReceiveErrorTimeout, SendErrorTimeout};
-use kanal_one_history::{Call, Naming, Opened, TestClock};
+use kanal_one_history::{Call, LogId, NewLog, TestClock};
 use std::alloc::Global;
 use std::marker::Brand;
 use std::process::Abort;
@@ -14,7 +14,7 @@ use std::time;
 use std::time::Duration;
 
 /// A full channel: the send waits until its deadline, and its message is gone then.
-fn full<J: Naming, R: Wait + time::Clock + Abort>(rt: &R, handles: Handles<J>) {
+fn full<J: LogId, R: Wait + time::Clock + Abort>(rt: &R, handles: Handles<J>) {
     let (sender, _receiver, mut pass) = handles;
     let (channel, pass) = (sender.channel(), &mut pass);
     let none = Duration::from_nanos(0);
@@ -35,7 +35,7 @@ fn full<J: Naming, R: Wait + time::Clock + Abort>(rt: &R, handles: Handles<J>) {
 }
 
 /// An empty channel without senders: what a receive answers depends on whether its deadline passed.
-fn left<J: Naming, R: Wait + time::Clock + Abort>(rt: &R, handles: Handles<J>) {
+fn left<J: LogId, R: Wait + time::Clock + Abort>(rt: &R, handles: Handles<J>) {
     let (sender, receiver, mut pass) = handles;
     let (channel, pass) = (receiver.channel(), &mut pass);
     let none = Duration::from_nanos(0);
@@ -59,7 +59,7 @@ fn left<J: Naming, R: Wait + time::Clock + Abort>(rt: &R, handles: Handles<J>) {
 }
 
 /// The deadline is past the largest moment: the channel isn't looked at.
-fn too_late<J: Naming, R: Wait + time::Clock + Abort>(rt: &R, handles: Handles<J>) {
+fn too_late<J: LogId, R: Wait + time::Clock + Abort>(rt: &R, handles: Handles<J>) {
     let (sender, _receiver, mut pass) = handles;
     let (channel, pass) = (sender.channel(), &mut pass);
     let last = TestClock::still(u64::MAX);
@@ -89,12 +89,12 @@ fn too_late<J: Naming, R: Wait + time::Clock + Abort>(rt: &R, handles: Handles<J
 }
 
 /// Makes the calls of one row on a new channel for one message.
-fn row<J: Naming, R: Wait + time::Clock + Abort>(
+fn row<J: LogId, R: Wait + time::Clock + Abort>(
     rt: &R,
     alloc: Global,
     capacity: Option<usize>,
     row: u8,
-    opened: Opened<Call<u64>>,
+    opened: NewLog<Call<u64>>,
 ) -> Result<(), NewError>
     requires name { table_of opened ≡ J.table }
     requires capacity { J.capacity ≡ capacity }
@@ -111,7 +111,7 @@ fn row<J: Naming, R: Wait + time::Clock + Abort>(
 #[test]
 fn rows_with_a_deadline(rt: HostRuntime) {
     for number in 0..3u8 {
-        let opened = board(&rt, rt.alloc());
+        let opened = new_log(&rt, rt.alloc());
         let made = row::<Brand, _>(&rt, rt.alloc(), Some(1), number, opened);
         equal(&rt, made, Ok(()));
     }

@@ -13,9 +13,9 @@ const LOOKS: u32 = 10_000_000;
 /// Whether a wait begins.
 pub fn begins<T: Drop, R: Wait>(rt: &R, shared: &Shared<T, NoHistory>) -> bool {
     for _ in 0..LOOKS {
-        let locked = shared.hold(rt);
+        let locked = shared.lock(rt);
         let waits = locked.state.somebody_waits();
-        locked.give_back_quiet();
+        locked.unlock_quiet();
         if waits {
             return true;
         }

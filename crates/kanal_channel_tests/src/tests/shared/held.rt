@@ -19,12 +19,12 @@ fn drop_held<R: Wait, T: Drop, D: Drop, F: Drop>(
     handles: D,
     futures: F,
 ) -> (u32, u32, u64) {
-    let locked = shared.hold(rt);
+    let locked = shared.lock(rt);
     drop(handles);
     drop(futures);
     let (senders, receivers) = locked.state.counts();
     let held = (senders, receivers, shared.left_waits());
-    locked.give_back_quiet();
+    locked.unlock_quiet();
     held
 }
 
@@ -81,12 +81,12 @@ fn notices_of_all_kinds_are_applied_in_their_order(rt: HostRuntime) {
     let (mut leaves, mut stays) = (receive_future(&shared), receive_future(&shared));
     equal(&rt, task.poll(&mut leaves), Poll::Pending);
     equal(&rt, task.poll(&mut stays), Poll::Pending);
-    let locked = shared.hold(&rt);
+    let locked = shared.lock(&rt);
     shared.drop_handle(receiver);
     shared.drop_handle(sender);
     drop(leaves);
     let held = (locked.state.counts(), shared.left_waits());
-    locked.give_back_quiet();
+    locked.unlock_quiet();
     equal(&rt, held, ((1, 1), 1));
     equal(&rt, shared.left_waits(), 0);
     equal(&rt, counts(&rt, &shared), (0, 0));
@@ -98,10 +98,10 @@ fn notices_of_all_kinds_are_applied_in_their_order(rt: HostRuntime) {
 fn realtime_forms_while_the_lock_is_held(rt: HostRuntime) {
     let shared = channel::<u64>(&rt, 1);
     equal(&rt, shared.close(&rt, &mut ()), Ok(()));
-    let locked = shared.hold(&rt);
+    let locked = shared.lock(&rt);
     let sent = shared.try_send_realtime(&mut (), 1);
     let got = shared.try_recv_realtime(&mut ());
-    locked.give_back_quiet();
+    locked.unlock_quiet();
     equal(&rt, sent, Ok(false));
     equal(&rt, got, Ok(None));
 }

@@ -42,7 +42,7 @@ fn was_read(clock: &Crossed) {
 }
 
 /// Hands 7 to the receiver that waits, once its clock was read past the deadline, and settles its wait
-/// some turns after the lock was given back.
+/// some turns after the lock was released.
 fn serve_late<R: Wait>(rt: &R, shared: &Shared<u64, NoHistory>, clock: &Crossed) -> bool {
     if !begins(rt, shared) {
         return false;

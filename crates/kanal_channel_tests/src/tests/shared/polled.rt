@@ -21,9 +21,9 @@ fn a_send_and_a_receive_are_polled_while_the_lock_is_held(rt: HostRuntime) {
     let shared = channel::<u64>(&rt, 1);
     let task = new_task(&rt);
     let mut sending = send_future(&shared, 7);
-    let locked = shared.hold(&rt);
+    let locked = shared.lock(&rt);
     let polled = task.poll(&mut sending);
-    locked.give_back_quiet();
+    locked.unlock_quiet();
     let len = shared.ask_number(&rt, &mut (), Side::Tx, Ask::Len);
     equal(&rt, (polled, len), (Poll::Pending, 0));
     woken_once(&rt, &task);
@@ -33,9 +33,9 @@ fn a_send_and_a_receive_are_polled_while_the_lock_is_held(rt: HostRuntime) {
     let task = new_task(&rt);
     equal(&rt, shared.send(&rt, &mut (), 7), Ok(()));
     let mut receiving = receive_future(&shared);
-    let locked = shared.hold(&rt);
+    let locked = shared.lock(&rt);
     let polled = task.poll(&mut receiving);
-    locked.give_back_quiet();
+    locked.unlock_quiet();
     let len = shared.ask_number(&rt, &mut (), Side::Rx, Ask::Len);
     equal(&rt, (polled, len), (Poll::Pending, 1));
     woken_once(&rt, &task);
@@ -51,9 +51,9 @@ fn a_wait_is_polled_while_the_lock_is_held(rt: HostRuntime) {
     let mut receiving = receive_future(&shared);
     equal(&rt, task.poll(&mut receiving), Poll::Pending);
     holds(&rt, !task.is_woken());
-    let locked = shared.hold(&rt);
+    let locked = shared.lock(&rt);
     let polled = task.poll(&mut receiving);
-    locked.give_back_quiet();
+    locked.unlock_quiet();
     equal(&rt, polled, Poll::Pending);
     woken_once(&rt, &task);
     equal(&rt, shared.send(&rt, &mut (), 7), Ok(()));

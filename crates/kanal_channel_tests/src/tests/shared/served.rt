@@ -33,9 +33,9 @@ fn the_last_handle_under_the_lock_ends_who_waits(rt: HostRuntime) {
     let task = new_task(&rt);
     let mut receiving = receive_future(shared);
     equal(&rt, task.poll(&mut receiving), Poll::Pending);
-    let locked = shared.hold(&rt);
+    let locked = shared.lock(&rt);
     drop(sender);
-    locked.give_back_quiet();
+    locked.unlock_quiet();
     holds(&rt, task.is_woken());
     let ended = task.poll(&mut receiving);
     equal(&rt, ended, Poll::Ready(Err(ReceiveError::SendClosed)));
@@ -45,18 +45,18 @@ fn the_last_handle_under_the_lock_ends_who_waits(rt: HostRuntime) {
     let task = new_task(&rt);
     let mut sending = send_future(shared, 7);
     equal(&rt, task.poll(&mut sending), Poll::Pending);
-    let locked = shared.hold(&rt);
+    let locked = shared.lock(&rt);
     drop(receiver);
-    locked.give_back_quiet();
+    locked.unlock_quiet();
     holds(&rt, task.is_woken());
     holds(&rt, task.poll(&mut sending).is_ready());
 }
 
-/// Drops the sender under the lock, and gives the lock back without a look.
+/// Drops the sender under the lock, and releases the lock without a look.
 fn drop_unlooked<R: Wait>(rt: &R, shared: &Shared<u64, NoHistory>, sender: AsyncSender<u64>) {
-    let locked = shared.hold(rt);
+    let locked = shared.lock(rt);
     drop(sender);
-    locked.release();
+    locked.unlock();
 }
 
 #[test]
@@ -105,10 +105,10 @@ fn who_did_not_leave_waits_on(rt: HostRuntime) {
     equal(&rt, task.poll(&mut first), Poll::Pending);
     equal(&rt, task.poll(&mut second), Poll::Pending);
     equal(&rt, task.poll(&mut third), Poll::Pending);
-    let locked = shared.hold(&rt);
+    let locked = shared.lock(&rt);
     drop(first);
     drop(second);
-    locked.give_back_quiet();
+    locked.unlock_quiet();
     holds(&rt, shared.try_send(&rt, &mut (), 7) == Ok(true));
     equal(&rt, task.poll(&mut third), Poll::Ready(Ok(7)));
 }
@@ -140,15 +140,15 @@ fn serve_beside_a_notice<R: Abort>(
     shared: &Shared<u64, NoHistory>,
     sender: AsyncSender<u64>,
 ) {
-    let Some((mut locked, left)) = shared.try_hold() else {
+    let Some((mut locked, left)) = shared.try_lock() else {
         return equal(rt, "the lock is held", "the lock is free");
     };
     let mut pass = ();
     let made = locked
         .state
-        .call(shared.board(), &mut pass, Event::TrySend(7));
+        .call(shared.log(), &mut pass, Event::TrySend(7));
     drop(sender);
-    let reply = shared.give_back_tried(locked, left, &mut pass, made);
+    let reply = shared.unlock_tried(locked, left, &mut pass, made);
     holds(rt, matches!(reply, Reply::Yes));
 }
 

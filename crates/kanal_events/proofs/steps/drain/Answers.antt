@@ -2,7 +2,7 @@ use Rattle.std.proofs.Common.{◌≡◌, ◌++◌, map, inl, subst, sym}
 use Rattle.kanal_core.specs.Channel.{line_of, settlement}
 use Rattle.kanal_core.specs.Line.{messages}
 use Rattle.kanal_events.specs.declared.event.Event.TheVariants.{Drain}
-use Rattle.kanal_events.specs.Made.{told_of}
+use Rattle.kanal_events.specs.StepResult.{told_of}
 use Rattle.kanal_events.specs.Steps.{Tells}
 use Rattle.kanal_events.proofs.Draining.{drain_told}
 use Rattle.kanal_events.proofs.Giving.{none-drained}

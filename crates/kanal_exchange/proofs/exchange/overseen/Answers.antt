@@ -1,6 +1,6 @@
 use Rattle.std.proofs.Common.{◌≡◌, ◌++◌, ap, ◌∙◌, subst}
 use mathlib.Core.List.{IsPrefix}
-use Rattle.kanal_board.specs.Views.{Known, OwnsAllButQuiet}
+use Rattle.kanal_log.specs.Views.{Known, OwnsAllButQuiet}
 use Rattle.kanal_state.specs.declared.call.Call.{Call}
 use Rattle.kanal_state.specs.Calls.{IsSilent}
 use Rattle.kanal_exchange.proofs.Telling.{exchanged}
@@ -14,7 +14,7 @@ returns g c =
     c.learn.ensures.own ∙ (ap (λ (k : Known (Call g.row.T.Denot)). k.own ++ c.owns_once.new.self.own) same.1 ∙ ap (λ (k : Known (Call g.row.T.Denot)). c.args.receiver.own ++ k.own) same.0) in
     record {
       in_order = λ put got tells hears.
-          exchanged g.J.Naming.capacity c.args.sender c.args.receiver log put got tells hears
+          exchanged g.J.LogId.capacity c.args.sender c.args.receiver log put got tells hears
           (subst (λ (k : Known (Call g.row.T.Denot)). IsPrefix k.log log) same.0 c.learn.ensures.this)
           (subst (λ (k : Known (Call g.row.T.Denot)). IsPrefix k.log log) same.1 c.learn.ensures.that)
           c.owns_once.ensures.apart c.holds.ensures.legal

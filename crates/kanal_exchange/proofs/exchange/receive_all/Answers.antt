@@ -15,7 +15,7 @@ pub loop-number-preserved : goal.loop-number-preserved
 loop-number-preserved g c =
     let i = c.loop-number.invariant in
     let one = c.in_default.ensures.received in
-    let told = tells_more g.J.Naming.capacity [] c.loop-number.got.items [] (one.message ∷ []) c.loop-number.pass c.receive_one.new.pass i.received one.came in
+    let told = tells_more g.J.LogId.capacity [] c.loop-number.got.items [] (one.message ∷ []) c.loop-number.pass c.receive_one.new.pass i.received one.came in
     record {
       received = subst (λ xs. Tells [] xs c.receive_one.new.pass) (sym one.stands) told.0;
       share = told.1 ∙ i.share;

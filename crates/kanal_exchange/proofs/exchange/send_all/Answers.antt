@@ -10,5 +10,5 @@ loop-message-preserved g c =
     let i = c.loop-message.invariant in
     let m = c.in-Some.message in
     let put = c.in_default.ensures.put in
-    let told = tells_more g.J.Naming.capacity c.loop-message.yielded [] (m ∷ []) [] c.loop-message.pass c.send.new.pass i.0 put in
+    let told = tells_more g.J.LogId.capacity c.loop-message.yielded [] (m ∷ []) [] c.loop-message.pass c.send.new.pass i.0 put in
     (told.0, told.1 ∙ i.1)

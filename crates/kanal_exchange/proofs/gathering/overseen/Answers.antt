@@ -1,7 +1,7 @@
 use Rattle.std.proofs.Common.{◌≡◌, ◌++◌, ap, ◌∙◌, subst}
 use mathlib.Core.List.{IsPrefix}
-use Rattle.kanal_board.specs.Views.{AreApart, Known, OwnsAllButQuiet}
-use Rattle.kanal_board.proofs.Fronts.{prefix_trans}
+use Rattle.kanal_log.specs.Views.{AreApart, Known, OwnsAllButQuiet}
+use Rattle.kanal_log.proofs.Readers.{prefix_trans}
 use Rattle.kanal_state.specs.declared.call.Call.{Call}
 use Rattle.kanal_state.specs.Calls.{IsSilent}
 use Rattle.kanal_exchange.proofs.Merging.{merged}
@@ -25,6 +25,6 @@ returns g c =
     ∙ ap (λ xs. c.args.receiver.own ++ xs) (c.learn.ensures.own ∙ (ap (λ (k : Known (Call g.row.T.Denot)). k.own ++ c.owns_once-2.new.self.own) two ∙ ap (λ (k : Known (Call g.row.T.Denot)). c.args.two.own ++ k.own) one))) in
     record {
       merged = λ first second got tells also hears count.
-          merged g.J.Naming.capacity c.args.one c.args.two c.args.receiver log first second got tells also hears seen1 seen2 heard apart12 apart13 apart23 c.holds.ensures.legal
+          merged g.J.LogId.capacity c.args.one c.args.two c.args.receiver log first second got tells also hears seen1 seen2 heard apart12 apart13 apart23 c.holds.ensures.legal
           (subst (λ xs. OwnsAllButQuiet (λ (x : Call g.row.T.Denot). IsSilent x.event) log xs) own c.owns_all.ensures.each) count;
     }

@@ -9,4 +9,4 @@ returns g c =
     let came = c.in_ok-message.ensures.got in
     let went = c.in_ok-send.ensures.put in
     let is : made ≡ g.S.Stage.value c.args.stage.now message = search rules in
-    record { handed = record { message = message; came = came; went = subst (λ m. Exchanges g.K.Naming.capacity c.args.tells.now c.send.new.pass (m ∷ []) []) is went } }
+    record { handed = record { message = message; came = came; went = subst (λ m. Exchanges g.K.LogId.capacity c.args.tells.now c.send.new.pass (m ∷ []) []) is went } }

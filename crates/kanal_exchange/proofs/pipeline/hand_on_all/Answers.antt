@@ -14,5 +14,5 @@ loop-number-init g c =
 pub loop-number-preserved : goal.loop-number-preserved
 loop-number-preserved g c =
     let i = c.loop-number.invariant in
-    let more = staged_more (g.S.Stage.value c.args.stage.now) g.J.Naming.capacity g.K.Naming.capacity c.loop-number._number c.loop-number.hears c.hand_on.new.hears c.loop-number.tells c.hand_on.new.tells i.staged c.in_default.ensures.handed in
+    let more = staged_more (g.S.Stage.value c.args.stage.now) g.J.LogId.capacity g.K.LogId.capacity c.loop-number._number c.loop-number.hears c.hand_on.new.hears c.loop-number.tells c.hand_on.new.tells i.staged c.in_default.ensures.handed in
     record { staged = more.0; share_heard = more.1 ∙ i.share_heard; share_told = more.2 ∙ i.share_told }

@@ -17,7 +17,7 @@ loop-number-preserved g c =
     let message = c.in_ok-message.message in
     let next = c.in_ok-message.next in
     let more : c.push.new.self.items ≡ c.loop-number.got.items ++ message ∷ [] = search rules in
-    let told = tells_more g.J.Naming.capacity [] c.loop-number.got.items [] (message ∷ []) c.loop-number.pass next i.received c.in_ok-message.ensures.got in
+    let told = tells_more g.J.LogId.capacity [] c.loop-number.got.items [] (message ∷ []) c.loop-number.pass next i.received c.in_ok-message.ensures.got in
     record {
       received = subst (λ xs. Tells [] xs next) (sym more) told.0;
       share = told.1 ∙ i.share;

@@ -9,4 +9,4 @@ returns-clause-line g c = line-with c.args.core.now c.args.ticket _
 pub returns-clause-renewed : goal.returns-clause-renewed
 returns-clause-renewed g c =
     let was = ap option_copied_mut (sym c.in-Some.is) ∙ c.waiting.ensures.value in
-    renews c.args.ticket c.args.spare.now c.renew.new.spare c.args.core.now.waiters c.in-Some.seat.now _ was c.renew.ensures.swapped
+    renews c.args.ticket c.args.spare.now c.renew.new.spare c.args.core.now.waiters c.in-Some.waiter.now _ was c.renew.ensures.swapped

@@ -1,5 +1,5 @@
 use Rattle.std.proofs.Common.{◌≡◌, length}
-use Rattle.kanal_events.specs.Made.{reply_of, settled_of}
+use Rattle.kanal_events.specs.StepResult.{reply_of, settled_of}
 use Rattle.kanal_state.specs.Words.{HaveShown}
 use Rattle.kanal_channel.proofs.shared.Shared.hand_out.Given as goal
 

@@ -5,8 +5,8 @@ use Rattle.kanal_channel.proofs.Backs.{refused_stays}
 use Rattle.kanal_state.proofs.Settling.{noted_answered, noted_settled}
 use Rattle.kanal_channel.proofs.shared.Shared.offer_now.Goals as goal
 
-pub give_back_tried-requires-clause-seen : goal.give_back_tried-requires-clause-seen
-give_back_tried-requires-clause-seen g c = noted_settled g.H.History.words g.met.H.History.sound c.args.pass.now c.call-made.new.pass (TrySend c.args.message) c.call-made.result c.call-made.ensures.noted
+pub unlock_tried-requires-clause-seen : goal.unlock_tried-requires-clause-seen
+unlock_tried-requires-clause-seen g c = noted_settled g.H.History.words g.met.H.History.sound c.args.pass.now c.call-made.new.pass (TrySend c.args.message) c.call-made.result c.call-made.ensures.noted
 
 pub returns-clause-kept : goal.returns-clause-kept
 returns-clause-kept g c off =
@@ -15,5 +15,5 @@ returns-clause-kept g c off =
     let new = c.call-made.new.pass in
     let message = c.args.message in
     let noted = noted_answered w old new (TrySend message) c.call-made.result c.call-made.ensures.noted in
-    let answered = subst (IsAnswered w old new (TrySend message)) (sym c.give_back_tried.ensures.reply) noted in
-    c.restored.ensures.back ∙ refused_stays w old new message c.give_back_tried.result answered (λ e. off (c.restored.ensures.answer ∙ e))
+    let answered = subst (IsAnswered w old new (TrySend message)) (sym c.unlock_tried.ensures.reply) noted in
+    c.restored.ensures.back ∙ refused_stays w old new message c.unlock_tried.result answered (λ e. off (c.restored.ensures.answer ∙ e))

@@ -1,4 +1,4 @@
-use Rattle.kanal_events.specs.Made.{settled_of}
+use Rattle.kanal_events.specs.StepResult.{settled_of}
 use Rattle.kanal_state.proofs.Settling.{all_shown}
 use Rattle.kanal_channel.proofs.shared.Shared.settle.Goals as goal
 

@@ -1,16 +1,16 @@
-use Rattle.kanal_events.specs.Made.{made_of}
+use Rattle.kanal_events.specs.StepResult.{made_of}
 use Rattle.kanal_state.proofs.Settling.{noted_replied, noted_settled, refused_replied}
 use Rattle.kanal_channel.proofs.shared.Shared.start.Goals as goal
 
-pub give_back_answered-requires-clause-seen : goal.give_back_answered-requires-clause-seen
-give_back_answered-requires-clause-seen g c =
+pub unlock_answered-requires-clause-seen : goal.unlock_answered-requires-clause-seen
+unlock_answered-requires-clause-seen g c =
     noted_settled g.H.History.words g.met.H.History.sound c.args.pass.now c.start.new.pass c.args.event (made_of c.in-Ok.answered) c.in-Ok.ensures.tried.0
 
 pub returns-in-Ok-clause-replied : goal.returns-in-Ok-clause-replied
 returns-in-Ok-clause-replied g c =
     let tried = c.in-Ok.ensures.tried in
-    let told = c.give_back_answered.ensures in
-    noted_replied g.H.History.words c.args.pass.now c.start.new.pass c.give_back_answered.new.pass c.args.event (made_of c.in-Ok.answered) c.give_back_answered.result tried.0 tried.1 told.same told.reply
+    let told = c.unlock_answered.ensures in
+    noted_replied g.H.History.words c.args.pass.now c.start.new.pass c.unlock_answered.new.pass c.args.event (made_of c.in-Ok.answered) c.unlock_answered.result tried.0 tried.1 told.same told.reply
 
 pub returns-clause-replied : goal.returns-clause-replied
 returns-clause-replied g c =

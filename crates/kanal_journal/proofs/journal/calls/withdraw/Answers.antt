@@ -4,7 +4,7 @@ use Rattle.std.proofs.lemmas.Bool.Decides.{nat_tests}
 use Rattle.kanal_core.specs.Channel.{line_of}
 use Rattle.kanal_events.specs.declared.event.Event.TheVariants.{Withdraw}
 use Rattle.kanal_events.specs.Steps.{Tells}
-use Rattle.kanal_events.specs.Made.{not_waiting, told_of, withdrawn}
+use Rattle.kanal_events.specs.StepResult.{not_waiting, told_of, withdrawn}
 use Rattle.kanal_journal.proofs.Giving.{looked-up, placed}
 use Rattle.kanal_journal.proofs.Numbering.{numbered-count}
 use Rattle.kanal_journal.proofs.Withdrawing.{numbered-get, not-waiting-told}

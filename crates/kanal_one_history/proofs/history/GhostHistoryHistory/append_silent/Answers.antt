@@ -5,15 +5,15 @@ pub invariant_of-self : goal.invariant_of-self
 invariant_of-self g c =
     let e = g.M.EntryOf.entry c.args.about.now c.args.answer.now in
     let told = c.requires.told in
-    legal-more g.J.Naming.capacity c.self.inside.keeper c.args.self.now told.0 e c.self.view_is told.1 c.append_quiet_of.new.self c.self.invariant told.2 c.append_quiet_of.ensures.added
+    legal-more g.J.LogId.capacity c.self.inside.writer c.args.self.now told.0 e c.self.view_is told.1 c.append_quiet_of.new.self c.self.invariant told.2 c.append_quiet_of.ensures.added
 
 pub invariant_of-cleanup : goal.invariant_of-cleanup
 invariant_of-cleanup g c =
     let e = g.M.EntryOf.entry c.args.about.now c.args.answer.now in
     let told = c.requires.told in
-    shown-more g.J.Naming.capacity c.self.inside.keeper c.args.self.now told.0 e c.self.view_is told.1 c.append_quiet_of.new.front _ _ c.self.invariant told.2 c.append_quiet_of.ensures.shown
+    shown-more g.J.LogId.capacity c.self.inside.writer c.args.self.now told.0 e c.self.view_is told.1 c.append_quiet_of.new.reader _ _ c.self.invariant told.2 c.append_quiet_of.ensures.shown
 
 pub returns-clause-stands : goal.returns-clause-stands
 returns-clause-stands g c l is =
     let e = g.M.EntryOf.entry c.args.about.now c.args.answer.now in
-    line-more g.J.Naming.capacity c.self.inside.keeper c.args.self.now l e c.self.view_is is c.append_quiet_of.new.self c.append_quiet_of.ensures.added
+    line-more g.J.LogId.capacity c.self.inside.writer c.args.self.now l e c.self.view_is is c.append_quiet_of.new.self c.append_quiet_of.ensures.added

@@ -1,8 +1,8 @@
 use Rattle.std.proofs.Common.{◌<◌, rules, subst, sym}
-use Rattle.kanal_board.proofs.Shares.{both-has}
+use Rattle.kanal_log.proofs.Shares.{both-has}
 use Rattle.kanal_one_history.proofs.pass.Pass.learn.Goals as goal
 
 pub invariant_of-self : goal.invariant_of-self
 invariant_of-self g c =
-    let has : 0 < c.learn.new.self.share.count = subst (λ s. 0 < s.count) (sym c.learn.ensures.share) (both-has c.other.inside.front.share c.self.inside.front.share c.self.invariant.1) in
+    let has : 0 < c.learn.new.self.share.count = subst (λ s. 0 < s.count) (sym c.learn.ensures.share) (both-has c.other.inside.reader.share c.self.inside.reader.share c.self.invariant.1) in
     (search rules, has)

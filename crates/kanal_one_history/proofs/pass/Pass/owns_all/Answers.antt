@@ -1,5 +1,5 @@
 use Rattle.std.proofs.Common.{subst}
-use Rattle.kanal_board.specs.Views.{OwnsAllButQuiet}
+use Rattle.kanal_log.specs.Views.{OwnsAllButQuiet}
 use Rattle.kanal_state.specs.Calls.{IsSilent}
 use Rattle.kanal_one_history.proofs.pass.Pass.owns_all.Goals as goal
 

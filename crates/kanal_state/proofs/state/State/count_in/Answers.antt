@@ -1,5 +1,5 @@
 use Rattle.std.proofs.Common.{◌∙◌, ap}
-use Rattle.kanal_events.specs.Made.{told_of}
+use Rattle.kanal_events.specs.StepResult.{told_of}
 use Rattle.kanal_state.specs.Results.{counted_by}
 use Rattle.kanal_state.proofs.Counting.{more_counted, more_settles}
 use Rattle.kanal_state.proofs.Leaving.{nobody_leaves}

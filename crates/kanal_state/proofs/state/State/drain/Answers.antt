@@ -1,6 +1,6 @@
 use Rattle.std.proofs.Common.{sym, subst}
 use Rattle.kanal_core.specs.Channel.{line_of}
-use Rattle.kanal_events.specs.Made.{told_of}
+use Rattle.kanal_events.specs.StepResult.{told_of}
 use Rattle.kanal_events.specs.Steps.{Tells}
 use Rattle.kanal_state.proofs.state.State.drain.Goals as goal
 

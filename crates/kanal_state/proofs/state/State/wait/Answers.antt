@@ -1,5 +1,5 @@
 use Rattle.std.proofs.Common.{subst}
-use Rattle.kanal_events.specs.Made.{Keeps}
+use Rattle.kanal_events.specs.StepResult.{Keeps}
 use Rattle.kanal_state.specs.Entries.{replied}
 use Rattle.kanal_state.specs.Makes.{HasReplied}
 use Rattle.kanal_state.proofs.Settling.{kept_replied}

@@ -2,7 +2,7 @@ use Rattle.std.proofs.Common.{refl, subst}
 use Rattle.kanal_core.specs.Channel.{line_of}
 use Rattle.kanal_core.specs.Tickets.{number_of}
 use Rattle.kanal_events.specs.declared.event.Event.TheVariants.{Withdraw}
-use Rattle.kanal_events.specs.Made.{withdrawn}
+use Rattle.kanal_events.specs.StepResult.{withdrawn}
 use Rattle.kanal_events.specs.Steps.{Tells}
 use Rattle.kanal_state.proofs.Telling.{tells_step}
 use Rattle.kanal_state.specs.Counts.{ticket_of}

@@ -2,16 +2,16 @@ use Rattle.std.proofs.Common.{arith}
 use Rattle.kanal_state.proofs.Leaving.{has_left, none_taken, waits_still}
 use Rattle.kanal_state.proofs.state.State.withdraw_left.Goals as goal
 
-pub returns-in_default-take_room : goal.returns-in_default-take_room
-returns-in_default-take_room g c =
+pub returns-in_default-take_node : goal.returns-in_default-take_node
+returns-in_default-take_node g c =
     let before = rw (← c.self-in-loop-count.view_is) at c.loop-count.invariant.1 in
     let waiters = c.self-in-loop-count.inside.core.waiters in
-    let same = none_taken c.in-Some.ticket waiters c.take_room.new.core.waiters c.in_default-take_room.ensures.taken in
+    let same = none_taken c.in-Some.ticket waiters c.take_node.new.core.waiters c.in_default-take_node.ensures.taken in
     record { left = rw same before }
 
 pub unreachable-requires : goal.unreachable-requires
 unreachable-requires g c =
-    waits_still c.in-Some.ticket c.self-in-loop-count.inside.core.waiters c.take_room.new.core.waiters c.in-Some-take_room.ensures.taken
+    waits_still c.in-Some.ticket c.self-in-loop-count.inside.core.waiters c.take_node.new.core.waiters c.in-Some-take_node.ensures.taken
     c.in_default-withdraw_by_nobody.ensures.waiter
 
 pub loop-count-preserved : goal.loop-count-preserved
@@ -19,6 +19,6 @@ loop-count-preserved g c =
     let waiters = c.self-in-loop-count.inside.core.waiters in
     let before = rw (← c.self-in-loop-count.view_is) at c.loop-count.invariant.1 in
     let withdrawn = c.in-Some-withdraw_by_nobody in
-    let left = has_left c.in-Some.ticket waiters c.take_room.new.core.waiters c.in-Some-take_room.ensures.taken withdrawn.waiter
+    let left = has_left c.in-Some.ticket waiters c.take_node.new.core.waiters c.in-Some-take_node.ensures.taken withdrawn.waiter
     withdrawn.ensures.waiter c.withdraw_by_nobody.new.self.2 withdrawn.ensures.others in
     rw c.keep-leavers.ensures.kept (omega (arith, c.loop-count.invariant.0), (waiters, before, left))

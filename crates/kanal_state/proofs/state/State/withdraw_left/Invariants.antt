@@ -1,5 +1,5 @@
 use Rattle.std.proofs.Common.{◌≤◌, length}
-use Rattle.kanal_state.specs.Seats.{HaveLeft}
+use Rattle.kanal_state.specs.WaiterHandles.{HaveLeft}
 use Rattle.kanal_state.proofs.state.State.withdraw_left.Given as goal
 
 -- at most one is kept a round, and those that are kept have left

@@ -1,8 +1,8 @@
 use Rattle.std.proofs.Common.{Some}
-use Rattle.kanal_board.specs.Boards.{table_of}
+use Rattle.kanal_log.specs.Logs.{table_of}
 use Rattle.kanal_channel_tests.proofs.tests.history.drained.a_thousand_at_once_and_those_of_waiting_senders.Given as goal
 
--- the board's name and the channel's capacity, of each of the two
+-- the log's name and the channel's capacity, of each of the two
 abbrev pub ghosts-one_thread : goal.ghosts-one_thread
 ghosts-one_thread g a = record { table = table_of a.opened; capacity = Some a.capacity }
 

@@ -1,8 +1,0 @@
-use Rattle.std.proofs.Common.{sym, ◌∙◌}
-use Rattle.kanal_board.proofs.Moves.{halves}
-use Rattle.kanal_board.proofs.front.Front.again.Goals as goal
-
-pub split_seat-seat-requires : goal.split_seat-seat-requires
-split_seat-seat-requires g c =
-    let b = c.args.board.now in
-    (c.self.invariant.0 ∙ sym b.named, b.words, halves g.E.Entry.quiet c.self.inside.seat.id c.self.inside.seat.me.0)

@@ -1,9 +1,0 @@
-use Rattle.std.proofs.Common.{sym, ◌∙◌, ap, subst}
-use Rattle.kanal_board.specs.Shares.{IsWhole}
-use Rattle.kanal_board.proofs.Moves.{checks}
-use Rattle.kanal_board.proofs.front.Front.owns_all.Goals as goal
-
-pub load-requires : goal.load-requires
-load-requires g c =
-    let b = c.args.board.now in
-    (c.self.invariant.0 ∙ sym b.named, b.words, checks g.E.Entry.quiet b.table.shared.table_id.slots c.self.inside.seat.id 0 c.self.inside.seat.me (subst IsWhole (sym (ap (λ k. k.share) c.self.view_is)) c.requires.whole))

@@ -1,0 +1,148 @@
+//! The counts of both sides, what ends them, and the questions.
+//!
+//! Each call here is one event, and waits for the lock alone. A handle is counted by a token, which `count` gives.
+ghost use Rattle.std.specs.Prelude.{◌≡◌};
+ghost use Rattle.kanal_state.specs.Handles.{Asks, AsksForTheEnd, Closes, Seals};
+ghost use Rattle.kanal_state.specs.Makes.{IsReplied};
+ghost use Rattle.kanal_state.specs.Results.{count_by, counted_by, flag_by, number_by};
+ghost use Rattle.kanal_state.specs.Counts.{one_more, whether_counted};
+
+use crate::shared::Shared;
+use kanal_core::error::{CloseError, TooMany};
+use kanal_events::event::{Ask, Event, Reply, Side};
+use kanal_state::answers::{closed_by, count_by, flag_by, number_by};
+use kanal_state::{Counted, History, OfSide};
+use std::sync::Wait;
+
+impl<T: Drop, H: History<T>> Shared<T, H> {
+    /// Closes both sides: all waits end, and the messages in the buffer are dropped after the release.
+    ///
+    /// # Errors
+    /// `CloseError` where both sides were gone already, and nothing changes.
+    ///
+    /// # Examples
+    /// ```text
+    /// shared.close(&rt, &mut pass)   answers  Ok(())
+    /// shared.close(&rt, &mut pass)   answers  Err(CloseError())   after that
+    /// ```
+    #[tactic(auto, using(kanal_state::proofs::Settling::free_replied))]
+    pub fn close<R: Wait>(&self, rt: &R, pass: &mut H::Pass) -> Result<(), CloseError>
+        ensures closed { Closes H.words pass.old pass.new result }
+    {
+        closed_by(self.call(rt, pass, Event::Close))
+    }
+
+    /// Lets the senders be done: the receives that wait end, nothing more enters, and the receivers take
+    /// what is left.
+    ///
+    /// # Errors
+    /// `CloseError` where no sender was left already, and nothing changes.
+    ///
+    /// # Examples
+    /// ```text
+    /// shared.seal(&rt, &mut pass)      answers  Ok(())
+    /// shared.send(&rt, &mut pass, 7)   answers  Err(Sealed)   after that
+    /// ```
+    #[tactic(auto, using(kanal_state::proofs::Settling::free_replied))]
+    pub fn seal<R: Wait>(&self, rt: &R, pass: &mut H::Pass) -> Result<(), CloseError>
+        ensures sealed { Seals H.words pass.old pass.new result }
+    {
+        closed_by(self.call(rt, pass, Event::Seal))
+    }
+
+    /// Counts one more handle of a side: the token has to be counted out when the handle goes. Where none of
+    /// that side is left it stays so, and the answer is `Ok`.
+    ///
+    /// # Errors
+    /// `TooMany` exactly where there are `u32::MAX` of that side, and nothing changes.
+    ///
+    /// # Examples
+    /// ```text
+    /// let counted = shared.count::<SendSide, _>(&rt, &mut pass)?;
+    /// shared.drop_handle(counted);
+    /// ```
+    pub fn count<S: OfSide, R: Wait>(
+        &self,
+        rt: &R,
+        pass: &mut H::Pass,
+    ) -> Result<Counted<S>, TooMany>
+        ensures counted { IsReplied H.words pass.old pass.new (one_more S.side) counted_by
+            (whether_counted result) }
+    {
+        let mut locked = self.lock(rt);
+        let counted = locked.state.count(&self.log, pass);
+        locked.unlock_quiet();
+        counted
+    }
+
+    /// Asks a question through a side: the answer is a `Number` or a `Flag`.
+    ///
+    /// # Examples
+    /// ```text
+    /// shared.ask(&rt, &mut pass, Side::Tx, Ask::Len)   answers  Number(1)   after one message entered
+    /// ```
+    #[tactic(auto, using(kanal_state::proofs::Settling::free_replied))]
+    pub fn ask<R: Wait>(&self, rt: &R, pass: &mut H::Pass, side: Side, question: Ask) -> Reply<T>
+        ensures asked { Asks H.words pass.old pass.new side question (λ reply. reply) result }
+    {
+        self.call(rt, pass, Event::Ask(side, question))
+    }
+
+    /// Asks through a side what is answered by yes or no.
+    ///
+    /// # Examples
+    /// ```text
+    /// shared.ask_flag(&rt, &mut pass, Side::Tx, Ask::IsFull)   answers  true   at capacity 0
+    /// ```
+    #[tactic(auto, using(kanal_state::proofs::Settling::free_replied))]
+    pub fn ask_flag<R: Wait>(&self, rt: &R, pass: &mut H::Pass, side: Side, question: Ask) -> bool
+        ensures asked { Asks H.words pass.old pass.new side question flag_by result }
+    {
+        flag_by(self.call(rt, pass, Event::Ask(side, question)))
+    }
+
+    /// Asks through a side how many messages there are, or may be.
+    ///
+    /// # Examples
+    /// ```text
+    /// shared.ask_number(&rt, &mut pass, Side::Tx, Ask::Len)   answers  1   after one message entered
+    /// ```
+    #[tactic(auto, using(kanal_state::proofs::Settling::free_replied))]
+    pub fn ask_number<R: Wait>(
+        &self,
+        rt: &R,
+        pass: &mut H::Pass,
+        side: Side,
+        question: Ask,
+    ) -> usize
+        ensures asked { Asks H.words pass.old pass.new side question number_by result }
+    {
+        number_by(self.call(rt, pass, Event::Ask(side, question)))
+    }
+
+    /// Asks through a side how many handles a side has.
+    ///
+    /// # Examples
+    /// ```text
+    /// shared.ask_count(&rt, &mut pass, Side::Tx, Ask::SenderCount)   answers  1   for a new channel
+    /// ```
+    #[tactic(auto, using(kanal_state::proofs::Settling::free_replied))]
+    pub fn ask_count<R: Wait>(&self, rt: &R, pass: &mut H::Pass, side: Side, question: Ask) -> u32
+        ensures asked { Asks H.words pass.old pass.new side question count_by result }
+    {
+        count_by(self.call(rt, pass, Event::Ask(side, question)))
+    }
+
+    /// Whether no sender is left and no message is there, those of waiting senders included.
+    ///
+    /// # Examples
+    /// ```text
+    /// shared.is_terminated(&rt, &mut pass)   answers  false   in a new channel
+    /// ```
+    #[tactic(auto, using(kanal_state::proofs::Settling::free_replied))]
+    pub fn is_terminated<R: Wait>(&self, rt: &R, pass: &mut H::Pass) -> bool
+        ensures asked { AsksForTheEnd H.words pass.old pass.new result }
+    {
+        flag_by(self.call(rt, pass, Event::Terminated))
+    }
+}

@@ -1,0 +1,402 @@
+//! What a step told, as it leaves the core, and what it owes to those whose waits it settled.
+//!
+//! A value here holds all that left the core at one step: nothing of it is settled, noted or dropped while the lock is
+//! held. Only `steps` makes one that settled a wait. Such a wait is owed to who waits: it leaves a `StepResult` by
+//! `next` alone and an `Answered` by `into_parts` alone, and the prover refuses to let go one of them that may still
+//! have one, or a `Wakeup` that nobody was told of.
+ghost use Rattle.std.specs.Prelude.{◌≡◌, ℕ, [], ◌∷◌, None, true, MatchOption};
+ghost use Rattle.kanal_core.specs.Channel.{settlements};
+ghost use Rattle.kanal_core.specs.declared.internal.outcome.Outcome.{Outcome};
+ghost use Rattle.kanal_events.specs.Steps.{is_done, is_no_memory};
+ghost use Rattle.kanal_events.specs.StepResult.{cleared_of, made_of, owed_of, owed_by, reply_of, settled_of, who_of};
+
+use crate::event::{Event, Reply};
+use kanal_core::internal::{Cleared, Closing, Ended, Outcome, Settled, Ticket};
+use std::snapshot::Snapshot;
+
+/// What a vector held before a drain and after it, for proofs alone. It has no bytes.
+#[derive(Drop)]
+pub struct Moved<T> {
+    /// What it held before.
+    pub before: Snapshot<Vec<T>>,
+    /// What it held after.
+    pub after: Snapshot<Vec<T>>,
+}
+
+/// Who waits, as the core has it: it can be told what became of its wait.
+pub trait Waits<T>: Drop {
+    /// What it is told beside that: what a pass has seen of a history.
+    type Seen: Drop;
+    /// What shows that it was told.
+    type Evidence: Drop;
+    /// What shows that the lock of the core is released.
+    type Released: Drop;
+
+    /// What was seen has it that a call settled the ticket so.
+    ghost shows: { Self.Seen → ℕ × Outcome T → Type 0 };
+
+    /// Who waits was told that its ticket was settled so.
+    ghost tells: { Self.Evidence → Self → ℕ × Outcome T → Type 0 };
+
+    /// Tells who waits, under the ticket of this number, what became of the wait.
+    fn tell(
+        self,
+        ticket: u64,
+        outcome: Outcome<T>,
+        seen: Self::Seen,
+        released: &Self::Released,
+    ) -> Self::Evidence
+        requires seen { shows seen (ticket, outcome) }
+        ensures told { tells result self (ticket, outcome) };
+}
+
+/// A wait that was settled, and is owed to who waits.
+pub struct Wakeup<T, W> {
+    settled: Settled<T, W>,
+    is_told: bool,
+}
+
+impl<T: Drop, W: Drop> Drop for Wakeup<T, W> {
+    fn drop(self)
+        requires told { self.is_told ≡ true }
+    {
+        let Wakeup {
+            settled,
+            is_told: _,
+        } = self;
+        drop(settled);
+    }
+}
+
+impl<T: Drop, W: Drop> Wakeup<T, W> {
+    /// A wait that was settled, and of which nobody was told yet.
+    #[inline(always)]
+    pub(crate) fn new(settled: Settled<T, W>) -> Self
+        ensures { result.settled ≡ settled }
+    {
+        Wakeup {
+            settled,
+            is_told: false,
+        }
+    }
+
+    /// Who is owed, where a wait was settled.
+    #[inline(always)]
+    pub(crate) fn from_settled(settled: Option<Settled<T, W>>) -> Option<Self>
+        ensures { owed_by result ≡ settlements settled }
+    {
+        match settled {
+            Some(settled) => Some(Wakeup::new(settled)),
+            None => None,
+        }
+    }
+}
+
+impl<T: Drop, W: Waits<T>> Wakeup<T, W> {
+    /// Tells who waits what became of the wait, with what was seen of it. The lock is released.
+    ///
+    /// # Examples
+    /// ```text
+    /// while let Some(owed) = made.next() {
+    ///     owed.tell(pass.again(&log), &released);
+    /// }
+    /// ```
+    #[cold]
+    pub fn tell(self, seen: W::Seen, released: &W::Released) -> W::Evidence
+        requires seen { W.shows seen (owed_of self) }
+        ensures told { W.tells result (who_of self) (owed_of self) }
+    {
+        let Wakeup {
+            settled,
+            is_told: _,
+        } = self;
+        let Settled { ticket, w, outcome } = settled;
+        w.tell(ticket.number(), outcome, seen, released)
+    }
+}
+
+impl<T: Drop> Wakeup<T, ()> {
+    /// The ticket's number, and what became of its wait, where nobody is there to be told.
+    ///
+    /// # Examples
+    /// ```text
+    /// made.next()?.into_settlement()   answers  (0, Outcome::Taken)
+    /// ```
+    pub fn into_settlement(self) -> (u64, Outcome<T>)
+        ensures { result ≡ owed_of self }
+    {
+        let Wakeup {
+            settled,
+            is_told: _,
+        } = self;
+        let Settled {
+            ticket,
+            w: (),
+            outcome,
+        } = settled;
+        (ticket.number(), outcome)
+    }
+}
+
+/// What left the core at a step.
+enum Leaving<T, W> {
+    /// A reply, and at most one wait that was settled.
+    One(Reply<T>, Option<Settled<T, W>>),
+    /// A reply, and the waits that were settled.
+    All(Reply<T>, Ended<T, W>),
+    /// A close, with the waits that it ended and the messages that it cleared.
+    Shut(Closing<T, W>),
+    /// A drain of so many messages, with the waits that it settled and what it moved.
+    Drained(usize, Ended<T, W>, Moved<T>),
+}
+
+/// What a step of the core told. The waits that it settled leave it by `next` alone.
+pub struct StepResult<T, W> {
+    leaving: Leaving<T, W>,
+}
+
+impl<T: Drop, W: Drop> Drop for StepResult<T, W> {
+    fn drop(self)
+        requires nobody { settled_of self ≡ [] }
+    {
+        let StepResult { leaving } = self;
+        match leaving {
+            Leaving::One(reply, settled) => {
+                drop(reply);
+                drop(settled);
+            },
+            Leaving::All(reply, ended) => {
+                drop(reply);
+                drop(ended);
+            },
+            Leaving::Shut(closing) => drop(closing),
+            Leaving::Drained(_count, ended, moved) => {
+                drop(ended);
+                drop(moved);
+            },
+        }
+    }
+}
+
+impl<T: Drop, W: Drop> StepResult<T, W> {
+    /// A reply that settles no wait.
+    ///
+    /// # Examples
+    /// ```text
+    /// StepResult::replied(Reply::Nothing)   tells that nothing was there
+    /// ```
+    pub fn replied(reply: Reply<T>) -> Self
+        ensures { result ≡ record { leaving = Leaving.One reply None } }
+    {
+        StepResult::one(reply, None)
+    }
+
+    /// A reply, and the wait that was settled, if one was.
+    #[inline(always)]
+    pub(crate) fn one(reply: Reply<T>, settled: Option<Settled<T, W>>) -> Self
+        ensures { result ≡ record { leaving = Leaving.One reply settled } }
+    {
+        StepResult {
+            leaving: Leaving::One(reply, settled),
+        }
+    }
+
+    /// A reply, and the waits that were settled.
+    pub(crate) fn all(reply: Reply<T>, ended: Ended<T, W>) -> Self
+        ensures { result ≡ record { leaving = Leaving.All reply ended } }
+    {
+        StepResult {
+            leaving: Leaving::All(reply, ended),
+        }
+    }
+
+    /// A close, with the waits that it ended and the messages that it cleared.
+    pub(crate) fn shut(closing: Closing<T, W>) -> Self
+        ensures { result ≡ record { leaving = Leaving.Shut closing } }
+    {
+        StepResult {
+            leaving: Leaving::Shut(closing),
+        }
+    }
+
+    /// A drain of so many messages, with the waits that it settled and what it moved.
+    pub(crate) fn drained(count: usize, ended: Ended<T, W>, moved: Moved<T>) -> Self
+        ensures { result ≡ record { leaving = Leaving.Drained count ended moved } }
+    {
+        StepResult {
+            leaving: Leaving::Drained(count, ended, moved),
+        }
+    }
+
+    /// Hands out the next wait that it settled, the oldest first.
+    ///
+    /// # Examples
+    /// ```text
+    /// made.next()   answers  Some(owed)   where a receiver waited for what was sent
+    /// made.next()   answers  None         after that
+    /// ```
+    pub fn next(&mut self) -> Option<Wakeup<T, W>>
+        ensures next { MatchOption result ((settled_of self.old ≡ []) × (settled_of self.new ≡ []))
+            (λ o. settled_of self.old ≡ owed_of o ∷ settled_of self.new) }
+        ensures reply { reply_of self.new ≡ reply_of self.old }
+        ensures cleared { cleared_of self.new ≡ cleared_of self.old }
+    {
+        let settled = match &mut self.leaving {
+            Leaving::One(_reply, settled) => settled.take(),
+            Leaving::All(_reply, ended) => ended.next(),
+            Leaving::Shut(closing) => closing.ended.next(),
+            Leaving::Drained(_count, ended, _moved) => ended.next(),
+        };
+        match settled {
+            Some(settled) => Some(Wakeup::new(settled)),
+            None => None,
+        }
+    }
+
+    /// The reply, and the messages that a close cleared, once no wait is in it.
+    ///
+    /// # Examples
+    /// ```text
+    /// made.into_parts()   answers  (Reply::Sent, None)
+    /// ```
+    pub fn into_parts(self) -> (Reply<T>, Option<Cleared<T>>)
+        requires nobody { settled_of self ≡ [] }
+        ensures reply { result.0 ≡ reply_of self }
+        ensures cleared { MatchOption result.1 (cleared_of self ≡ []) (λ c. cleared_of self ≡ c) }
+    {
+        let StepResult { leaving } = self;
+        match leaving {
+            Leaving::One(reply, settled) => {
+                drop(settled);
+                (reply, None)
+            },
+            Leaving::All(reply, ended) => {
+                drop(ended);
+                (reply, None)
+            },
+            Leaving::Shut(closing) => {
+                let Closing { cleared, ended } = closing;
+                let count = cleared.len();
+                drop(ended);
+                (Reply::Cleared(count), Some(cleared))
+            },
+            Leaving::Drained(count, ended, moved) => {
+                drop(ended);
+                drop(moved);
+                (Reply::Drained(count), None)
+            },
+        }
+    }
+
+    /// Whether the reply says that there was no memory.
+    ///
+    /// # Examples
+    /// ```text
+    /// made.lacks_memory()   answers  true    where the reply is Refused(NoMemory, ..)
+    /// ```
+    pub fn lacks_memory(&self) -> bool
+        ensures { result ≡ is_no_memory (reply_of self.now) }
+    {
+        match &self.leaving {
+            Leaving::One(reply, _settled) => reply.is_no_memory(),
+            Leaving::All(reply, _ended) => reply.is_no_memory(),
+            Leaving::Shut(_closing) => false,
+            Leaving::Drained(_count, _ended, _moved) => false,
+        }
+    }
+
+    /// Whether the reply says that what was asked was done: a clone, a drop or a seal.
+    ///
+    /// # Examples
+    /// ```text
+    /// made.is_done()   answers  true    where the reply is Done
+    /// ```
+    pub fn is_done(&self) -> bool
+        ensures { result ≡ is_done (reply_of self.now) }
+    {
+        match &self.leaving {
+            Leaving::One(reply, _settled) => reply.is_done(),
+            Leaving::All(reply, _ended) => reply.is_done(),
+            Leaving::Shut(_closing) => false,
+            Leaving::Drained(_count, _ended, _moved) => false,
+        }
+    }
+}
+
+/// What a send or a receive told that was answered at once: its reply, and at most one wait that it settled.
+/// It is a `StepResult` that takes fewer bytes.
+pub struct Answered<T, W> {
+    reply: Reply<T>,
+    settled: Option<Settled<T, W>>,
+}
+
+impl<T: Drop, W: Drop> Drop for Answered<T, W> {
+    fn drop(self)
+        requires nobody { settled_of (made_of self) ≡ [] }
+    {
+        let Answered { reply, settled } = self;
+        drop(reply);
+        drop(settled);
+    }
+}
+
+impl<T: Drop, W: Drop> Answered<T, W> {
+    /// A reply, and the wait that was settled, if one was.
+    #[inline(always)]
+    pub(crate) fn new(reply: Reply<T>, settled: Option<Settled<T, W>>) -> Self
+        ensures { made_of result ≡ record { leaving = Leaving.One reply settled } }
+    {
+        Answered { reply, settled }
+    }
+
+    /// The reply, and who is owed what became of his wait.
+    ///
+    /// # Examples
+    /// ```text
+    /// answered.into_parts()   answers  (Reply::Sent, Some(owed))   where a receiver waited for what was sent
+    /// ```
+    #[inline(always)]
+    pub fn into_parts(self) -> (Reply<T>, Option<Wakeup<T, W>>)
+        ensures reply { result.0 ≡ reply_of (made_of self) }
+        ensures owed { owed_by result.1 ≡ settled_of (made_of self) }
+    {
+        let Answered { reply, settled } = self;
+        (reply, Wakeup::from_settled(settled))
+    }
+
+    /// The same as what any step told.
+    ///
+    /// # Examples
+    /// ```text
+    /// shared.settle(&mut pass, answered.into_made())   answers  the reply
+    /// ```
+    #[inline(always)]
+    pub fn into_made(self) -> StepResult<T, W>
+        ensures { result ≡ made_of self }
+    {
+        let Answered { reply, settled } = self;
+        StepResult::one(reply, settled)
+    }
+
+    /// Whether the reply says that there was no memory.
+    ///
+    /// # Examples
+    /// ```text
+    /// answered.lacks_memory()   answers  true    where the reply is Refused(NoMemory, ..)
+    /// ```
+    #[inline(always)]
+    pub fn lacks_memory(&self) -> bool
+        ensures { result ≡ is_no_memory (reply_of (made_of self.now)) }
+    {
+        self.reply.is_no_memory()
+    }
+}
+
+/// What the caller of a call that may wait has in hand then.
+#[derive(Drop)]
+pub enum Kept<W> {
+    /// The ticket under which the call waits.
+    Ticket(Ticket),
+    /// What was brought for a wait: the call doesn't wait.
+    Back(W),
+}

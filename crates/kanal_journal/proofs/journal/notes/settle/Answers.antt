@@ -1,5 +1,0 @@
-use Rattle.std.proofs.Common.{rules}
-use Rattle.kanal_journal.proofs.journal.notes.settle.Goals as goal
-
-pub returns-clause-items : goal.returns-clause-items
-returns-clause-items g c = search rules

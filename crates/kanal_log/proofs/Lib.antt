@@ -1,0 +1,10 @@
+pub mod Readers
+pub mod Places
+pub mod Shares
+pub mod Worths
+pub mod Owners
+pub mod Owned
+pub mod Fitting
+pub mod Wholes
+pub mod Grown
+pub mod Moves

@@ -1,0 +1,85 @@
+-- Lists of places.
+use Rattle.std.proofs.Common.{◌≡◌, ◌+◌, ◌<◌, ◌≤◌, ℕ, ◌⊎◌, inl, inr, List, [], ◌∷◌, ◌++◌, length, get_or, HoldsAt, refl, sym, subst, ⊎_elim, lt_of_not-le, arith, length-append, length-drop}
+use Rattle.std.proofs.lemmas.List.{get_or_append_left, get_or-append-add, get_or-drop}
+use mathlib.Core.List.{IsPrefix}
+use mathlib.Core.Logic.{dite}
+use native.Mathlib.Decide.{dec_le}
+use Rattle.kanal_log.specs.declared.rule.Share.{Share}
+use Rattle.kanal_log.specs.Views.{IsAmong, AreApart, AreDistinct, Addition, no_entry, own_entry, quiet_entry, entries, place_of, MayAdd, IsQuietBehind}
+
+pub among-cases : (k : ℕ) (xs ys : List ℕ) → IsAmong k (xs ++ ys) → IsAmong k xs ⊎ IsAmong k ys
+among-cases k [] ys a = inr a
+among-cases k (x ∷ xs) ys (inl e) = inl (inl e)
+among-cases k (x ∷ xs) ys (inr a) = ⊎_elim (λ b. inl (inr b)) (λ b. inr b) (among-cases k xs ys a)
+
+pub among-left : (k : ℕ) (xs ys : List ℕ) → IsAmong k xs → IsAmong k (xs ++ ys)
+among-left k [] ys a = absurd a
+among-left k (x ∷ xs) ys (inl e) = inl e
+among-left k (x ∷ xs) ys (inr a) = inr (among-left k xs ys a)
+
+pub among-right : (k : ℕ) (xs ys : List ℕ) → IsAmong k ys → IsAmong k (xs ++ ys)
+among-right k [] ys a = a
+among-right k (x ∷ xs) ys a = inr (among-right k xs ys a)
+
+pub distinct-append : (xs ys : List ℕ) → AreDistinct xs → AreDistinct ys → AreApart xs ys → AreDistinct (xs ++ ys)
+distinct-append [] ys d e apart = e
+distinct-append (x ∷ xs) ys d e apart =
+    ((λ a. ⊎_elim (λ b. d.0 b) (λ b. apart x (inl refl) b) (among-cases x xs ys a)), distinct-append xs ys d.1 e (λ k a b. apart k (inr a) b))
+
+pub distinct-left : (xs ys : List ℕ) → AreDistinct (xs ++ ys) → AreDistinct xs
+distinct-left [] ys d = tt
+distinct-left (x ∷ xs) ys d = ((λ a. d.0 (among-left x xs ys a)), distinct-left xs ys d.1)
+
+pub distinct-right : (xs ys : List ℕ) → AreDistinct (xs ++ ys) → AreDistinct ys
+distinct-right [] ys d = d
+distinct-right (x ∷ xs) ys d = distinct-right xs ys d.1
+
+pub distinct-apart : (xs ys : List ℕ) → AreDistinct (xs ++ ys) → AreApart xs ys
+distinct-apart [] ys d k a b = absurd a
+distinct-apart (x ∷ xs) ys d k (inl e) b = d.0 (among-right x xs ys (rw (← e) b))
+distinct-apart (x ∷ xs) ys d k (inr a) b = distinct-apart xs ys d.1 k a b
+
+module _ {E : Type 0} where
+  -- the place of an entry that is added stands behind the history
+  pub among-place : (log : List E) (more : Addition E) (k : ℕ) → IsAmong k (place_of log more) → (k ≡ length log) × (0 < length (entries more))
+  among-place log no_entry k a = absurd a
+  among-place log (own_entry e) k (inl same) = (same, omega arith)
+  among-place log (own_entry e) k (inr a) = absurd a
+  among-place log (quiet_entry e) k a = absurd a
+
+  pub place-distinct : (log : List E) (more : Addition E) → AreDistinct (place_of log more)
+  place-distinct log no_entry = tt
+  place-distinct log (own_entry e) = ((λ a. a), tt)
+  place-distinct log (quiet_entry e) = tt
+
+  -- what is quiet stays so where the history grows
+  pub quiet-longer : (quiet : E → Type 0) (log more : List E) (k : ℕ) → k < length log → HoldsAt quiet log k → HoldsAt quiet (log ++ more) k
+  quiet-longer quiet log more k lt q d = subst quiet (sym (get_or_append_left log more d k lt)) (q d)
+
+  -- what is quiet in a history is so in a beginning of it
+  pub quiet-shorter : (quiet : E → Type 0) (log all : List E) → IsPrefix log all → (k : ℕ) → k < length log → HoldsAt quiet all k → HoldsAt quiet log k
+  quiet-shorter quiet log all p k lt q d = subst quiet (get_or_append_left log p.0 d k lt) (subst (λ l. HoldsAt quiet l k) (sym p.1) q d)
+
+  -- an entry behind the history has the place that is added, or it is quiet
+  pub place-covers : (quiet : E → Type 0) (share : Share) (log : List E) (more : Addition E) → MayAdd quiet share more → (k : ℕ) → k < length (log ++ entries more) → (k < length log) ⊎ (IsAmong k (place_of log more) ⊎ HoldsAt quiet (log ++ entries more) k)
+  place-covers quiet share log no_entry may k lt = inl (omega (arith, length-append log []))
+  place-covers quiet share log (own_entry e) may k lt =
+      dite (dec_le (length log) k)
+      (λ (d : length log ≤ k). inr (inl (inl (omega (arith, length-append log (e ∷ []))))))
+      (λ (never : length log ≤ k → ⊥). inl (lt_of_not-le never))
+  place-covers quiet share log (quiet_entry e) may k lt =
+      dite (dec_le (length log) k)
+      (λ (d : length log ≤ k).
+      let last : length log + 0 ≡ k = omega (arith, length-append log (e ∷ [])) in
+      inr (inr (λ x. subst (λ n. quiet (get_or (log ++ e ∷ []) n x)) last (subst quiet (sym (get_or-append-add log (e ∷ []) 0 x)) may))))
+      (λ (never : length log ≤ k → ⊥). inl (lt_of_not-le never))
+
+  -- who has no share gets no place
+  pub none-more : (quiet : E → Type 0) (share : Share) (log : List E) (more : Addition E) (own : List ℕ) → MayAdd quiet share more → share.count ≡ 0 → own ≡ [] → place_of log more ++ own ≡ []
+  none-more quiet share log no_entry own may none e = e
+  none-more quiet share log (own_entry x) own may none e = absurd (omega (arith, may))
+  none-more quiet share log (quiet_entry x) own may none e = e
+
+  -- where each place behind what was seen is quiet, all behind it is
+  pub quiet-behind : (quiet : E → Type 0) (seen log : List E) → ((k : ℕ) → length seen ≤ k → k < length log → HoldsAt quiet log k) → IsQuietBehind quiet seen log
+  quiet-behind quiet seen log q k d lt = subst quiet (sym (get_or-drop (length seen) log k d)) (q (length seen + k) (omega arith) (omega (arith, length-drop (length seen) log)) d)

@@ -1,0 +1,65 @@
+//! What stands in a history, and what a call adds to it.
+//!
+//! The log alone adds by these.
+use std::marker::{Brand, PhantomData};
+
+/// An entry of a history. Quiet ones may have no owner.
+pub trait Entry {
+    ghost quiet: { Self → Type 0 };
+}
+
+/// The entry that two values are the reason of.
+pub trait EntryOf<X, Y, E> {
+    ghost entry: { X → Y → E };
+}
+
+/// What two values are the reason to add.
+pub(crate) trait Adds<X, Y, E> {
+    ghost use Rattle.kanal_log.specs.Views.{Addition};
+
+    ghost adds: { X → Y → Addition E };
+}
+
+/// Nothing is added.
+pub(crate) struct Nothing;
+
+impl<X, Y, E> Adds<X, Y, E> for Nothing {
+    ghost use Rattle.kanal_log.specs.Views.{no_entry};
+
+    ghost adds = { λ about answer. no_entry };
+}
+
+/// An entry is added that is the reader's own.
+pub(crate) struct Own<M> {
+    of: PhantomData<M>,
+}
+
+impl<X, Y, E, M: EntryOf<X, Y, E>> Adds<X, Y, E> for Own<M> {
+    ghost use Rattle.kanal_log.specs.Views.{own_entry};
+
+    ghost adds = { λ about answer. own_entry (M.entry about answer) };
+}
+
+/// A quiet entry is added that has no owner.
+pub(crate) struct Quiet<M> {
+    of: PhantomData<M>,
+}
+
+impl<X, Y, E, M: EntryOf<X, Y, E>> Adds<X, Y, E> for Quiet<M> {
+    ghost use Rattle.kanal_log.specs.Views.{quiet_entry};
+
+    ghost adds = { λ about answer. quiet_entry (M.entry about answer) };
+}
+
+/// What a call adds to the history.
+pub(crate) trait More<E> {
+    ghost use Rattle.kanal_log.specs.Views.{Addition};
+
+    ghost more: { Addition E };
+}
+
+impl<E> More<E> for Brand {
+    ghost use Rattle.kanal_log.specs.Views.{no_entry};
+
+    ghost more = { no_entry };
+}

@@ -1,0 +1,237 @@
+//! The log, and the writer of its history.
+//!
+//! Who has the writer, under a lock, adds entries; each is shown to the reader of the call that it is the entry of,
+//! and its place is that reader's own. A quiet entry has no owner.
+ghost use Rattle.std.specs.Prelude.{◌≡◌, ◌<◌, ◌++◌, ◌∷◌, [], length};
+ghost use mathlib.Core.List.{IsPrefix};
+ghost use Rattle.kanal_log.specs.Shares.{HasShare, IsWhole, nothing, whole};
+ghost use Rattle.kanal_log.specs.Views.{
+  entries,
+  IsQuietBehind,
+  writer_view,
+  known,
+  MayAdd,
+  place_of,
+  reader_view,
+};
+
+use crate::entry::{Adds, Entry, EntryOf, More, Nothing, Own, Quiet};
+use crate::reader::Reader;
+use crate::rule::{Extends, Founds, Goes, Law, LogId, Meets, Parts, Reads, View};
+use atomic_table::{Seat, Table};
+use std::alloc::{AllocError, Global};
+use std::marker::{Brand, Model, PhantomData};
+
+/// A log with an empty history, which has no name yet.
+#[derive(Drop)]
+pub struct NewLog<E: Entry> {
+    table: Table<(), View<E>, (), Law, Global>,
+    seat: Seat<(), View<E>>,
+    first: Seat<(), View<E>>,
+    pub ghost words: { 0 < table.shared.table_id.words },
+    pub ghost same: { seat.table_id ≡ table.shared.table_id },
+    pub ghost empty: { seat.me ≡ (writer_view [], []) },
+    pub ghost first_same: { first.table_id ≡ table.shared.table_id },
+    pub ghost first_whole: { first.me ≡ (reader_view [] [] whole, []) },
+}
+
+impl<E: Entry> NewLog<E> {
+    ghost use Rattle.kanal_log.specs.Logs.{table_of};
+
+    /// A log on which nothing is written.
+    ///
+    /// # Errors
+    /// `AllocError` where there is no memory for its one word.
+    ///
+    /// # Examples
+    /// ```text
+    /// let opened = NewLog::new(alloc)?;
+    /// let (log, writer, reader) = opened.named::<J>();
+    /// ```
+    pub fn new(alloc: Global) -> Result<Self, AllocError> {
+        let (table, mut seat) = Table::of_words(alloc, &[0], &())?;
+        let first = table.shared.split_seat::<Founds>(&mut seat);
+        Ok(NewLog { table, seat, first })
+    }
+
+    /// The log under a name, its writer, and the first reader, which has all of the right to add entries.
+    /// The caller knows that the name is this log's.
+    ///
+    /// # Examples
+    /// ```text
+    /// let (log, mut writer, mut reader) = opened.named::<J>();
+    /// reader.again(&log)   answers  a reader that has seen nothing, and has half of the right
+    /// ```
+    pub fn named<J: LogId>(self) -> (GhostLog<E, J>, Writer<E, J>, Reader<E, J>)
+        requires name { table_of self ≡ J.table }
+        ensures empty { result.1 ≡ [] }
+        ensures first { result.2 ≡ known [] [] whole }
+    {
+        let NewLog { table, seat, first } = self;
+        (
+            GhostLog {
+                table,
+                of: PhantomData,
+            },
+            Writer {
+                seat,
+                of: PhantomData,
+            },
+            Reader::over(first),
+        )
+    }
+}
+
+/// What all threads share of a history.
+#[derive(Drop)]
+pub struct GhostLog<E: Entry, J: LogId> {
+    pub(crate) table: Table<(), View<E>, (), Law, Global>,
+    of: PhantomData<J>,
+    pub(crate) ghost words: { 0 < table.shared.table_id.words },
+    pub(crate) ghost named: { table.shared.table_id ≡ J.table },
+}
+
+/// The right to add to the history. Contracts see the whole of it.
+#[derive(Drop)]
+pub struct Writer<E, J: LogId> {
+    seat: Seat<(), View<E>>,
+    of: PhantomData<J>,
+}
+
+impl<E, J: LogId> Model for Writer<E, J> {
+    ghost use Rattle.std.specs.Prelude.{◌≡◌, List, []};
+    ghost use Rattle.kanal_log.specs.Views.{writer_view};
+
+    ghost Value = { List E };
+
+    ghost view = { λ k. k.seat.me.0.log };
+
+    ghost invariant = { λ k. (k.seat.table_id ≡ J.table)
+        × (k.seat.me ≡ (writer_view k.seat.me.0.log, [])) };
+}
+
+impl<E: Entry, J: LogId> Writer<E, J> {
+    /// A reader that has seen all, owns nothing, and has no share.
+    ///
+    /// # Examples
+    /// ```text
+    /// writer.read(&log)   answers  a reader that has seen all entries
+    /// ```
+    pub fn read(&mut self, log: &GhostLog<E, J>) -> Reader<E, J>
+        ensures all { result ≡ known self.old [] nothing }
+        ensures same { self.new ≡ self.old }
+    {
+        let seat = log.table.shared.split_seat::<Reads>(&mut self.seat);
+        Reader::over(seat)
+    }
+
+    /// Shows all to the reader, which had seen a beginning. Where the reader has all of the right to add
+    /// entries, what it had not seen is quiet.
+    ///
+    /// # Examples
+    /// ```text
+    /// writer.show(&log, &mut reader);
+    /// reader   has seen all entries, and owns what it owned
+    /// ```
+    pub fn show(&mut self, log: &GhostLog<E, J>, reader: &mut Reader<E, J>)
+        ensures same { self.new ≡ self.old }
+        ensures shown { reader.new ≡ known self.old reader.old.own reader.old.share }
+        ensures seen { IsPrefix reader.old.log self.old }
+        ensures only { IsWhole reader.old.share → IsQuietBehind E.quiet reader.old.log self.old }
+    {
+        self.add::<(), (), Nothing>(log, reader, &(), &())
+    }
+
+    /// Adds the entry that the two values are the reason of, and shows all to the reader, which had seen a
+    /// beginning. The entry is the reader's own, which has a share. Where it has all of the right, what it
+    /// had not seen is quiet.
+    ///
+    /// # Examples
+    /// ```text
+    /// writer.append_of::<X, Y, M>(&log, &mut reader, &asked, &answered);
+    /// reader   has seen all entries, the new one as the last
+    /// ```
+    pub fn append_of<X, Y, M: EntryOf<X, Y, E>>(
+        &mut self,
+        log: &GhostLog<E, J>,
+        reader: &mut Reader<E, J>,
+        about: &X,
+        answer: &Y,
+    )
+        requires share { HasShare reader.old.share }
+        ensures added { self.new ≡ self.old ++ M.entry about.now answer.now ∷ [] }
+        ensures shown { reader.new ≡ known (self.old ++ M.entry about.now answer.now ∷ [])
+            (length self.old ∷ reader.old.own) reader.old.share }
+        ensures seen { IsPrefix reader.old.log self.old }
+        ensures only { IsWhole reader.old.share → IsQuietBehind E.quiet reader.old.log self.old }
+    {
+        self.add::<X, Y, Own<M>>(log, reader, about, answer)
+    }
+
+    /// Adds the entry that the two values are the reason of, which is quiet, and shows all to the reader,
+    /// which had seen a beginning. The entry has no owner, so the reader needs no share. Where it has all of
+    /// the right to add entries, what it had not seen is quiet.
+    ///
+    /// # Examples
+    /// ```text
+    /// writer.append_quiet_of::<X, Y, M>(&log, &mut reader, &asked, &answered);
+    /// reader   has seen all entries, the new one as the last, and owns what it owned
+    /// ```
+    pub fn append_quiet_of<X, Y, M: EntryOf<X, Y, E>>(
+        &mut self,
+        log: &GhostLog<E, J>,
+        reader: &mut Reader<E, J>,
+        about: &X,
+        answer: &Y,
+    )
+        requires quiet { E.quiet (M.entry about.now answer.now) }
+        ensures added { self.new ≡ self.old ++ M.entry about.now answer.now ∷ [] }
+        ensures shown { reader.new ≡ known (self.old ++ M.entry about.now answer.now ∷ [])
+            reader.old.own reader.old.share }
+        ensures seen { IsPrefix reader.old.log self.old }
+        ensures only { IsWhole reader.old.share → IsQuietBehind E.quiet reader.old.log self.old }
+    {
+        self.add::<X, Y, Quiet<M>>(log, reader, about, answer)
+    }
+
+    /// Adds what the two values are the reason to add, and shows all to the reader.
+    fn add<X, Y, P: Adds<X, Y, E>>(
+        &mut self,
+        log: &GhostLog<E, J>,
+        reader: &mut Reader<E, J>,
+        about: &X,
+        answer: &Y,
+    )
+        requires may { MayAdd E.quiet reader.old.share (P.adds about.now answer.now) }
+        ensures added { self.new ≡ self.old ++ entries (P.adds about.now answer.now) }
+        ensures shown { reader.new ≡ known (self.old ++ entries (P.adds about.now answer.now))
+            (place_of self.old (P.adds about.now answer.now) ++ reader.old.own) reader.old.share }
+        ensures seen { IsPrefix reader.old.log self.old }
+        ensures only { IsWhole reader.old.share → IsQuietBehind E.quiet reader.old.log self.old }
+    {
+        self.extend::<X, Y, Brand>(log, reader, about, answer)
+    }
+
+    /// Adds what is picked at the two values, and shows all to the reader.
+    fn extend<X, Y, N: More<E>>(
+        &mut self,
+        log: &GhostLog<E, J>,
+        reader: &mut Reader<E, J>,
+        about: &X,
+        answer: &Y,
+    )
+        requires may { MayAdd E.quiet reader.old.share N.more }
+        ensures added { self.new ≡ self.old ++ entries N.more }
+        ensures shown { reader.new ≡ known (self.old ++ entries N.more)
+            (place_of self.old N.more ++ reader.old.own) reader.old.share }
+        ensures seen { IsPrefix reader.old.log self.old }
+        ensures only { IsWhole reader.old.share → IsQuietBehind E.quiet reader.old.log self.old }
+    {
+        let shared = &log.table.shared;
+        let whole = shared.split_seat::<Goes>(&mut reader.seat);
+        shared.join_seat::<Meets>(&mut self.seat, whole);
+        shared.load::<Extends<N>>(&mut self.seat, 0);
+        let seat = shared.split_seat::<Parts>(&mut self.seat);
+        *reader = Reader::over(seat);
+    }
+}

@@ -1,0 +1,271 @@
+//! The internal calls: of a handle that is gone, and of a wait that was left.
+//!
+//! They are made here alone: what a handle's drop or a notice counts out, it counts out by such a call.
+ghost use Rattle.std.specs.Prelude.{◌≡◌, IfNone, IfSome, Some, is_some};
+ghost use Rattle.kanal_core.specs.Channel.{line_of};
+ghost use Rattle.kanal_core.specs.Tickets.{number_of};
+ghost use Rattle.kanal_core.specs.Waiters.{waiter_of, with_w, without};
+ghost use Rattle.kanal_events.specs.Leaving.{Leave, gone_of};
+ghost use Rattle.kanal_events.specs.Steps.{Tells};
+ghost use Rattle.kanal_events.specs.StepResult.{settled_of, told_of, withdrawn};
+ghost use Rattle.kanal_state.specs.Calls.{IsDrop};
+ghost use Rattle.kanal_state.specs.Entries.{call_from};
+ghost use Rattle.kanal_state.specs.Words.{HaveShown};
+ghost use Rattle.kanal_state.specs.Counts.{one_less, ticket_of};
+ghost use Rattle.kanal_state.specs.Renewing.{TakesNode};
+ghost use Rattle.kanal_state.specs.WaiterHandles.{HaveLeft};
+
+use super::State;
+use super::handle_count::one_less;
+use super::recording::{Asked, OfCall, OfWithdrawal};
+use crate::History;
+use crate::counted::{Counted, CountedWait, GoneHandles, GoneWaits};
+use crate::released::{Deferred, Released};
+use crate::side::OfSide;
+use crate::waiter_handle::{Core, Leavers, ReservedNode, WaiterHandle};
+use kanal_core::internal::{Ticket, Waiter};
+use kanal_events::event::Event;
+use kanal_events::step_result::StepResult;
+use kanal_events::steps;
+use std::alloc::Global;
+use std::collections::LinkedList;
+use std::marker::Model;
+use std::snapshot::Snapshot;
+
+/// How many waits that were left are withdrawn at most at once: more are never there.
+const MOST: u64 = 1 << 62;
+
+/// What the drop of a last handle ended, with what was seen of it. It has to be told. Contracts see what the
+/// step told.
+pub struct Gone<T, H: History<T>> {
+    made: StepResult<T, WaiterHandle<T, H>>,
+    prefix: H::Prefix,
+}
+
+impl<T, H: History<T>> Model for Gone<T, H> {
+    ghost use Rattle.kanal_events.specs.declared.step_result.StepResult.{StepResult};
+    ghost use Rattle.kanal_events.specs.StepResult.{settled_of};
+    ghost use Rattle.kanal_state.specs.Words.{HaveShown};
+    ghost use Rattle.kanal_state.specs.Renewing.{Brought};
+
+    ghost Value = { StepResult T Brought };
+
+    ghost view = { λ g. g.made };
+
+    ghost invariant = { λ g. HaveShown H.shows g.prefix (settled_of g.made) };
+}
+
+impl<T: Drop, H: History<T>> Gone<T, H> {
+    /// What was made, and what was seen of it, once the lock was released.
+    ///
+    /// # Examples
+    /// ```text
+    /// let (made, prefix) = gone.into_parts(&released);
+    /// ```
+    pub fn into_parts(self, _released: &Released) -> (StepResult<T, WaiterHandle<T, H>>, H::Prefix)
+        ensures made { result.0 ≡ self }
+        ensures seen { HaveShown H.shows result.1 (settled_of result.0) }
+    {
+        let Gone { made, prefix } = self;
+        (made, prefix)
+    }
+}
+
+/// Takes the reserved node out of the waiter's handle that waits with the ticket, if there is one. The line stays.
+fn take_node<T: Drop, H: History<T>>(
+    core: &mut Core<T, H>,
+    ticket: Ticket,
+) -> Option<ReservedNode<T, H>>
+    ensures line { line_of core.new ≡ line_of core.old }
+    ensures taken { TakesNode ticket core.old.waiters core.new.waiters (is_some result) }
+{
+    core.waiting(ticket)?.take_node()
+}
+
+impl<T: Drop, H: History<T>> State<T, H> {
+    /// Makes the drop of a handle as an internal call, and answers what was seen then.
+    fn by_nobody(
+        &mut self,
+        log: &H::Log,
+        event: Event<T>,
+    ) -> (StepResult<T, WaiterHandle<T, H>>, H::Prefix)
+        requires drops { IsDrop event }
+        ensures made { H.cleans.makes self.old.0 self.new.0 (call_from event result.0) }
+        ensures told { Tells self.old.1 event (told_of self.new.1 result.0) }
+        ensures leave { Leave self.old.2 (gone_of result.0) self.new.2 }
+        ensures seen { HaveShown H.shows result.1 (settled_of result.0) }
+    {
+        let asked = Snapshot::of(&event);
+        let made = steps::make(&mut self.core, event);
+        let history = &mut self.history;
+        history.append_silent::<Asked<T>, StepResult<T, WaiterHandle<T, H>>, OfCall>(
+            log,
+            &mut self.cleanup,
+            &asked,
+            &made,
+        );
+        let prefix = H::cleanup_prefix(log, &mut self.cleanup);
+        (made, prefix)
+    }
+
+    /// Takes the wait with this ticket back, if it waits, as an internal call.
+    fn withdraw_by_nobody(
+        &mut self,
+        log: &H::Log,
+        ticket: Ticket,
+    ) -> Option<Waiter<T, WaiterHandle<T, H>>>
+        ensures step { IfSome result (λ w. Tells self.old.1 (Event.Withdraw (number_of ticket))
+            (withdrawn self.new.1 w.message)) }
+        ensures waiter { result ≡ waiter_of ticket self.old.2 }
+        ensures others { self.new.2 ≡ without ticket self.old.2 }
+        ensures same { IfNone result (self.new ≡ self.old) }
+    {
+        let waiter = steps::withdraw(&mut self.core, ticket)?;
+        let history = &mut self.history;
+        history.append_silent::<Ticket, Waiter<T, WaiterHandle<T, H>>, OfWithdrawal>(
+            log,
+            &mut self.cleanup,
+            &ticket,
+            &waiter,
+        );
+        Some(waiter)
+    }
+
+    /// Takes this wait back, if it still waits, as an internal call.
+    ///
+    /// # Examples
+    /// ```text
+    /// locked.state.leave(log, counted)   answers  None   where its wait was settled
+    /// ```
+    pub fn leave(
+        &mut self,
+        log: &H::Log,
+        counted: CountedWait,
+    ) -> Option<Deferred<Waiter<T, WaiterHandle<T, H>>>>
+        ensures step { IfSome result (λ w. Tells self.old.1
+            (Event.Withdraw (number_of (ticket_of counted))) (withdrawn self.new.1 w.message)) }
+        ensures waiter { result ≡ waiter_of (ticket_of counted) self.old.2 }
+        ensures others { self.new.2 ≡ without (ticket_of counted) self.old.2 }
+        ensures same { IfNone result (self.new ≡ self.old) }
+    {
+        let ticket = counted.ticket();
+        let Some(waiter) = steps::withdraw(&mut self.core, ticket) else {
+            counted.missing::<T, H>(&self.core);
+            return None;
+        };
+        let before = Snapshot::of(&self.cleanup);
+        let history = &mut self.history;
+        history.append_silent::<Ticket, Waiter<T, WaiterHandle<T, H>>, OfWithdrawal>(
+            log,
+            &mut self.cleanup,
+            &ticket,
+            &waiter,
+        );
+        counted.taken_back::<T, WaiterHandle<T, H>, H>(&before, &self.cleanup, &waiter);
+        Some(Deferred { inside: waiter })
+    }
+
+    /// Makes the drop of this handle as an internal call, and answers what was seen then.
+    fn handle_out<S: OfSide>(
+        &mut self,
+        log: &H::Log,
+        counted: Counted<S>,
+    ) -> (StepResult<T, WaiterHandle<T, H>>, H::Prefix)
+        ensures told { Tells self.old.1 (one_less S.side) (told_of self.new.1 result.0) }
+        ensures leave { Leave self.old.2 (gone_of result.0) self.new.2 }
+        ensures seen { HaveShown H.shows result.1 (settled_of result.0) }
+    {
+        let before = Snapshot::of(&self.cleanup);
+        let (made, prefix) = self.by_nobody(log, one_less(S::side()));
+        counted.count_out::<T, WaiterHandle<T, H>, H>(&before, &self.cleanup, &made);
+        (made, prefix)
+    }
+
+    /// Makes the drop of this handle; what that ended, with what was seen of it.
+    ///
+    /// # Examples
+    /// ```text
+    /// let gone = locked.state.drop_handle(log, counted);
+    /// ```
+    pub fn drop_handle<S: OfSide>(&mut self, log: &H::Log, counted: Counted<S>) -> Gone<T, H>
+        ensures told { Tells self.old.1 (one_less S.side) (told_of self.new.1 result) }
+        ensures leave { Leave self.old.2 (gone_of result) self.new.2 }
+    {
+        let (made, prefix) = self.handle_out(log, counted);
+        Gone { made, prefix }
+    }
+
+    /// What makes the internal calls as it is now, for proofs alone.
+    ///
+    /// # Examples
+    /// ```text
+    /// let before = locked.state.cleanup();
+    /// ```
+    pub fn cleanup(&self) -> Snapshot<H::Cleanup>
+        ensures { result.value ≡ self.now.0 }
+    {
+        Snapshot::of(&self.cleanup)
+    }
+
+    /// Makes the drops of these handles until the last one's of their side; what that ended, with what was seen
+    /// of it, and those that are left.
+    ///
+    /// # Examples
+    /// ```text
+    /// let (ended, rest) = locked.state.drop_handles::<SendSide>(log, notices.take_handles());
+    /// ```
+    pub fn drop_handles<S: OfSide>(
+        &mut self,
+        log: &H::Log,
+        gone: GoneHandles<S>,
+    ) -> (Option<Gone<T, H>>, GoneHandles<S>)
+        ensures ended { IfSome result.0 (λ ended. Leave self.old.2 (gone_of ended) self.new.2) }
+        ensures none { IfNone result.0 (self.new.2 ≡ self.old.2) }
+    {
+        let mut gone = gone;
+        while let Some(counted) = gone.next() {
+            let is_last = self.count_of(S::side()) == 1;
+            let (made, prefix) = self.handle_out(log, counted);
+            if is_last {
+                return (Some(Gone { made, prefix }), gone);
+            }
+            drop(made);
+        }
+        (None, gone)
+    }
+
+    /// Withdraws all waits that were left, and hands out their entries, the last that left first. It asks for
+    /// no memory: each is kept in the reserved node that its handle brought. No clause says that these are all:
+    /// who leaves does so in its cell, and at any moment.
+    ///
+    /// # Examples
+    /// ```text
+    /// let leavers = locked.state.withdraw_left(log, alloc, waits);
+    /// ```
+    pub fn withdraw_left(
+        &mut self,
+        log: &H::Log,
+        alloc: Global,
+        waits: GoneWaits,
+    ) -> Deferred<Leavers<T, H>>
+        ensures left { HaveLeft self.old.2 result self.new.2 }
+    {
+        waits.seek();
+        let mut leavers = LinkedList::new(alloc);
+        let mut found = self.core.first_waiter(|handle| handle.is_left());
+        for _count in 0..MOST {
+            let Some(ticket) = found else {
+                return Deferred { inside: leavers };
+            };
+            found = self.core.next_waiter(ticket, |handle| handle.is_left());
+            let Some(node) = take_node(&mut self.core, ticket) else {
+                return Deferred { inside: leavers };
+            };
+            let Some(waiter) = self.withdraw_by_nobody(log, ticket) else {
+                unreachable!()
+            };
+            leavers = node.keep(waiter, leavers);
+        }
+        Deferred { inside: leavers }
+    }
+}

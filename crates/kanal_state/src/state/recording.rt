@@ -1,0 +1,143 @@
+//! How a call is kept: which entry of the line each step makes, and how it comes into the history.
+//!
+//! Only the state and the internal calls use it: each has its call kept before the lock is released.
+ghost use Rattle.std.specs.Prelude.{◌≡◌, true};
+ghost use Rattle.kanal_core.specs.Line.{Line};
+ghost use Rattle.kanal_events.specs.Steps.{Tells, is_no_memory};
+ghost use Rattle.kanal_events.specs.StepResult.{reply_of, told_of};
+ghost use Rattle.kanal_state.specs.Entries.{told_by};
+ghost use Rattle.kanal_state.specs.Makes.{IsKept, IsNoted};
+
+use crate::{Call, History};
+use kanal_core::internal::{Ticket, Waiter};
+use kanal_events::event::{Event, Reply};
+use kanal_events::step_result::{Answered, StepResult};
+use kanal_log::EntryOf;
+use std::snapshot::Snapshot;
+
+/// An event, as it was before it was made.
+pub(super) type Asked<T> = Snapshot<Event<T>>;
+
+/// The entry of a call: what was asked, and what the step told.
+pub(super) struct OfCall;
+
+impl<T, W> EntryOf<Asked<T>, StepResult<T, W>, Call<T>> for OfCall {
+    ghost use Rattle.kanal_state.specs.Entries.{call_from};
+
+    ghost entry = { λ event made. call_from event.value made };
+}
+
+/// The same, of a call that was answered at once.
+pub(super) struct OfAnswer;
+
+impl<T, W> EntryOf<Asked<T>, Answered<T, W>, Call<T>> for OfAnswer {
+    ghost use Rattle.kanal_events.specs.StepResult.{made_of};
+    ghost use Rattle.kanal_state.specs.Entries.{call_from};
+
+    ghost entry = { λ event answered. call_from event.value (made_of answered) };
+}
+
+/// The same, of a call that was replied so, and settled nobody.
+pub(super) struct OfReply;
+
+impl<T> EntryOf<Asked<T>, Reply<T>, Call<T>> for OfReply {
+    ghost use Rattle.kanal_state.specs.Entries.{replied};
+
+    ghost entry = { λ event reply. replied event.value reply };
+}
+
+/// The entry of a send that entered and settled nobody, by its message.
+pub(super) struct OfEntry;
+
+impl<T> EntryOf<Snapshot<T>, (), Call<T>> for OfEntry {
+    ghost use Rattle.kanal_state.specs.Entries.{entry};
+
+    ghost entry = { λ message _. entry message.value };
+}
+
+/// The entry of a receive that got a message and settled nobody, by the message.
+pub(super) struct OfReceipt;
+
+impl<T> EntryOf<T, (), Call<T>> for OfReceipt {
+    ghost use Rattle.kanal_state.specs.Entries.{receipt};
+
+    ghost entry = { λ message _. receipt message };
+}
+
+/// The entry of a send that doesn't wait, and that entered and settled nobody, by its message.
+pub(super) struct OfTriedEntry;
+
+impl<T> EntryOf<Snapshot<T>, (), Call<T>> for OfTriedEntry {
+    ghost use Rattle.kanal_state.specs.Entries.{tried_entry};
+
+    ghost entry = { λ message _. tried_entry message.value };
+}
+
+/// The entry of a receive that doesn't wait, and that got a message and settled nobody, by the message.
+pub(super) struct OfTriedReceipt;
+
+impl<T> EntryOf<T, (), Call<T>> for OfTriedReceipt {
+    ghost use Rattle.kanal_state.specs.Entries.{tried_receipt};
+
+    ghost entry = { λ message _. tried_receipt message };
+}
+
+/// The entry of a withdrawal: the ticket that was asked for, and the wait that left.
+pub(super) struct OfWithdrawal;
+
+impl<T, W> EntryOf<Ticket, Waiter<T, W>, Call<T>> for OfWithdrawal {
+    ghost use Rattle.kanal_core.specs.Tickets.{number_of};
+    ghost use Rattle.kanal_state.specs.Entries.{withdrawal};
+
+    ghost entry = { λ ticket waiter. withdrawal (number_of ticket) waiter.message };
+}
+
+/// Has the call that was made kept, and shows it to the pass; or shows what is kept, where there was no
+/// memory for the call.
+#[inline]
+pub(super) fn note<T: Drop, Y, M: EntryOf<Asked<T>, Y, Call<T>>, H: History<T>>(
+    history: &mut H,
+    log: &H::Log,
+    pass: &mut H::Pass,
+    asked: &Asked<T>,
+    told: &Y,
+    lacks_memory: bool,
+)
+    requires asked { (M.entry asked.now told.now).event ≡ asked.now.value }
+    requires lacks { lacks_memory ≡ is_no_memory (M.entry asked.now told.now).reply }
+    requires told { (old new : Line _) × H.stands history.old old
+        × Tells old asked.now.value (told_by new (M.entry asked.now told.now)) }
+    ensures stands { (old new : Line _) → H.stands history.old old
+        → Tells old asked.now.value (told_by new (M.entry asked.now told.now))
+        → H.stands history.new new }
+    ensures kept { IsKept H.words pass.old pass.new asked.now.value (M.entry asked.now told.now) }
+    ensures ends { lacks_memory ≡ true → (l : Line _) → H.stands history.old l
+        → H.words.ends pass.new l }
+{
+    if lacks_memory {
+        history.show(log, pass);
+    } else {
+        history.append::<Asked<T>, Y, M>(log, pass, asked, told);
+    }
+}
+
+/// The same, of what any step told.
+#[inline]
+pub(super) fn note_made<T: Drop, W: Drop, H: History<T>>(
+    history: &mut H,
+    log: &H::Log,
+    pass: &mut H::Pass,
+    asked: &Asked<T>,
+    made: &StepResult<T, W>,
+)
+    requires told { (old new : Line _) × H.stands history.old old
+        × Tells old asked.now.value (told_of new made.now) }
+    ensures stands { (old new : Line _) → H.stands history.old old
+        → Tells old asked.now.value (told_of new made.now) → H.stands history.new new }
+    ensures noted { IsNoted H.words pass.old pass.new asked.now.value made.now }
+    ensures ends { is_no_memory (reply_of made.now) ≡ true
+        → (l : Line _) → H.stands history.old l → H.words.ends pass.new l }
+{
+    let lacks = made.lacks_memory();
+    note::<T, StepResult<T, W>, OfCall, H>(history, log, pass, asked, made, lacks);
+}

@@ -1,0 +1,33 @@
+//! Where the entry of a wait is kept that was left by notice, until the lock is released.
+ghost use Rattle.std.specs.Prelude.{◌≡◌, length};
+
+use crate::History;
+use crate::wait_result::Settler;
+use std::collections::LinkedList;
+use std::marker::Model;
+
+/// Who left by notice: the end of its cell, and the message of its entry. Contracts see which cell that is.
+#[derive(Drop)]
+pub struct Leaver<T, H: History<T>> {
+    pub(super) settler: Settler<T, H>,
+    pub(super) message: Option<T>,
+}
+
+impl<T, H: History<T>> Model for Leaver<T, H> {
+    ghost use Rattle.kanal_cell.specs.CellEnds.{settle_cell};
+    ghost use Rattle.kanal_state.specs.WaiterHandles.{Left};
+
+    ghost Value = { Left T };
+
+    ghost view = { λ l. record { cell = settle_cell l.settler.end; message = l.message } };
+}
+
+/// Those who left by notice, the last of them first, each in the reserved node that it brought.
+pub type Leavers<T, H> = LinkedList<Option<Leaver<T, H>>>;
+
+/// A list of one place, so that those who left are strung together with no memory asked for.
+#[derive(Drop)]
+pub struct ReservedNode<T, H: History<T>> {
+    pub(super) place: Leavers<T, H>,
+    ghost one_place: { length place ≡ 1 },
+}

@@ -25,6 +25,8 @@ FAULT = re.compile(r"^(?:\./)?(\S+?):(\d+):\d+: error: (?:`([^`]+)`: )?(.*)", re
 SOUGHT = re.compile(r"`search` did not prove ((?:`[^`]+`(?:, | and )?)+)")
 # What an error says where an edit took away a name that a written answer cites: it tells little of the contract.
 NAMES = re.compile(r"has no field|is not in scope|has no `|was not admitted")
+# A function that lets go, inside another value, of one whose drop has a `requires` gets no proof at all.
+DROPPED = re.compile(r"does not cover this function yet: .*?`(\S+?)::drop` to drop a value, and that `drop` has a `requires`")
 ENDED = re.compile(r"^(?:only=(\d+) proved=(\d+)|logic=(?:not-)?proved.*)$", re.MULTILINE)
 REFUSED, SURVIVED, UNTRIED, ALONE = "refused", "survived", "not tried", "alone"
 BY_NAME = "by a name alone, which a written answer cites: it says little of the contract"
@@ -115,6 +117,8 @@ class Attempt:
         goals += [goal for _, more in own for listed in SOUGHT.findall(more) for goal in re.findall(r"`([^`]+)`", listed)]
         if goals:
             return REFUSED, clauses_of(goals)
+        if dropped := [it for _, more in own for it in DROPPED.findall(more)]:
+            return REFUSED, f"by the drop of `{dropped[0]}`, which has a `requires`"
         if faults:
             return REFUSED, BY_NAME
         if own and all(kind == "proved" for kind, _ in own):

@@ -179,14 +179,10 @@ impl<T: Drop, H: History<T>> Shared<T, H> {
     }
 
     /// Starts the wait of a call that the pass has seen must wait, with the waiter's handle, and releases the lock.
+    /// Example: `let counted = shared.wait(locked, &mut pass, event, waiter)?`.
     ///
     /// # Errors
     /// The reply of a call that was refused: nobody waits, and the waiter's handle is let go.
-    ///
-    /// # Examples
-    /// ```text
-    /// let counted = shared.wait(locked, &mut pass, event, waiter)?;
-    /// ```
     #[inline(always)]
     pub fn wait(
         &self,

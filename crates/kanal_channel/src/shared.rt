@@ -50,12 +50,8 @@ impl<T: Drop, H: History<T>> Drop for Shared<T, H> {
 impl<T: Drop, H: History<T>> Shared<T, H> {
     /// A free lock round the core and what is kept of the calls that led to its line, with what makes
     /// the internal calls, and no notices. The memory of waits is asked of `alloc`.
-    ///
-    /// # Examples
-    /// ```text
-    /// let core = ChannelInternal::new(alloc, 1)?;
-    /// let shared = Shared::new(core, NoHistory, (), (), alloc);
-    /// ```
+    /// Example: `let core = ChannelInternal::new(alloc, 1)?`; then
+    /// `let shared = Shared::new(core, NoHistory, (), (), alloc)`.
     pub fn new(
         core: Core<T, H>,
         history: H,
@@ -82,15 +78,11 @@ impl<T: Drop, H: History<T>> Shared<T, H> {
     }
 
     /// The same, for handles: with the tokens of the channel's first sender and first receiver.
+    /// Example: `let (shared, first) = Shared::with_handles(core, NoHistory, (), (), alloc)?`; then
+    /// `let (sender, receiver) = first.into_tokens()`.
     ///
     /// # Errors
     /// `NoMemory` where there is no memory for the channel.
-    ///
-    /// # Examples
-    /// ```text
-    /// let (shared, first) = Shared::with_handles(core, NoHistory, (), (), alloc)?;
-    /// let (sender, receiver) = first.into_tokens();
-    /// ```
     pub fn with_handles(
         core: Core<T, H>,
         history: H,
@@ -110,52 +102,32 @@ impl<T: Drop, H: History<T>> Shared<T, H> {
     }
 
     /// What all who share the channel share of what is kept of its calls.
-    ///
-    /// # Examples
-    /// ```text
-    /// let other = pass.again(shared.log());
-    /// ```
+    /// Example: `let other = pass.again(shared.log())`.
     pub fn log(&self) -> &H::Log {
         &self.log
     }
 
     /// What the memory of waits is asked of.
-    ///
-    /// # Examples
-    /// ```text
-    /// signal::new(shared.alloc())
-    /// ```
+    /// Example: `signal::new(shared.alloc())`.
     pub fn alloc(&self) -> Global {
         self.alloc
     }
 
     /// Whether a message may lie in a buffer: at every capacity but 0.
-    ///
-    /// # Examples
-    /// ```text
-    /// shared.has_buffer()   answers  false   at capacity 0
-    /// ```
+    /// Example: `shared.has_buffer()` answers `false` at capacity 0.
     pub fn has_buffer(&self) -> bool {
         self.has_buffer
     }
 
     /// How many waits were left while the lock was held, and not withdrawn yet. It waits for nobody.
-    ///
-    /// # Examples
-    /// ```text
-    /// shared.left_waits()   answers  1   after a future that waited was dropped while the lock was held
-    /// ```
+    /// Example: `shared.left_waits()` answers `1` after a future that waited was dropped while the lock was held.
     #[doc(hidden)] // For tests of what stays in the line while the lock is held.
     pub fn left_waits(&self) -> u64 {
         self.notices.waits()
     }
 
     /// A handle goes away: it waits for nobody.
-    ///
-    /// # Examples
-    /// ```text
-    /// shared.drop_handle(counted);   the last sender ends the receivers that wait
-    /// ```
+    /// Example: `shared.drop_handle(counted)`: the last sender ends the receivers that wait.
     pub fn drop_handle<S: OfSide>(&self, counted: Counted<S>) {
         match self.try_lock() {
             Some((mut locked, left)) => {
@@ -170,11 +142,7 @@ impl<T: Drop, H: History<T>> Shared<T, H> {
     }
 
     /// A future that waits goes away: it waits for nobody.
-    ///
-    /// # Examples
-    /// ```text
-    /// shared.leave(counted);   withdraws the wait, or leaves a notice where the lock is held
-    /// ```
+    /// Example: `shared.leave(counted)` withdraws the wait, or leaves a notice where the lock is held.
     pub fn leave(&self, counted: CountedWait) {
         match self.try_lock() {
             Some((mut locked, left)) => {

@@ -133,11 +133,7 @@ pub enum Reply<T> {
 
 impl<T: Drop> Event<T> {
     /// The refusal of this event, which gives its message back where it has one.
-    ///
-    /// # Examples
-    /// ```text
-    /// Event::Send(7).refused(Refusal::Closed)   answers  Refused(Closed, Some(7))
-    /// ```
+    /// Example: `Event::Send(7).refused(Refusal::Closed)` answers `Refused(Closed, Some(7))`.
     pub fn refused(self, reason: Refusal) -> Reply<T>
         ensures { result ≡ Reply.Refused reason (message_of self) }
     {
@@ -150,11 +146,7 @@ impl<T: Drop> Event<T> {
 
 impl<T> Reply<T> {
     /// Whether the reply says that there was no memory.
-    ///
-    /// # Examples
-    /// ```text
-    /// Reply::Refused(Refusal::NoMemory, Some(7)).is_no_memory()   answers  true
-    /// ```
+    /// Example: `Reply::Refused(Refusal::NoMemory, Some(7)).is_no_memory()` answers `true`.
     pub fn is_no_memory(&self) -> bool
         ensures { result ≡ tells_no_memory self.now }
     {
@@ -162,11 +154,7 @@ impl<T> Reply<T> {
     }
 
     /// Whether the reply says that what was asked was done: a clone, a drop or a seal.
-    ///
-    /// # Examples
-    /// ```text
-    /// Reply::Done.is_done()   answers  true
-    /// ```
+    /// Example: `Reply::Done.is_done()` answers `true`.
     pub fn is_done(&self) -> bool
         ensures { result ≡ tells_done self.now }
     {

@@ -117,11 +117,7 @@ impl<T: Drop, W: Waits<T>> Wakeup<T, W> {
 
 impl<T: Drop> Wakeup<T, ()> {
     /// The ticket's number, and what became of its wait, where nobody is there to be told.
-    ///
-    /// # Examples
-    /// ```text
-    /// made.next()?.into_settlement()   answers  (0, Outcome::Taken)
-    /// ```
+    /// Example: `made.next()?.into_settlement()` answers `(0, Outcome::Taken)`.
     pub fn into_settlement(self) -> (u64, Outcome<T>)
         ensures { result ≡ owed_of self }
     {
@@ -180,11 +176,7 @@ impl<T: Drop, W: Drop> Drop for StepResult<T, W> {
 
 impl<T: Drop, W: Drop> StepResult<T, W> {
     /// A reply that settles no wait.
-    ///
-    /// # Examples
-    /// ```text
-    /// StepResult::replied(Reply::Nothing)   tells that nothing was there
-    /// ```
+    /// Example: `StepResult::replied(Reply::Nothing)` tells that nothing was there.
     pub fn replied(reply: Reply<T>) -> Self
         ensures { result ≡ record { leaving = Leaving.One reply None } }
     {
@@ -229,12 +221,8 @@ impl<T: Drop, W: Drop> StepResult<T, W> {
     }
 
     /// Hands out the next wait that it settled, the oldest first.
-    ///
-    /// # Examples
-    /// ```text
-    /// made.next()   answers  Some(owed)   where a receiver waited for what was sent
-    /// made.next()   answers  None         after that
-    /// ```
+    /// Example: `made.next()` answers `Some(owed)` where a receiver waited for what was sent, and `made.next()`
+    /// answers `None` after that.
     pub fn next(&mut self) -> Option<Wakeup<T, W>>
         ensures next { MatchOption result ((settled_of self.old ≡ []) × (settled_of self.new ≡ []))
             (λ o. settled_of self.old ≡ owed_of o ∷ settled_of self.new) }
@@ -254,11 +242,7 @@ impl<T: Drop, W: Drop> StepResult<T, W> {
     }
 
     /// The reply, and the messages that a close cleared, once no wait is in it.
-    ///
-    /// # Examples
-    /// ```text
-    /// made.into_parts()   answers  (Reply::Sent, None)
-    /// ```
+    /// Example: `made.into_parts()` answers `(Reply::Sent, None)`.
     pub fn into_parts(self) -> (Reply<T>, Option<Cleared<T>>)
         requires nobody { settled_of self ≡ [] }
         ensures reply { result.0 ≡ reply_of self }
@@ -289,11 +273,7 @@ impl<T: Drop, W: Drop> StepResult<T, W> {
     }
 
     /// Whether the reply says that there was no memory.
-    ///
-    /// # Examples
-    /// ```text
-    /// made.lacks_memory()   answers  true    where the reply is Refused(NoMemory, ..)
-    /// ```
+    /// Example: `made.lacks_memory()` answers `true` where the reply is Refused(NoMemory, ..).
     pub fn lacks_memory(&self) -> bool
         ensures { result ≡ is_no_memory (reply_of self.now) }
     {
@@ -306,11 +286,7 @@ impl<T: Drop, W: Drop> StepResult<T, W> {
     }
 
     /// Whether the reply says that what was asked was done: a clone, a drop or a seal.
-    ///
-    /// # Examples
-    /// ```text
-    /// made.is_done()   answers  true    where the reply is Done
-    /// ```
+    /// Example: `made.is_done()` answers `true` where the reply is Done.
     pub fn is_done(&self) -> bool
         ensures { result ≡ is_done (reply_of self.now) }
     {
@@ -350,11 +326,8 @@ impl<T: Drop, W: Drop> Answered<T, W> {
     }
 
     /// The reply, and who is owed what became of his wait.
-    ///
-    /// # Examples
-    /// ```text
-    /// answered.into_parts()   answers  (Reply::Sent, Some(owed))   where a receiver waited for what was sent
-    /// ```
+    /// Example: `answered.into_parts()` answers `(Reply::Sent, Some(owed))` where a receiver waited for what was
+    /// sent.
     #[inline(always)]
     pub fn into_parts(self) -> (Reply<T>, Option<Wakeup<T, W>>)
         ensures reply { result.0 ≡ reply_of (made_of self) }
@@ -365,11 +338,7 @@ impl<T: Drop, W: Drop> Answered<T, W> {
     }
 
     /// The same as what any step told.
-    ///
-    /// # Examples
-    /// ```text
-    /// shared.settle(&mut pass, answered.into_made())   answers  the reply
-    /// ```
+    /// Example: `shared.settle(&mut pass, answered.into_made())` answers the reply.
     #[inline(always)]
     pub fn into_made(self) -> StepResult<T, W>
         ensures { result ≡ made_of self }
@@ -379,11 +348,7 @@ impl<T: Drop, W: Drop> Answered<T, W> {
     }
 
     /// Whether the reply says that there was no memory.
-    ///
-    /// # Examples
-    /// ```text
-    /// answered.lacks_memory()   answers  true    where the reply is Refused(NoMemory, ..)
-    /// ```
+    /// Example: `answered.lacks_memory()` answers `true` where the reply is Refused(NoMemory, ..).
     #[inline(always)]
     pub fn lacks_memory(&self) -> bool
         ensures { result ≡ is_no_memory (reply_of (made_of self.now)) }

@@ -23,12 +23,8 @@ use std::snapshot::Snapshot;
 
 /// Puts a send's message into the buffer, where nobody waits and there is a place; it comes back, and
 /// nothing changes, otherwise.
-///
-/// # Examples
-/// ```text
-/// push(&mut core, 7)   answers  Ok(())    in a new core for one message
-/// push(&mut core, 8)   answers  Err(8)    after that
-/// ```
+/// Example: `push(&mut core, 7)` answers `Ok(())` in a new core for one message, and `push(&mut core, 8)` answers
+/// `Err(8)` after that.
 #[inline(always)]
 pub fn push<T: Drop, W: Drop>(core: &mut ChannelInternal<T, W>, message: T) -> Result<(), T>
     ensures told { OnOk result (Tells (line_of core.old) (Event.Send message)
@@ -41,12 +37,7 @@ pub fn push<T: Drop, W: Drop>(core: &mut ChannelInternal<T, W>, message: T) -> R
 
 /// Takes a receive's message out of the buffer, where nobody waits and there is one; nothing changes
 /// otherwise.
-///
-/// # Examples
-/// ```text
-/// pop(&mut core)   answers  Some(7)   after 7 entered
-/// pop(&mut core)   answers  None      after that
-/// ```
+/// Example: `pop(&mut core)` answers `Some(7)` after 7 entered, and `pop(&mut core)` answers `None` after that.
 #[inline(always)]
 pub fn pop<T: Drop, W: Drop>(core: &mut ChannelInternal<T, W>) -> Option<T>
     ensures told { IfSome result (λ m. Tells (line_of core.old) Event.Recv
@@ -161,15 +152,11 @@ fn take<T: Drop, W: Drop>(core: &mut ChannelInternal<T, W>) -> Result<Answered<T
 }
 
 /// Makes a send or a receive.
+/// Example: `start(&mut core, Event::Send(7))` answers `Ok(..)`, with the reply Sent in a new core for one message,
+/// and `start(&mut core, Event::Send(8))` answers `Err(Event::Send(8))` after that.
 ///
 /// # Errors
 /// The call, where it must wait: nothing changed.
-///
-/// # Examples
-/// ```text
-/// start(&mut core, Event::Send(7))   answers  Ok(..), with the reply Sent   in a new core for one message
-/// start(&mut core, Event::Send(8))   answers  Err(Event::Send(8))           after that
-/// ```
 #[inline(always)]
 pub fn start<T: Drop, W: Drop>(
     core: &mut ChannelInternal<T, W>,
@@ -231,11 +218,7 @@ fn wait_recv<T: Drop, W: Drop>(core: &mut ChannelInternal<T, W>, w: W) -> (Reply
 }
 
 /// Starts the wait of a call that must. It settles nobody's wait.
-///
-/// # Examples
-/// ```text
-/// wait(&mut core, Event::Recv, w)   replies  Waits(0), with the ticket of that number   in a new core
-/// ```
+/// Example: `wait(&mut core, Event::Recv, w)` replies `Waits(0)`, with the ticket of that number in a new core.
 #[inline(always)]
 pub fn wait<T: Drop, W: Drop>(
     core: &mut ChannelInternal<T, W>,
@@ -257,11 +240,8 @@ pub fn wait<T: Drop, W: Drop>(
 }
 
 /// Makes a send or a receive, and starts its wait with `w` where it must; `w` comes back otherwise.
-///
-/// # Examples
-/// ```text
-/// make_waiting(&mut core, Event::Recv, w)   replies  Waits(0), with the ticket of that number   in a new core
-/// ```
+/// Example: `make_waiting(&mut core, Event::Recv, w)` replies `Waits(0)`, with the ticket of that number in a new
+/// core.
 pub fn make_waiting<T: Drop, W: Drop>(
     core: &mut ChannelInternal<T, W>,
     event: Event<T>,
@@ -282,12 +262,8 @@ pub fn make_waiting<T: Drop, W: Drop>(
 }
 
 /// Takes the wait with this ticket back, if it waits.
-///
-/// # Examples
-/// ```text
-/// withdraw(&mut core, ticket)   answers  Some(waiter)   with a sender's message
-/// withdraw(&mut core, ticket)   answers  None           after that
-/// ```
+/// Example: `withdraw(&mut core, ticket)` answers `Some(waiter)` with a sender's message, and
+/// `withdraw(&mut core, ticket)` answers `None` after that.
 pub fn withdraw<T: Drop, W: Drop>(
     core: &mut ChannelInternal<T, W>,
     ticket: Ticket,
@@ -308,11 +284,7 @@ pub fn withdraw<T: Drop, W: Drop>(
 
 /// Moves the whole line to the vector's end. It is refused for memory only where the vector has too
 /// little room and can't grow.
-///
-/// # Examples
-/// ```text
-/// drain(&mut core, &mut messages)   replies  Drained(2)   after two messages entered
-/// ```
+/// Example: `drain(&mut core, &mut messages)` replies `Drained(2)` after two messages entered.
 #[tactic(auto, using(crate::proofs::Leaving::drained_leaves))]
 pub fn drain<T: Drop, W: Drop>(
     core: &mut ChannelInternal<T, W>,
@@ -438,12 +410,8 @@ fn terminated<T: Drop, W: Drop>(core: &ChannelInternal<T, W>) -> Reply<T>
 }
 
 /// Makes a call that never waits, and needs nothing but the core.
-///
-/// # Examples
-/// ```text
-/// make(&mut core, Event::TryRecv)   replies  Nothing      in a new core
-/// make(&mut core, Event::Close)     replies  Cleared(0)   after that
-/// ```
+/// Example: `make(&mut core, Event::TryRecv)` replies `Nothing` in a new core, and `make(&mut core, Event::Close)`
+/// replies `Cleared(0)` after that.
 pub fn make<T: Drop, W: Drop>(core: &mut ChannelInternal<T, W>, event: Event<T>) -> StepResult<T, W>
     requires plain { is_plain event ≡ true }
     ensures told { Tells (line_of core.old) event (told_of (line_of core.new) result) }

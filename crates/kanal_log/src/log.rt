@@ -39,15 +39,10 @@ impl<E: Entry> NewLog<E> {
     ghost use Rattle.kanal_log.specs.Logs.{table_of};
 
     /// A log on which nothing is written.
+    /// Example: `let opened = NewLog::new(alloc)?`; then `let (log, writer, reader) = opened.named::<J>()`.
     ///
     /// # Errors
     /// `AllocError` where there is no memory for its one word.
-    ///
-    /// # Examples
-    /// ```text
-    /// let opened = NewLog::new(alloc)?;
-    /// let (log, writer, reader) = opened.named::<J>();
-    /// ```
     pub fn new(alloc: Global) -> Result<Self, AllocError> {
         let (table, mut seat) = Table::of_words(alloc, &[0], &())?;
         let first = table.shared.split_seat::<Founds>(&mut seat);
@@ -56,12 +51,8 @@ impl<E: Entry> NewLog<E> {
 
     /// The log under a name, its writer, and the first reader, which has all of the right to add entries.
     /// The caller knows that the name is this log's.
-    ///
-    /// # Examples
-    /// ```text
-    /// let (log, mut writer, mut reader) = opened.named::<J>();
-    /// reader.again(&log)   answers  a reader that has seen nothing, and has half of the right
-    /// ```
+    /// Example: `let (log, mut writer, mut reader) = opened.named::<J>()`; then `reader.again(&log)` answers a
+    /// reader that has seen nothing, and has half of the right.
     pub fn named<J: LogId>(self) -> (GhostLog<E, J>, Writer<E, J>, Reader<E, J>)
         requires name { table_of self ≡ J.table }
         ensures empty { result.1 ≡ [] }
@@ -112,11 +103,7 @@ impl<E, J: LogId> Model for Writer<E, J> {
 
 impl<E: Entry, J: LogId> Writer<E, J> {
     /// A reader that has seen all, owns nothing, and has no share.
-    ///
-    /// # Examples
-    /// ```text
-    /// writer.read(&log)   answers  a reader that has seen all entries
-    /// ```
+    /// Example: `writer.read(&log)` answers a reader that has seen all entries.
     pub fn read(&mut self, log: &GhostLog<E, J>) -> Reader<E, J>
         ensures all { result ≡ known self.old [] nothing }
         ensures same { self.new ≡ self.old }
@@ -127,12 +114,7 @@ impl<E: Entry, J: LogId> Writer<E, J> {
 
     /// Shows all to the reader, which had seen a beginning. Where the reader has all of the right to add
     /// entries, what it had not seen is quiet.
-    ///
-    /// # Examples
-    /// ```text
-    /// writer.show(&log, &mut reader);
-    /// reader   has seen all entries, and owns what it owned
-    /// ```
+    /// Example: `writer.show(&log, &mut reader)`, and `reader` has seen all entries, and owns what it owned.
     pub fn show(&mut self, log: &GhostLog<E, J>, reader: &mut Reader<E, J>)
         ensures same { self.new ≡ self.old }
         ensures shown { reader.new ≡ known self.old reader.old.own reader.old.share }
@@ -145,12 +127,8 @@ impl<E: Entry, J: LogId> Writer<E, J> {
     /// Adds the entry that the two values are the reason of, and shows all to the reader, which had seen a
     /// beginning. The entry is the reader's own, which has a share. Where it has all of the right, what it
     /// had not seen is quiet.
-    ///
-    /// # Examples
-    /// ```text
-    /// writer.append_of::<X, Y, M>(&log, &mut reader, &asked, &answered);
-    /// reader   has seen all entries, the new one as the last
-    /// ```
+    /// Example: `writer.append_of::<X, Y, M>(&log, &mut reader, &asked, &answered)`, and `reader` has seen all
+    /// entries, the new one as the last.
     pub fn append_of<X, Y, M: EntryOf<X, Y, E>>(
         &mut self,
         log: &GhostLog<E, J>,
@@ -171,12 +149,8 @@ impl<E: Entry, J: LogId> Writer<E, J> {
     /// Adds the entry that the two values are the reason of, which is quiet, and shows all to the reader,
     /// which had seen a beginning. The entry has no owner, so the reader needs no share. Where it has all of
     /// the right to add entries, what it had not seen is quiet.
-    ///
-    /// # Examples
-    /// ```text
-    /// writer.append_quiet_of::<X, Y, M>(&log, &mut reader, &asked, &answered);
-    /// reader   has seen all entries, the new one as the last, and owns what it owned
-    /// ```
+    /// Example: `writer.append_quiet_of::<X, Y, M>(&log, &mut reader, &asked, &answered)`, and `reader` has seen all
+    /// entries, the new one as the last, and owns what it owned.
     pub fn append_quiet_of<X, Y, M: EntryOf<X, Y, E>>(
         &mut self,
         log: &GhostLog<E, J>,

@@ -34,12 +34,8 @@ impl<T, J: LogId> Model for GhostHistory<T, J> {
 impl<T, J: LogId> GhostHistory<T, J> {
     /// The log under a name, a history of no calls on it, and its first pass, which has all of the right to
     /// add calls. The caller knows that the name is this log's.
-    ///
-    /// # Examples
-    /// ```text
-    /// let (log, mut history, pass) = GhostHistory::<u64, J>::opened(opened);
-    /// pass   has seen nothing
-    /// ```
+    /// Example: `let (log, mut history, pass) = GhostHistory::<u64, J>::opened(opened)`; then `pass` has seen
+    /// nothing.
     pub fn opened(opened: NewLog<Call<T>>) -> (GhostLog<Call<T>, J>, GhostHistory<T, J>, Pass<T, J>)
         requires name { table_of opened ≡ J.table }
         ensures empty { result.1 ≡ [] }
@@ -50,11 +46,7 @@ impl<T, J: LogId> GhostHistory<T, J> {
     }
 
     /// What makes the internal calls. It has seen all.
-    ///
-    /// # Examples
-    /// ```text
-    /// let cleanup = history.cleanup(&log);
-    /// ```
+    /// Example: `let cleanup = history.cleanup(&log)`.
     pub fn cleanup(&mut self, log: &GhostLog<Call<T>, J>) -> Cleanup<T, J>
         ensures all { result ≡ self.old }
         ensures same { self.new ≡ self.old }

@@ -49,11 +49,7 @@ impl<T, J: LogId> Pass<T, J> {
     /// that a call settled or withdrew was told to a call before it, which began to wait. The events of the
     /// calls lead a new channel to an account that tells the same, so each law of the journal can be cited of
     /// them.
-    ///
-    /// # Examples
-    /// ```text
-    /// pass.holds();   and the caller's proof has these facts
-    /// ```
+    /// Example: `pass.holds()` and the caller's proof has these facts.
     pub fn holds(&self)
         ensures legal { IsLegal J.capacity self.now.log }
         ensures paired { (n : ℕ) → Paired (history_of (take n self.now.log)) }
@@ -67,11 +63,7 @@ impl<T, J: LogId> Pass<T, J> {
 
     /// A pass for another thread, which has seen as much and owns no call. Each of the two has half of the
     /// share. It is no call itself, counts no sender and no receiver, and waits for nobody.
-    ///
-    /// # Examples
-    /// ```text
-    /// let other = pass.again(&log);   goes to another thread
-    /// ```
+    /// Example: `let other = pass.again(&log)` goes to another thread.
     pub fn again(&mut self, log: &GhostLog<Call<T>, J>) -> Self
         ensures copy { result ≡ known self.old.log [] (half self.old.share) }
         ensures same { self.new ≡ known self.old.log self.old.own (half self.old.share) }
@@ -85,11 +77,7 @@ impl<T, J: LogId> Pass<T, J> {
     /// shares. It waits for nobody.
     ///
     /// Each later call of this pass stands in the history after all that it has learnt of.
-    ///
-    /// # Examples
-    /// ```text
-    /// pass.learn(&log, other);   where `other` comes back from another thread
-    /// ```
+    /// Example: `pass.learn(&log, other)` where `other` comes back from another thread.
     pub fn learn(&mut self, log: &GhostLog<Call<T>, J>, other: Self)
         ensures this { IsPrefix self.old.log self.new.log }
         ensures that { IsPrefix other.log self.new.log }
@@ -103,11 +91,7 @@ impl<T, J: LogId> Pass<T, J> {
 
     /// A pass that has all of the right to add calls owns each call that it has seen, but for internal calls,
     /// which put no message, ask for none and clear none. It changes nothing, and waits for nobody.
-    ///
-    /// # Examples
-    /// ```text
-    /// one.owns_all(&log);   where all other passes came back by `learn`
-    /// ```
+    /// Example: `one.owns_all(&log)` where all other passes came back by `learn`.
     pub fn owns_all(&mut self, log: &GhostLog<Call<T>, J>)
         requires whole { IsWhole self.old.share }
         ensures same { self.new ≡ self.old }
@@ -118,11 +102,7 @@ impl<T, J: LogId> Pass<T, J> {
 
     /// Two passes have seen beginnings of one history: one of the two begins with the other. It changes
     /// neither, and waits for nobody.
-    ///
-    /// # Examples
-    /// ```text
-    /// one.compare(&log, &mut other);   and the caller's proof has it
-    /// ```
+    /// Example: `one.compare(&log, &mut other)` and the caller's proof has it.
     pub fn compare(&mut self, log: &GhostLog<Call<T>, J>, other: &mut Self)
         ensures same { (self.new ≡ self.old) × (other.new ≡ other.old) }
         ensures one { OneBegins self.old.log other.old.log }
@@ -133,11 +113,7 @@ impl<T, J: LogId> Pass<T, J> {
     /// No entry of the history answers for two calls: no place is own to both passes, and none stands
     /// twice among the places of one. So a pass has made as many calls as it has places. It changes
     /// neither, and waits for nobody.
-    ///
-    /// # Examples
-    /// ```text
-    /// one.owns_once(&log, &mut other);   and the caller's proof has it
-    /// ```
+    /// Example: `one.owns_once(&log, &mut other)` and the caller's proof has it.
     pub fn owns_once(&mut self, log: &GhostLog<Call<T>, J>, other: &mut Self)
         ensures same { (self.new ≡ self.old) × (other.new ≡ other.old) }
         ensures apart { AreApart self.old.own other.old.own }

@@ -30,11 +30,7 @@ fn send_error(reason: Refusal) -> SendError
 }
 
 /// The answer of a send that waits where it must.
-///
-/// # Examples
-/// ```text
-/// sent_by(Reply::Sent)   answers  Ok(())
-/// ```
+/// Example: `sent_by(Reply::Sent)` answers `Ok(())`.
 pub fn sent_by<T: Drop>(reply: Reply<T>) -> Result<(), SendError>
     ensures { result ≡ sent_by reply }
 {
@@ -46,11 +42,7 @@ pub fn sent_by<T: Drop>(reply: Reply<T>) -> Result<(), SendError>
 }
 
 /// What the end of a sender's wait answers.
-///
-/// # Examples
-/// ```text
-/// sent_after(Outcome::Taken)   answers  Ok(())
-/// ```
+/// Example: `sent_after(Outcome::Taken)` answers `Ok(())`.
 #[cold]
 pub fn sent_after<T: Drop>(outcome: Outcome<T>) -> Result<(), SendError>
     ensures { result ≡ sent_after outcome }
@@ -64,11 +56,7 @@ pub fn sent_after<T: Drop>(outcome: Outcome<T>) -> Result<(), SendError>
 }
 
 /// The answer of a send that doesn't wait; a message that comes back goes into the option.
-///
-/// # Examples
-/// ```text
-/// restored(Reply::No(7), &mut option)   answers  Ok(false)   and the option has the 7
-/// ```
+/// Example: `restored(Reply::No(7), &mut option)` answers `Ok(false)` and the option has the 7.
 pub fn restored<T: Drop>(reply: Reply<T>, option: &mut Option<T>) -> Result<bool, SendError>
     requires empty { option.old ≡ None }
     ensures answer { result ≡ entered_by reply }
@@ -103,11 +91,7 @@ fn timed_send_error(reason: Refusal) -> SendErrorTimeout
 }
 
 /// The answer of a send with a deadline; a message that comes back goes into the option.
-///
-/// # Examples
-/// ```text
-/// timed_sent_by(Reply::Sent, &mut option)   answers  Ok(())
-/// ```
+/// Example: `timed_sent_by(Reply::Sent, &mut option)` answers `Ok(())`.
 pub fn timed_sent_by<T: Drop>(
     reply: Reply<T>,
     option: &mut Option<T>,
@@ -131,11 +115,7 @@ pub fn timed_sent_by<T: Drop>(
 }
 
 /// What the end of its wait answers a send with a deadline; a message that comes back goes into the option.
-///
-/// # Examples
-/// ```text
-/// timed_sent_after(Outcome::Taken, &mut option)   answers  Ok(())
-/// ```
+/// Example: `timed_sent_after(Outcome::Taken, &mut option)` answers `Ok(())`.
 #[cold]
 pub fn timed_sent_after<T: Drop>(
     outcome: Outcome<T>,
@@ -173,11 +153,7 @@ fn receive_error(reason: Refusal) -> ReceiveError
 }
 
 /// The answer of a receive that waits where it must.
-///
-/// # Examples
-/// ```text
-/// received_by(Reply::Got(7))   answers  Ok(7)
-/// ```
+/// Example: `received_by(Reply::Got(7))` answers `Ok(7)`.
 pub fn received_by<T: Drop>(reply: Reply<T>) -> Result<T, ReceiveError>
     ensures { result ≡ received_by reply }
 {
@@ -189,11 +165,7 @@ pub fn received_by<T: Drop>(reply: Reply<T>) -> Result<T, ReceiveError>
 }
 
 /// What the end of a receiver's wait answers.
-///
-/// # Examples
-/// ```text
-/// received_after(Outcome::Given(7))   answers  Ok(7)
-/// ```
+/// Example: `received_after(Outcome::Given(7))` answers `Ok(7)`.
 #[cold]
 pub fn received_after<T: Drop>(outcome: Outcome<T>) -> Result<T, ReceiveError>
     ensures { result ≡ received_after outcome }
@@ -207,11 +179,7 @@ pub fn received_after<T: Drop>(outcome: Outcome<T>) -> Result<T, ReceiveError>
 }
 
 /// The answer of a receive that doesn't wait.
-///
-/// # Examples
-/// ```text
-/// asked_by(Reply::Nothing)   answers  Ok(None)
-/// ```
+/// Example: `asked_by(Reply::Nothing)` answers `Ok(None)`.
 pub fn asked_by<T: Drop>(reply: Reply<T>) -> Result<Option<T>, ReceiveError>
     ensures { result ≡ asked_by reply }
 {
@@ -224,11 +192,7 @@ pub fn asked_by<T: Drop>(reply: Reply<T>) -> Result<Option<T>, ReceiveError>
 }
 
 /// The answer of a drain.
-///
-/// # Examples
-/// ```text
-/// drained_by(Reply::Drained(2))   answers  Ok(2)
-/// ```
+/// Example: `drained_by(Reply::Drained(2))` answers `Ok(2)`.
 pub fn drained_by<T: Drop>(reply: Reply<T>) -> Result<usize, ReceiveError>
     ensures { result ≡ drained_by reply }
 {
@@ -254,11 +218,7 @@ fn timed_receive_error(reason: Refusal) -> ReceiveErrorTimeout
 }
 
 /// The answer of a receive with a deadline.
-///
-/// # Examples
-/// ```text
-/// timed_received_by(Reply::Got(7))   answers  Ok(7)
-/// ```
+/// Example: `timed_received_by(Reply::Got(7))` answers `Ok(7)`.
 pub fn timed_received_by<T: Drop>(reply: Reply<T>) -> Result<T, ReceiveErrorTimeout>
     ensures { result ≡ timed_received_by reply }
 {
@@ -270,11 +230,7 @@ pub fn timed_received_by<T: Drop>(reply: Reply<T>) -> Result<T, ReceiveErrorTime
 }
 
 /// What the end of its wait answers a receive with a deadline.
-///
-/// # Examples
-/// ```text
-/// timed_received_after(Outcome::Given(7))   answers  Ok(7)
-/// ```
+/// Example: `timed_received_after(Outcome::Given(7))` answers `Ok(7)`.
 #[cold]
 pub fn timed_received_after<T: Drop>(outcome: Outcome<T>) -> Result<T, ReceiveErrorTimeout>
     ensures { result ≡ timed_received_after outcome }
@@ -288,11 +244,7 @@ pub fn timed_received_after<T: Drop>(outcome: Outcome<T>) -> Result<T, ReceiveEr
 }
 
 /// Whether a seal or a close was made.
-///
-/// # Examples
-/// ```text
-/// closed_by(Reply::Done)   answers  Ok(())
-/// ```
+/// Example: `closed_by(Reply::Done)` answers `Ok(())`.
 pub fn closed_by<T: Drop>(reply: Reply<T>) -> Result<(), CloseError>
     ensures { result ≡ closed_by reply }
 {
@@ -304,11 +256,7 @@ pub fn closed_by<T: Drop>(reply: Reply<T>) -> Result<(), CloseError>
 }
 
 /// Yes or no, as it was asked.
-///
-/// # Examples
-/// ```text
-/// flag_by(Reply::Flag(true))   answers  true
-/// ```
+/// Example: `flag_by(Reply::Flag(true))` answers `true`.
 pub fn flag_by<T: Drop>(reply: Reply<T>) -> bool
     ensures { result ≡ flag_by reply }
 {
@@ -319,11 +267,7 @@ pub fn flag_by<T: Drop>(reply: Reply<T>) -> bool
 }
 
 /// How many messages, as it was asked.
-///
-/// # Examples
-/// ```text
-/// number_by(Reply::Number(2))   answers  2
-/// ```
+/// Example: `number_by(Reply::Number(2))` answers `2`.
 pub fn number_by<T: Drop>(reply: Reply<T>) -> usize
     ensures { result ≡ number_by reply }
 {
@@ -334,11 +278,7 @@ pub fn number_by<T: Drop>(reply: Reply<T>) -> usize
 }
 
 /// How many handles, as it was asked.
-///
-/// # Examples
-/// ```text
-/// count_by(Reply::Number(2))   answers  2
-/// ```
+/// Example: `count_by(Reply::Number(2))` answers `2`.
 pub fn count_by<T: Drop>(reply: Reply<T>) -> u32
     ensures { result ≡ count_by reply }
 {

@@ -122,11 +122,7 @@ impl FirstHandles {
     }
 
     /// The tokens of both.
-    ///
-    /// # Examples
-    /// ```text
-    /// let (sender, receiver) = first.into_tokens();
-    /// ```
+    /// Example: `let (sender, receiver) = first.into_tokens()`.
     pub fn into_tokens(self) -> (CountedSender, CountedReceiver) {
         let FirstHandles(()) = self;
         (Counted::new(), Counted::new())
@@ -161,11 +157,7 @@ impl CountedWait {
     }
 
     /// The ticket.
-    ///
-    /// # Examples
-    /// ```text
-    /// counted.ticket().number()   answers  0   for the first that waits
-    /// ```
+    /// Example: `counted.ticket().number()` answers `0` for the first that waits.
     #[inline]
     pub fn ticket(&self) -> Ticket
         ensures { result ≡ ticket_of self.now }
@@ -248,14 +240,11 @@ impl CountedWait {
     }
 
     /// The pass learns what became of the wait, which is counted out.
+    /// Example: `counted.learn(shared.log(), &mut pass, delivered)` answers `Ok(Outcome::Taken)` where the message
+    /// was taken.
     ///
     /// # Errors
     /// The wait, where that is another's: the pass has learnt nothing.
-    ///
-    /// # Examples
-    /// ```text
-    /// counted.learn(shared.log(), &mut pass, delivered)   answers  Ok(Outcome::Taken)   where the message was taken
-    /// ```
     pub fn learn<T: Drop, H: History<T>>(
         self,
         log: &H::Log,

@@ -16,12 +16,7 @@ pub struct Released(());
 
 impl Released {
     /// Releases the lock.
-    ///
-    /// # Examples
-    /// ```text
-    /// let released = Released::by(guard);
-    /// owed.tell(prefix, &released);
-    /// ```
+    /// Example: `let released = Released::by(guard)`; then `owed.tell(prefix, &released)`.
     #[inline(always)]
     pub fn by<T: Drop, H: History<T>>(guard: MutexGuard<'_, State<T, H>>) -> Self {
         drop(guard);

@@ -11,11 +11,7 @@ pub trait OfSide {
     ghost side: { Side };
 
     /// The side that it is.
-    ///
-    /// # Examples
-    /// ```text
-    /// SendSide::side()   answers  Side::Tx
-    /// ```
+    /// Example: `SendSide::side()` answers `Side::Tx`.
     fn side() -> Side
         ensures { result ≡ side };
 }

@@ -105,11 +105,7 @@ fn renew<T: Drop, H: History<T>>(
 
 impl<T: Drop, H: History<T>> State<T, H> {
     /// A core, and what is kept of the calls that led to its line.
-    ///
-    /// # Examples
-    /// ```text
-    /// let state = State::new(core, NoHistory, ());
-    /// ```
+    /// Example: `let state = State::new(core, NoHistory, ())`.
     pub fn new(core: Core<T, H>, history: H, cleanup: H::Cleanup) -> State<T, H>
         requires core { H.stands history (line_of core) }
     {
@@ -121,11 +117,7 @@ impl<T: Drop, H: History<T>> State<T, H> {
     }
 
     /// The same, for handles: with that of the core's first sender and first receiver.
-    ///
-    /// # Examples
-    /// ```text
-    /// let (state, first) = State::with_handles(core, NoHistory, ());
-    /// ```
+    /// Example: `let (state, first) = State::with_handles(core, NoHistory, ())`.
     pub fn with_handles(
         core: Core<T, H>,
         history: H,
@@ -137,11 +129,7 @@ impl<T: Drop, H: History<T>> State<T, H> {
     }
 
     /// The channel goes, with its notices.
-    ///
-    /// # Examples
-    /// ```text
-    /// mutex.into_inner().end(notices);
-    /// ```
+    /// Example: `mutex.into_inner().end(notices)`.
     pub fn end(self, notices: Notices) {
         notices.end();
         drop(self);
@@ -158,11 +146,7 @@ impl<T: Drop, H: History<T>> State<T, H> {
     }
 
     /// Makes a call that never waits, and counts no handle.
-    ///
-    /// # Examples
-    /// ```text
-    /// let made = locked.state.call(log, &mut pass, Event::Close);
-    /// ```
+    /// Example: `let made = locked.state.call(log, &mut pass, Event::Close)`.
     pub fn call(
         &mut self,
         log: &H::Log,
@@ -235,11 +219,7 @@ impl<T: Drop, H: History<T>> State<T, H> {
 
     /// Makes the send of a call that doesn't wait, where the message enters and nobody waits; where it doesn't
     /// enter so nothing changes.
-    ///
-    /// # Examples
-    /// ```text
-    /// locked.state.try_push(log, &mut pass, 7)   answers  Ok(())   in a channel with a place
-    /// ```
+    /// Example: `locked.state.try_push(log, &mut pass, 7)` answers `Ok(())` in a channel with a place.
     #[inline(always)]
     pub fn try_push(&mut self, log: &H::Log, pass: &mut H::Pass, message: T) -> Result<(), T>
         ensures made { OnOk result (H.words.makes pass.old pass.new (tried_entry message)) }
@@ -256,11 +236,7 @@ impl<T: Drop, H: History<T>> State<T, H> {
 
     /// Makes the receive of a call that doesn't wait, where it gets its message and nobody waits; where it
     /// gets none so nothing changes.
-    ///
-    /// # Examples
-    /// ```text
-    /// locked.state.try_pop(log, &mut pass)   answers  Some(7)   after 7 entered
-    /// ```
+    /// Example: `locked.state.try_pop(log, &mut pass)` answers `Some(7)` after 7 entered.
     #[inline(always)]
     pub fn try_pop(&mut self, log: &H::Log, pass: &mut H::Pass) -> Option<T>
         ensures made { IfSome result (λ m. H.words.makes pass.old pass.new (tried_receipt m)) }
@@ -316,22 +292,14 @@ impl<T: Drop, H: History<T>> State<T, H> {
     }
 
     /// Whether the buffer has no place: always at capacity 0, and never without a limit.
-    ///
-    /// # Examples
-    /// ```text
-    /// locked.state.is_full()   answers  true   at capacity 0
-    /// ```
+    /// Example: `locked.state.is_full()` answers `true` at capacity 0.
     #[inline]
     pub fn is_full(&self) -> bool {
         self.core.is_full()
     }
 
     /// Whether no message is in the buffer, whoever waits.
-    ///
-    /// # Examples
-    /// ```text
-    /// locked.state.is_empty()   answers  true   in a new channel
-    /// ```
+    /// Example: `locked.state.is_empty()` answers `true` in a new channel.
     #[inline]
     pub fn is_empty(&self) -> bool {
         self.core.is_empty()
@@ -399,11 +367,7 @@ impl<T: Drop, H: History<T>> State<T, H> {
 
     /// Takes this wait back, if it still waits; where it doesn't, nothing changes, and it is still to be counted
     /// out.
-    ///
-    /// # Examples
-    /// ```text
-    /// locked.state.withdraw(log, &mut pass, counted)   answers  Err(counted)   where its wait was settled
-    /// ```
+    /// Example: `locked.state.withdraw(log, &mut pass, counted)` answers `Err(counted)` where its wait was settled.
     pub fn withdraw(
         &mut self,
         log: &H::Log,
@@ -436,11 +400,7 @@ impl<T: Drop, H: History<T>> State<T, H> {
     }
 
     /// Moves the whole line to the vector's end.
-    ///
-    /// # Examples
-    /// ```text
-    /// let made = locked.state.drain(log, &mut pass, &mut messages);
-    /// ```
+    /// Example: `let made = locked.state.drain(log, &mut pass, &mut messages)`.
     pub fn drain(
         &mut self,
         log: &H::Log,
@@ -464,22 +424,14 @@ impl<T: Drop, H: History<T>> State<T, H> {
     }
 
     /// How many senders and how many receivers there are.
-    ///
-    /// # Examples
-    /// ```text
-    /// locked.state.counts()   answers  (1, 1)   for a new channel
-    /// ```
+    /// Example: `locked.state.counts()` answers `(1, 1)` for a new channel.
     #[doc(hidden)] // The tests of the held lock look at the core.
     pub fn counts(&self) -> (u32, u32) {
         (self.core.sender_count(), self.core.receiver_count())
     }
 
     /// Whether a call waits, or a future.
-    ///
-    /// # Examples
-    /// ```text
-    /// locked.state.somebody_waits()   answers  false   in a new channel
-    /// ```
+    /// Example: `locked.state.somebody_waits()` answers `false` in a new channel.
     #[doc(hidden)] // The tests of the held lock wait until a call has begun to wait.
     pub fn somebody_waits(&self) -> bool {
         self.core.first_waiter(|_| true).is_some()
@@ -487,11 +439,7 @@ impl<T: Drop, H: History<T>> State<T, H> {
 
     /// Swaps the waker of the wait with the ticket for the spare one, if there is a spare; whether the
     /// ticket waits.
-    ///
-    /// # Examples
-    /// ```text
-    /// locked.state.renew(ticket, &mut spare)   answers  true   while the ticket waits
-    /// ```
+    /// Example: `locked.state.renew(ticket, &mut spare)` answers `true` while the ticket waits.
     pub fn renew(&mut self, ticket: Ticket, spare: &mut Option<Waker>) -> bool
         ensures line { self.new.1 ≡ self.old.1 }
         ensures waits { (result ≡ true) ↔ IsSome (waiter_of ticket self.old.2) }

@@ -46,11 +46,7 @@ impl<T: Drop, H: History<T>> WaitResult<T, H> {
     }
 
     /// The number of the ticket whose wait it is.
-    ///
-    /// # Examples
-    /// ```text
-    /// delivered.ticket()   answers  0   for the first that waited
-    /// ```
+    /// Example: `delivered.ticket()` answers `0` for the first that waited.
     pub fn ticket(&self) -> u64
         ensures { result ≡ self.now.0 }
     {
@@ -58,12 +54,7 @@ impl<T: Drop, H: History<T>> WaitResult<T, H> {
     }
 
     /// The outcome, and what was seen.
-    ///
-    /// # Examples
-    /// ```text
-    /// let (outcome, prefix) = delivered.into_parts();
-    /// H::learn(shared.log(), &mut pass, prefix);
-    /// ```
+    /// Example: `let (outcome, prefix) = delivered.into_parts()`; then `H::learn(shared.log(), &mut pass, prefix)`.
     pub fn into_parts(self) -> (Outcome<T>, H::Prefix)
         ensures outcome { result.0 ≡ self.1 }
         ensures settled { H.shows result.1 self }

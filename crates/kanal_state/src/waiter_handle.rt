@@ -74,11 +74,7 @@ impl<T: Drop, H: History<T>> Waits<T> for WaiterHandle<T, H> {
 
 /// What a blocked call waits with: the end at which it is told, and the waiter's handle for the core. `None` where
 /// there is no memory for them.
-///
-/// # Examples
-/// ```text
-/// let (end, waiter) = ends(alloc)?;
-/// ```
+/// Example: `let (end, waiter) = ends(alloc)?`.
 #[inline]
 pub fn ends<T: Drop, H: History<T>>(
     alloc: Global,
@@ -137,12 +133,8 @@ impl<T: Drop, H: History<T>> WaiterHandle<T, H> {
     }
 
     /// The waiter's handle of a task, with the reserved node for its entry; `None` where there is no memory.
-    ///
-    /// # Examples
-    /// ```text
-    /// let (waiting, settling) = signal::new(alloc).ok()?;
-    /// let waiter = WaiterHandle::of_task(alloc, settling)?;
-    /// ```
+    /// Example: `let (waiting, settling) = signal::new(alloc).ok()?`; then
+    /// `let waiter = WaiterHandle::of_task(alloc, settling)?`.
     pub fn of_task(alloc: Global, end: SettleEnd<WaitResult<T, H>>) -> Option<Self>
         requires { HasNotSettled (settle_view end) }
         ensures cell { IfSome result (λ waiter. waiter.cell ≡ settle_cell end) }
@@ -158,11 +150,7 @@ impl<T: Drop, H: History<T>> WaiterHandle<T, H> {
     }
 
     /// Swaps the waker that settling wakes for the spare one, if there is a spare.
-    ///
-    /// # Examples
-    /// ```text
-    /// waiter.renew(&mut spare)   leaves in `spare` the waker that the waiter had
-    /// ```
+    /// Example: `waiter.renew(&mut spare)` leaves in `spare` the waker that the waiter had.
     pub fn renew(&mut self, spare: &mut Option<Waker>)
         ensures swapped { Swaps spare.old self.old self.new spare.new }
     {

@@ -50,11 +50,7 @@ impl<T: Drop, H: History<T>> Drop for Left<T, H> {
 
 impl<T: Drop, H: History<T>> Left<T, H> {
     /// Of a lock under which there was no notice.
-    ///
-    /// # Examples
-    /// ```text
-    /// shared.tell_left(Left::nothing(), &released)   tells nobody
-    /// ```
+    /// Example: `shared.tell_left(Left::nothing(), &released)` tells nobody.
     pub fn nothing() -> Self
         ensures nobody { takes_nothing result }
     {
@@ -73,12 +69,7 @@ impl<T: Drop, H: History<T>> Drop for Locked<'_, T, H> {
 impl<T: Drop, H: History<T>> Locked<'_, T, H> {
     /// Releases the lock after a step that settled no wait, and looks for new notices. What left the core may be
     /// opened then, by the answer.
-    ///
-    /// # Examples
-    /// ```text
-    /// let mut locked = shared.lock(&rt);
-    /// locked.unlock_quiet();
-    /// ```
+    /// Example: `let mut locked = shared.lock(&rt)`; then `locked.unlock_quiet()`.
     #[inline]
     pub fn unlock_quiet(self) -> Released
         requires quiet { IsQuiet self }
@@ -122,11 +113,7 @@ impl<T: Drop, H: History<T>> Locked<'_, T, H> {
 
     /// Applies the notices under a lock that one try got. Where they take something out, the lock is released,
     /// that is told, and the lock is tried once more; `None` where another has it then.
-    ///
-    /// # Examples
-    /// ```text
-    /// let locked = shared.try_lock_raw()?.apply_notices()?;
-    /// ```
+    /// Example: `let locked = shared.try_lock_raw()?.apply_notices()?`.
     #[cold]
     pub fn apply_notices(self) -> Option<Self>
         ensures quiet { IfSome result IsQuiet }
@@ -156,12 +143,7 @@ impl<T: Drop, H: History<T>> Locked<'_, T, H> {
 
 impl<T: Drop, H: History<T>> Shared<T, H> {
     /// Waits for the lock, with no notice left to apply.
-    ///
-    /// # Examples
-    /// ```text
-    /// let mut locked = shared.lock(&rt);
-    /// locked.unlock_quiet();
-    /// ```
+    /// Example: `let mut locked = shared.lock(&rt)`; then `locked.unlock_quiet()`.
     #[inline]
     pub fn lock<R: Wait>(&self, rt: &R) -> Locked<'_, T, H>
         ensures quiet { IsQuiet result }
@@ -216,11 +198,7 @@ impl<T: Drop, H: History<T>> Shared<T, H> {
     }
 
     /// Tries once to get the lock, and applies no notice; `None` where it is held.
-    ///
-    /// # Examples
-    /// ```text
-    /// shared.try_lock_raw()   answers  None   while another has the lock
-    /// ```
+    /// Example: `shared.try_lock_raw()` answers `None` while another has the lock.
     #[inline]
     pub fn try_lock_raw(&self) -> Option<Locked<'_, T, H>>
         ensures quiet { IfSome result IsQuiet }
@@ -302,11 +280,7 @@ impl<T: Drop, H: History<T>> Shared<T, H> {
     }
 
     /// Whether there are no notices.
-    ///
-    /// # Examples
-    /// ```text
-    /// shared.is_quiet()   answers  false   after a handle was dropped while the lock was held
-    /// ```
+    /// Example: `shared.is_quiet()` answers `false` after a handle was dropped while the lock was held.
     #[inline]
     pub fn is_quiet(&self) -> bool {
         self.notices.is_quiet()

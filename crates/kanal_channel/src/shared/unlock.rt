@@ -169,11 +169,7 @@ impl<T: Drop, H: History<T>> Shared<T, H> {
     }
 
     /// Lets go of what left, and tells those whose waits ended.
-    ///
-    /// # Examples
-    /// ```text
-    /// shared.tell_left(left, &released);   after `locked.unlock()`
-    /// ```
+    /// Example: `shared.tell_left(left, &released)` after `locked.unlock()`.
     #[inline]
     pub fn tell_left(&self, left: Left<T, H>, released: &Released) {
         if let Some(taken) = left.into_taken() {
@@ -207,12 +203,7 @@ impl<T: Drop, H: History<T>> Shared<T, H> {
     }
 
     /// Applies notices while there are some and the lock is free, and looks at most 64 times.
-    ///
-    /// # Examples
-    /// ```text
-    /// let released = locked.unlock();
-    /// shared.drain_notices();
-    /// ```
+    /// Example: `let released = locked.unlock()`; then `shared.drain_notices()`.
     #[cold]
     pub fn drain_notices(&self) {
         for _ in 0..LOOKS {

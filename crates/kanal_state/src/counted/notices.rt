@@ -102,11 +102,7 @@ fn emptied(counter: &AtomicU64) -> u64 {
 
 impl Notices {
     /// None, for a new channel.
-    ///
-    /// # Examples
-    /// ```text
-    /// Notices::new().is_quiet()   answers  true
-    /// ```
+    /// Example: `Notices::new().is_quiet()` answers `true`.
     pub fn new() -> Self {
         Notices {
             some: AtomicU64::new(0),
@@ -134,22 +130,14 @@ impl Notices {
     }
 
     /// Whether there are none.
-    ///
-    /// # Examples
-    /// ```text
-    /// notices.is_quiet()   answers  false   after a handle was added
-    /// ```
+    /// Example: `notices.is_quiet()` answers `false` after a handle was added.
     #[inline]
     pub fn is_quiet(&self) -> bool {
         self.some.load(SeqCst) == 0
     }
 
     /// Forgets that there are some. Who then takes them finds all that were added before.
-    ///
-    /// # Examples
-    /// ```text
-    /// notices.read()   comes before the notices are taken
-    /// ```
+    /// Example: `notices.read()` comes before the notices are taken.
     pub fn read(&self) {
         emptied(&self.some);
     }
@@ -163,11 +151,7 @@ impl Notices {
     }
 
     /// Counts a handle out into the notices of its side.
-    ///
-    /// # Examples
-    /// ```text
-    /// notices.add_handle(counted);
-    /// ```
+    /// Example: `notices.add_handle(counted)`.
     pub fn add_handle<S: OfSide>(&self, counted: Counted<S>) {
         counted.notice();
         self.counter(S::side()).fetch_add(1, SeqCst);
@@ -175,11 +159,7 @@ impl Notices {
     }
 
     /// Takes all handles of a side.
-    ///
-    /// # Examples
-    /// ```text
-    /// let (ended, rest) = state.drop_handles::<SendSide>(log, notices.take_handles());
-    /// ```
+    /// Example: `let (ended, rest) = state.drop_handles::<SendSide>(log, notices.take_handles())`.
     pub fn take_handles<S: OfSide>(&self) -> GoneHandles<S> {
         GoneHandles {
             count: emptied(self.counter(S::side())),
@@ -188,11 +168,7 @@ impl Notices {
     }
 
     /// Puts back those that were not counted out.
-    ///
-    /// # Examples
-    /// ```text
-    /// notices.put_back(rest);
-    /// ```
+    /// Example: `notices.put_back(rest)`.
     pub fn put_back<S: OfSide>(&self, gone: GoneHandles<S>) {
         let count = gone.into_count();
         if count > 0 {
@@ -201,11 +177,7 @@ impl Notices {
     }
 
     /// Counts a wait out into the notices.
-    ///
-    /// # Examples
-    /// ```text
-    /// notices.add_wait(counted);
-    /// ```
+    /// Example: `notices.add_wait(counted)`.
     pub fn add_wait(&self, counted: CountedWait) {
         counted.notice();
         self.waits.fetch_add(1, SeqCst);
@@ -213,21 +185,13 @@ impl Notices {
     }
 
     /// How many waits were left.
-    ///
-    /// # Examples
-    /// ```text
-    /// notices.waits()   answers  1   after `add_wait`
-    /// ```
+    /// Example: `notices.waits()` answers `1` after `add_wait`.
     pub fn waits(&self) -> u64 {
         self.waits.load(SeqCst)
     }
 
     /// Takes all waits, if there are some.
-    ///
-    /// # Examples
-    /// ```text
-    /// notices.take_waits()   answers  None   where no wait was added
-    /// ```
+    /// Example: `notices.take_waits()` answers `None` where no wait was added.
     pub fn take_waits(&self) -> Option<GoneWaits> {
         if emptied(&self.waits) == 0 {
             return None;

@@ -49,14 +49,10 @@ impl<T: Drop, H: History<T>> State<T, H> {
     }
 
     /// Counts one more handle of a side: the token has to be counted out when the handle goes.
+    /// Example: `let counted = locked.state.count::<SendSide>(log, &mut pass)?`.
     ///
     /// # Errors
     /// `TooMany` exactly where there are `u32::MAX` of that side, and nothing changes.
-    ///
-    /// # Examples
-    /// ```text
-    /// let counted = locked.state.count::<SendSide>(log, &mut pass)?;
-    /// ```
     pub fn count<S: OfSide>(
         &mut self,
         log: &H::Log,

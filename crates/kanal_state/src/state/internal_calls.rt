@@ -57,11 +57,7 @@ impl<T, H: History<T>> Model for Gone<T, H> {
 
 impl<T: Drop, H: History<T>> Gone<T, H> {
     /// What was made, and what was seen of it, once the lock was released.
-    ///
-    /// # Examples
-    /// ```text
-    /// let (made, prefix) = gone.into_parts(&released);
-    /// ```
+    /// Example: `let (made, prefix) = gone.into_parts(&released)`.
     pub fn into_parts(self, _released: &Released) -> (StepResult<T, WaiterHandle<T, H>>, H::Prefix)
         ensures made { result.0 ≡ self }
         ensures seen { HaveShown H.shows result.1 (settled_of result.0) }
@@ -132,11 +128,7 @@ impl<T: Drop, H: History<T>> State<T, H> {
     }
 
     /// Takes this wait back, if it still waits, as an internal call.
-    ///
-    /// # Examples
-    /// ```text
-    /// locked.state.leave(log, counted)   answers  None   where its wait was settled
-    /// ```
+    /// Example: `locked.state.leave(log, counted)` answers `None` where its wait was settled.
     pub fn leave(
         &mut self,
         log: &H::Log,
@@ -182,11 +174,7 @@ impl<T: Drop, H: History<T>> State<T, H> {
     }
 
     /// Makes the drop of this handle; what that ended, with what was seen of it.
-    ///
-    /// # Examples
-    /// ```text
-    /// let gone = locked.state.drop_handle(log, counted);
-    /// ```
+    /// Example: `let gone = locked.state.drop_handle(log, counted)`.
     pub fn drop_handle<S: OfSide>(&mut self, log: &H::Log, counted: Counted<S>) -> Gone<T, H>
         ensures told { Tells self.old.1 (one_less S.side) (told_of self.new.1 result) }
         ensures leave { Leave self.old.2 (gone_of result) self.new.2 }
@@ -196,11 +184,7 @@ impl<T: Drop, H: History<T>> State<T, H> {
     }
 
     /// What makes the internal calls as it is now, for proofs alone.
-    ///
-    /// # Examples
-    /// ```text
-    /// let before = locked.state.cleanup();
-    /// ```
+    /// Example: `let before = locked.state.cleanup()`.
     pub fn cleanup(&self) -> Snapshot<H::Cleanup>
         ensures { result.value ≡ self.now.0 }
     {
@@ -209,11 +193,7 @@ impl<T: Drop, H: History<T>> State<T, H> {
 
     /// Makes the drops of these handles until the last one's of their side; what that ended, with what was seen
     /// of it, and those that are left.
-    ///
-    /// # Examples
-    /// ```text
-    /// let (ended, rest) = locked.state.drop_handles::<SendSide>(log, notices.take_handles());
-    /// ```
+    /// Example: `let (ended, rest) = locked.state.drop_handles::<SendSide>(log, notices.take_handles())`.
     pub fn drop_handles<S: OfSide>(
         &mut self,
         log: &H::Log,
@@ -237,11 +217,7 @@ impl<T: Drop, H: History<T>> State<T, H> {
     /// Withdraws all waits that were left, and hands out their entries, the last that left first. It asks for
     /// no memory: each is kept in the reserved node that its handle brought. No clause says that these are all:
     /// who leaves does so in its cell, and at any moment.
-    ///
-    /// # Examples
-    /// ```text
-    /// let leavers = locked.state.withdraw_left(log, alloc, waits);
-    /// ```
+    /// Example: `let leavers = locked.state.withdraw_left(log, alloc, waits)`.
     pub fn withdraw_left(
         &mut self,
         log: &H::Log,

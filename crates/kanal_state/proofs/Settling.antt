@@ -1,5 +1,5 @@
 -- What passes tell of a call that was noted, of one that waited, and of one that was made where the pass had looked.
-use Rattle.std.proofs.Common.{◌≡◌, ℕ, Bool, true, false, true≢false, Some, List, [], ◌∷◌, Result, Ok, Err, refl, ap, sym, ◌∙◌, inl, inr, subst}
+use Rattle.std.proofs.Common.{◌≡◌, ℕ, Bool, true, false, true≢false, Some, List, [], ◌∷◌, Result, Ok, Err, IfErr, IsErrAnd, refl, ap, sym, ◌∙◌, inl, inr, subst}
 use Rattle.std.proofs.lemmas.Bool.{cases_Bool}
 use Rattle.kanal_core.specs.declared.internal.outcome.Outcome.{Outcome}
 use Rattle.kanal_core.specs.declared.error.ReceiveError.{ReceiveError}
@@ -179,6 +179,11 @@ module _ {T P : Type 0} (w : Words T P) (sound : AreSound w) where
 
   pub waiting_on : (old mid new : P) (event back : Event T) (counted : CountedWait) → w.looks old mid → back ≡ event → IsWaiting w mid new back counted → IsWaiting w old new event counted
   waiting_on old mid new event back counted looks same c = subst (λ e. IsWaiting w old new e counted) same (replied-from w sound old mid new back (λ reply. reply) _ looks c)
+
+-- what is known of an error is known of it once it was handed on
+pub handed-on : {A E : Type 0} (r : Result A E) (x : E) (P : E → Type 0) → IsErrAnd r (λ e. e ≡ x) → P x → IfErr r P
+handed-on (Ok a) x P is p = tt
+handed-on (Err e) x P is p = subst P (sym is) p
 
 off : false ≡ true → ⊥
 off e = true≢false (sym e)

@@ -1,12 +1,6 @@
-use Rattle.std.proofs.Common.{◌≡◌, Result, Ok, Err, IfErr, subst, sym}
-use Rattle.std.specs.Result.{IsErrAnd}
 use Rattle.kanal_state.specs.Makes.{HasReplied}
-use Rattle.kanal_state.proofs.Settling.{replied_on, waiting_on}
+use Rattle.kanal_state.proofs.Settling.{handed-on, replied_on, waiting_on}
 use Rattle.kanal_futures.proofs.wakers.Wakers.begin_held.Goals as goal
-
-handed-on : {A E : Type 0} (r : Result A E) (x : E) (P : E → Type 0) → IsErrAnd r (λ e. e ≡ x) → P x → IfErr r P
-handed-on (Ok a) x P is p = tt
-handed-on (Err e) x P is p = subst P (sym is) p
 
 pub returns-in_err-counted-clause-replied : goal.returns-in_err-counted-clause-replied
 returns-in_err-counted-clause-replied g c =

@@ -16,11 +16,26 @@ mod timed;
 
 use anyhow::Result;
 use callers::{Half, Square};
+use kanal::Sender;
+use kanal::error::SendError;
 use std::alloc::AllocGlobal;
 use std::random::RandomSource;
 use std::sync::Wait;
-use std::thread::Threads;
+use std::thread::{self, JoinHandle, Threads};
 use std::time::Clock;
+
+/// What a thread that sends answers at its end.
+type Sent = std::result::Result<(), SendError>;
+
+/// Sends one message from a thread.
+fn send_one<R, T>(rt: R, sender: Sender<T>, message: T) -> Result<JoinHandle<Sent>>
+where
+    R: Threads + Wait + Copy + Send + 'static,
+    T: Drop + Send + 'static,
+{
+    let thread = thread::spawn(&rt, move || sender.send(&rt, message))?;
+    Ok(thread)
+}
 
 /// The callers of the pages for callers, each with what it answers.
 fn call_each<R: Threads + Wait + AllocGlobal + Print + Sync>(rt: &R) -> Result<()> {

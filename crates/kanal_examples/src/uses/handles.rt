@@ -9,15 +9,18 @@ use std::thread::{self, JoinHandle, Threads};
 /// What the last try answers.
 type Tried = std::result::Result<bool, SendError>;
 
-/// Tries to send 1 and 2 from a thread, the second by a view of the same sender.
+/// Tries to send 1 and 2, the second by a view of the same sender.
+fn try_both<R: Wait>(rt: &R, sender: &Sender<u64>) -> Tried {
+    sender.try_send(rt, 1)?;
+    sender.as_async().as_sync().try_send(rt, 2)
+}
+
+/// Tries so from a thread.
 fn try_two<R: Threads + Wait + Copy + Send + 'static>(
     rt: R,
     sender: Sender<u64>,
 ) -> Result<JoinHandle<Tried>> {
-    let thread = thread::spawn(&rt, move || {
-        sender.try_send(&rt, 1)?;
-        sender.as_async().as_sync().try_send(&rt, 2)
-    })?;
+    let thread = thread::spawn(&rt, move || try_both(&rt, &sender))?;
     Ok(thread)
 }
 

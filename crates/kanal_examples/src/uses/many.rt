@@ -1,23 +1,10 @@
 //! One channel among many threads.
+use super::send_one;
 use anyhow::Result;
-use kanal::error::SendError;
-use kanal::{Receiver, Sender};
+use kanal::Receiver;
 use std::alloc::AllocGlobal;
 use std::sync::Wait;
 use std::thread::{self, JoinHandle, Threads};
-
-/// What a thread that sends answers at its end.
-type Sent = std::result::Result<(), SendError>;
-
-/// Sends one number from a thread.
-fn send_one<R: Threads + Wait + Copy + Send + 'static>(
-    rt: R,
-    sender: Sender<u64>,
-    number: u64,
-) -> Result<JoinHandle<Sent>> {
-    let thread = thread::spawn(&rt, move || sender.send(&rt, number))?;
-    Ok(thread)
-}
 
 /// A clone for each of four threads, and the sum of what they sent.
 pub fn a_clone_for_each_thread<R>(rt: R) -> Result<()>
@@ -96,24 +83,14 @@ enum Event {
     Number(u64),
 }
 
-/// Sends one event from a thread.
-fn tell<R: Threads + Wait + Copy + Send + 'static>(
-    rt: R,
-    events: Sender<Event>,
-    event: Event,
-) -> Result<JoinHandle<Sent>> {
-    let thread = thread::spawn(&rt, move || events.send(&rt, event))?;
-    Ok(thread)
-}
-
 /// Waits for the first of several senders: one channel, whose messages say where they come from.
 pub fn one_of_several<R>(rt: R) -> Result<()>
 where
     R: Threads + Wait + AllocGlobal + Print + Copy + Send + 'static,
 {
     let (sender, receiver) = kanal::bounded::<Event>(rt.alloc(), 1)?;
-    let words = tell(rt, sender.clone(&rt)?, Event::Word("four"))?;
-    let numbers = tell(rt, sender, Event::Number(5))?;
+    let words = send_one(rt, sender.clone(&rt)?, Event::Word("four"))?;
+    let numbers = send_one(rt, sender, Event::Number(5))?;
     let mut letters: usize = 0;
     let mut sum: u64 = 0;
     receiver.for_each(&rt, |event| match event {

@@ -1,16 +1,14 @@
 //! Channels between tasks, and between a task and a thread.
+use super::{Sent, send_one};
 use anyhow::Result;
 use futures::executor::block_on;
-use kanal::error::{ReceiveError, SendError};
+use kanal::error::ReceiveError;
 use kanal::{AsyncReceiver, Receiver, Sender};
 use std::alloc::AllocGlobal;
 use std::random::RandomSource;
 use std::sync::Wait;
 use std::thread::{JoinHandle, Threads};
 use std::{io, thread};
-
-/// What a send answers.
-type Sent = std::result::Result<(), SendError>;
 
 /// What a receive answers.
 type Got = std::result::Result<&'static str, ReceiveError>;
@@ -21,15 +19,6 @@ pub fn within_one_task<R: Wait + RandomSource + AllocGlobal + Print>(rt: &R) -> 
     block_on(rt, sender.send(7))??;
     println!(rt; "{}", block_on(rt, receiver.recv())??)?;
     Ok(())
-}
-
-/// Sends a hello from a thread.
-fn send_in_a_thread<R: Threads + Wait + Copy + Send + 'static>(
-    rt: R,
-    sender: Sender<&'static str>,
-) -> Result<JoinHandle<Sent>> {
-    let thread = thread::spawn(&rt, move || sender.send(&rt, "hello"))?;
-    Ok(thread)
 }
 
 /// Lends the sender to a task, which sends a hello and runs in a thread.
@@ -50,7 +39,7 @@ where
     // A channel with room for 8 messages.
     let (sender, receiver) = kanal::bounded::<&'static str>(rt.alloc(), 8)?;
 
-    let thread = send_in_a_thread(rt, sender.clone(&rt)?)?;
+    let thread = send_one(rt, sender.clone(&rt)?, "hello")?;
     println!(rt; "I got msg: {}", receiver.recv(&rt)?)?;
     thread.join(&rt)?;
 

@@ -1,23 +1,23 @@
 //! Channels between threads.
+use super::Sent;
 use anyhow::Result;
 use kanal::Sender;
-use kanal::error::SendError;
 use std::alloc::AllocGlobal;
 use std::sync::Wait;
 use std::thread::{self, JoinHandle, Threads};
 
-/// What a thread that sends answers at its end.
-type Sent = std::result::Result<(), SendError>;
+/// Sends two words.
+fn say_both<R: Wait>(rt: &R, sender: &Sender<&'static str>) -> Sent {
+    sender.send(rt, "hello")?;
+    sender.send(rt, "from a thread")
+}
 
-/// Sends two words from a thread of their own.
+/// Sends them from a thread of their own.
 fn greet<R: Threads + Wait + Copy + Send + 'static>(
     rt: R,
     sender: Sender<&'static str>,
 ) -> Result<JoinHandle<Sent>> {
-    let thread = thread::spawn(&rt, move || {
-        sender.send(&rt, "hello")?;
-        sender.send(&rt, "from a thread")
-    })?;
+    let thread = thread::spawn(&rt, move || say_both(&rt, &sender))?;
     Ok(thread)
 }
 

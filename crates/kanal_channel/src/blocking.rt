@@ -65,7 +65,7 @@ impl<T: Drop, H: History<T>> Shared<T, H> {
 
     /// Makes a call that waits where it must, under the lock that was got, and releases the lock. Whoever
     /// calls this has looked before, and paused.
-    #[cold]
+    #[inline(always)]
     pub(crate) fn blocking<R: Wait>(
         &self,
         rt: &R,

@@ -4,7 +4,7 @@ use Rattle.std.specs.Sync.Forever.{forever_left}
 use Rattle.kanal_core.specs.declared.error.TooMany.{TooMany as NoMore}
 use Rattle.kanal_events.specs.declared.event.Side.{Side}
 use Rattle.kanal_state.specs.Handles.{Counts}
-use Rattle.kanal_state.specs.Words.{Words}
+use Rattle.kanal_state.specs.HistoryRelations.{HistoryRelations}
 use Rattle.kanal_state.specs.declared.side.ReceiveSide.{ReceiveSide}
 use Rattle.kanal_state.specs.declared.side.SendSide.{SendSide}
 use Rattle.kanal.specs.declared.async_receiver.AsyncReceiver.{AsyncReceiver}
@@ -49,7 +49,7 @@ module _ {T H P B S C : Type 0} where
   abbrev pub turns_left : {R : Type 0} → Messages T R H P B S C → ℕ
   turns_left m = forever_left m.turns
 
-module _ {T P A : Type 0} (w : Words T P) (old new : P) where
+module _ {T P A : Type 0} (w : HistoryRelations T P) (old new : P) where
   -- one more of the side is counted; where the answer is an error, none is: no call was made, or it was refused
   abbrev pub Clones : Side → Result A NoMore → Type 0
   Clones side answer =

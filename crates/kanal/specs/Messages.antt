@@ -4,9 +4,9 @@ use denote.Param.Members.{Mut, Called}
 use Rattle.kanal_core.specs.declared.error.ReceiveError.{ReceiveError}
 use Rattle.kanal_core.specs.declared.error.ReceiveError.TheVariants.{SendClosed}
 use Rattle.kanal_state.specs.Handles.{Receives}
-use Rattle.kanal_state.specs.Words.{Words}
+use Rattle.kanal_state.specs.HistoryRelations.{HistoryRelations}
 
-module _ {T P : Type 0} (w : Words T P) where
+module _ {T P : Type 0} (w : HistoryRelations T P) where
   -- a receive was refused
   abbrev pub IsRefused : P → P → Type 0
   IsRefused old new = (error : ReceiveError) × Receives w old new (Err error)
@@ -15,7 +15,7 @@ module _ {T P : Type 0} (w : Words T P) where
   abbrev pub ReceivesNext : P → P → Option T → Type 0
   ReceivesNext old new item = MatchOption item (IsRefused old new) (λ message. Receives w old new (Ok message))
 
-module _ {T P F R : Type 0} (w : Words T P) (call : Mut F (T × Unit {0}) R) where
+module _ {T P F R : Type 0} (w : HistoryRelations T P) (call : Mut F (T × Unit {0}) R) where
   -- the messages were received one after the other, the last of them first in the list, and each was handed to the call, which answered so
   abbrev pub HandsEach : R → P → F → List T → P → F → Type 0
   HandsEach went old first [] new last = (old ≡ new) × (first ≡ last)
@@ -27,12 +27,12 @@ module _ {T P F R : Type 0} (w : Words T P) (call : Mut F (T × Unit {0}) R) whe
   EndsBy went old new first error =
       (messages : List T) × (mid : P) × (last : F) × HandsEach went old first messages mid last × Receives w mid new (Err error)
 
-module _ {T P F : Type 0} (w : Words T P) (call : Mut F (T × Unit {0}) (Unit {0})) where
+module _ {T P F : Type 0} (w : HistoryRelations T P) (call : Mut F (T × Unit {0}) (Unit {0})) where
   -- each message was handed to the call, until a receive was refused: since no sender is left where the loop answers `Ok`, and otherwise as it answers
   abbrev pub ReceivesAll : P → P → F → Result (Unit {0}) ReceiveError → Type 0
   ReceivesAll old new first answer = MatchResult answer (λ _. EndsBy w call tt old new first SendClosed) (λ error. EndsBy w call tt old new first error)
 
-module _ {T P F E : Type 0} (w : Words T P) (call : Mut F (T × Unit {0}) (Result (Unit {0}) E)) where
+module _ {T P F E : Type 0} (w : HistoryRelations T P) (call : Mut F (T × Unit {0}) (Result (Unit {0}) E)) where
   -- the call answered `Ok` of each message that was received before the last, and this error of the last
   abbrev pub BreaksOff : P → P → F → E → Type 0
   BreaksOff old new first error =

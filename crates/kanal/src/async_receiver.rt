@@ -17,7 +17,7 @@ use crate::receiver_view::ReceiverView;
 use kanal_channel::{CountedReceiver, Shared};
 use kanal_core::error::{ReceiveError, TooMany};
 use kanal_futures::{ReceiveFuture, ReceiveStream, receive_future, receive_stream};
-use kanal_state::{Caller, History, NoHistory, ReceiveSide};
+use kanal_state::{CallContext, History, NoHistory, ReceiveSide};
 use std::fmt;
 use std::ops::Deref;
 use std::sync::{Arc, Wait};
@@ -51,7 +51,7 @@ impl<T: Drop, H: History<T>> AsyncReceiver<T, H> {
     /// let other = receiver.clone_by(&rt, &mut pass)?;
     /// ```
     pub fn clone_by<R: Wait>(&self, rt: &R, pass: &mut H::Pass) -> Result<Self, TooMany>
-        ensures counted { Clones H.words pass.old pass.new Side.Rx result }
+        ensures counted { Clones H.relations pass.old pass.new Side.Rx result }
     {
         Ok(AsyncReceiver {
             handle: self.handle.one_more(rt, pass)?,
@@ -93,12 +93,12 @@ impl<T: Drop, H: History<T>> AsyncReceiver<T, H> {
     /// ```text
     /// receiver.try_recv(&rt)   answers  Ok(None)   in a new channel
     /// ```
-    pub fn try_recv<R: Caller<H::Pass>>(&self, rt: R) -> Result<Option<T>, ReceiveError>
-        ensures received { TriesToReceive H.words (R.before rt) (R.after rt) result }
+    pub fn try_recv<R: CallContext<H::Pass>>(&self, rt: R) -> Result<Option<T>, ReceiveError>
+        ensures received { TriesToReceive H.relations (R.before rt) (R.after rt) result }
     {
-        let (rt, mut pass, end) = rt.begin();
+        let (rt, mut pass, end) = rt.enter();
         let answer = self.channel().try_recv(&rt, &mut pass);
-        R::end(end, pass);
+        R::exit(end, pass);
         answer
     }
 
@@ -113,20 +113,20 @@ impl<T: Drop, H: History<T>> AsyncReceiver<T, H> {
     /// ```text
     /// receiver.drain_into(&rt, &mut messages)   answers  Ok(2)   where two messages were there
     /// ```
-    pub fn drain_into<R: Caller<H::Pass>>(
+    pub fn drain_into<R: CallContext<H::Pass>>(
         &self,
         rt: R,
         into: &mut Vec<T>,
     ) -> Result<usize, ReceiveError>
-        ensures drained { Drains H.words (R.before rt) (R.after rt) into.old.items into.new.items result }
+        ensures drained { Drains H.relations (R.before rt) (R.after rt) into.old.items into.new.items result }
         ensures refused { IfErr result (λ _. into.new.items ≡ into.old.items) }
         ensures memory { IsErrOf result ReceiveError.NoMemory
-            → HasTooLittleRoom H.words (R.after rt) (vec_len into.old) (vec_capacity into.old) }
+            → HasTooLittleRoom H.relations (R.after rt) (vec_len into.old) (vec_capacity into.old) }
         ensures no_growth { OnErr result (vec_capacity into.new ≡ vec_capacity into.old) }
     {
-        let (rt, mut pass, end) = rt.begin();
+        let (rt, mut pass, end) = rt.enter();
         let answer = self.channel().drain_into(&rt, &mut pass, into);
-        R::end(end, pass);
+        R::exit(end, pass);
         answer
     }
 
@@ -141,12 +141,12 @@ impl<T: Drop, H: History<T>> AsyncReceiver<T, H> {
     /// let other = receiver.clone(&rt)?;
     /// receiver.receiver_count(&rt)   answers  2   where it answered 1 before
     /// ```
-    pub fn clone<R: Caller<H::Pass>>(&self, rt: R) -> Result<Self, TooMany>
-        ensures counted { Clones H.words (R.before rt) (R.after rt) Side.Rx result }
+    pub fn clone<R: CallContext<H::Pass>>(&self, rt: R) -> Result<Self, TooMany>
+        ensures counted { Clones H.relations (R.before rt) (R.after rt) Side.Rx result }
     {
-        let (rt, mut pass, end) = rt.begin();
+        let (rt, mut pass, end) = rt.enter();
         let answer = self.clone_by(&rt, &mut pass);
-        R::end(end, pass);
+        R::exit(end, pass);
         answer
     }
 
@@ -160,8 +160,8 @@ impl<T: Drop, H: History<T>> AsyncReceiver<T, H> {
     /// let other = receiver.clone_sync(&rt)?;
     /// other.receiver_count(&rt)   answers  2   where it answered 1 before
     /// ```
-    pub fn clone_sync<R: Caller<H::Pass>>(&self, rt: R) -> Result<Receiver<T, H>, TooMany>
-        ensures counted { Clones H.words (R.before rt) (R.after rt) Side.Rx result }
+    pub fn clone_sync<R: CallContext<H::Pass>>(&self, rt: R) -> Result<Receiver<T, H>, TooMany>
+        ensures counted { Clones H.relations (R.before rt) (R.after rt) Side.Rx result }
     {
         let inner = self.clone(rt)?;
         Ok(inner.to_sync())
@@ -174,12 +174,12 @@ impl<T: Drop, H: History<T>> AsyncReceiver<T, H> {
     /// ```text
     /// receiver.is_terminated(&rt)   answers  false   while a message is in the buffer
     /// ```
-    pub fn is_terminated<R: Caller<H::Pass>>(&self, rt: R) -> bool
-        ensures asked { AsksForTheEnd H.words (R.before rt) (R.after rt) result }
+    pub fn is_terminated<R: CallContext<H::Pass>>(&self, rt: R) -> bool
+        ensures asked { AsksForTheEnd H.relations (R.before rt) (R.after rt) result }
     {
-        let (rt, mut pass, end) = rt.begin();
+        let (rt, mut pass, end) = rt.enter();
         let answer = self.channel().is_terminated(&rt, &mut pass);
-        R::end(end, pass);
+        R::exit(end, pass);
         answer
     }
 }
@@ -230,7 +230,7 @@ impl<T: Drop, H: History<T, Pass = ()>> AsyncReceiver<T, H> {
     /// receiver.try_recv_realtime()   answers  Ok(Some(1))   where 1 was sent
     /// ```
     pub fn try_recv_realtime(&self) -> Result<Option<T>, ReceiveError>
-        ensures received { TriesToReceiveNow H.words tt tt result }
+        ensures received { TriesToReceiveNow H.relations tt tt result }
     {
         self.channel().try_recv_realtime(&mut ())
     }

@@ -14,7 +14,7 @@ use crate::sender_view::SenderView;
 use kanal_channel::{CountedSender, Shared};
 use kanal_core::error::{SendError, TooMany};
 use kanal_futures::{SendFuture, send_future};
-use kanal_state::{Caller, History, NoHistory, SendSide};
+use kanal_state::{CallContext, History, NoHistory, SendSide};
 use std::fmt;
 use std::ops::Deref;
 use std::sync::{Arc, Wait};
@@ -48,7 +48,7 @@ impl<T: Drop, H: History<T>> AsyncSender<T, H> {
     /// let other = sender.clone_by(&rt, &mut pass)?;
     /// ```
     pub fn clone_by<R: Wait>(&self, rt: &R, pass: &mut H::Pass) -> Result<Self, TooMany>
-        ensures counted { Clones H.words pass.old pass.new Side.Tx result }
+        ensures counted { Clones H.relations pass.old pass.new Side.Tx result }
     {
         Ok(AsyncSender {
             handle: self.handle.one_more(rt, pass)?,
@@ -91,12 +91,12 @@ impl<T: Drop, H: History<T>> AsyncSender<T, H> {
     /// sender.try_send(&rt, 1)   answers  Ok(true)    in a new bounded channel for one
     /// sender.try_send(&rt, 2)   answers  Ok(false)   after that
     /// ```
-    pub fn try_send<R: Caller<H::Pass>>(&self, rt: R, message: T) -> Result<bool, SendError>
-        ensures sent { TriesToSend H.words (R.before rt) (R.after rt) message result }
+    pub fn try_send<R: CallContext<H::Pass>>(&self, rt: R, message: T) -> Result<bool, SendError>
+        ensures sent { TriesToSend H.relations (R.before rt) (R.after rt) message result }
     {
-        let (rt, mut pass, end) = rt.begin();
+        let (rt, mut pass, end) = rt.enter();
         let answer = self.channel().try_send(&rt, &mut pass, message);
-        R::end(end, pass);
+        R::exit(end, pass);
         answer
     }
 
@@ -114,19 +114,19 @@ impl<T: Drop, H: History<T>> AsyncSender<T, H> {
     /// sender.try_send_option(&rt, &mut option)   answers  Ok(false)   at capacity 0
     /// option   is  Some(1)
     /// ```
-    pub fn try_send_option<R: Caller<H::Pass>>(
+    pub fn try_send_option<R: CallContext<H::Pass>>(
         &self,
         rt: R,
         option: &mut Option<T>,
     ) -> Result<bool, SendError>
         requires { IsSome option.old }
-        ensures sends { IfSome option.old (λ m. TriesToSend H.words (R.before rt) (R.after rt) m result) }
+        ensures sends { IfSome option.old (λ m. TriesToSend H.relations (R.before rt) (R.after rt) m result) }
         ensures sent { result ≡ Ok true → option.new ≡ None }
         ensures kept { result ≢ Ok true → option.new ≡ option.old }
     {
-        let (rt, mut pass, end) = rt.begin();
+        let (rt, mut pass, end) = rt.enter();
         let answer = self.channel().try_send_option(&rt, &mut pass, option);
-        R::end(end, pass);
+        R::exit(end, pass);
         answer
     }
 
@@ -141,12 +141,12 @@ impl<T: Drop, H: History<T>> AsyncSender<T, H> {
     /// let other = sender.clone(&rt)?;
     /// sender.sender_count(&rt)   answers  2   where it answered 1 before
     /// ```
-    pub fn clone<R: Caller<H::Pass>>(&self, rt: R) -> Result<Self, TooMany>
-        ensures counted { Clones H.words (R.before rt) (R.after rt) Side.Tx result }
+    pub fn clone<R: CallContext<H::Pass>>(&self, rt: R) -> Result<Self, TooMany>
+        ensures counted { Clones H.relations (R.before rt) (R.after rt) Side.Tx result }
     {
-        let (rt, mut pass, end) = rt.begin();
+        let (rt, mut pass, end) = rt.enter();
         let answer = self.clone_by(&rt, &mut pass);
-        R::end(end, pass);
+        R::exit(end, pass);
         answer
     }
 
@@ -160,8 +160,8 @@ impl<T: Drop, H: History<T>> AsyncSender<T, H> {
     /// let other = sender.clone_sync(&rt)?;
     /// other.sender_count(&rt)   answers  2   where it answered 1 before
     /// ```
-    pub fn clone_sync<R: Caller<H::Pass>>(&self, rt: R) -> Result<Sender<T, H>, TooMany>
-        ensures counted { Clones H.words (R.before rt) (R.after rt) Side.Tx result }
+    pub fn clone_sync<R: CallContext<H::Pass>>(&self, rt: R) -> Result<Sender<T, H>, TooMany>
+        ensures counted { Clones H.relations (R.before rt) (R.after rt) Side.Tx result }
     {
         let inner = self.clone(rt)?;
         Ok(inner.to_sync())
@@ -202,7 +202,7 @@ impl<T: Drop, H: History<T, Pass = ()>> AsyncSender<T, H> {
     /// sender.try_send_realtime(1)   answers  Ok(true)   in a new bounded channel for one
     /// ```
     pub fn try_send_realtime(&self, message: T) -> Result<bool, SendError>
-        ensures sent { TriesToSendNow H.words tt tt message result }
+        ensures sent { TriesToSendNow H.relations tt tt message result }
     {
         self.channel().try_send_realtime(&mut (), message)
     }
@@ -223,7 +223,7 @@ impl<T: Drop, H: History<T, Pass = ()>> AsyncSender<T, H> {
     /// ```
     pub fn try_send_option_realtime(&self, option: &mut Option<T>) -> Result<bool, SendError>
         requires { IsSome option.old }
-        ensures sends { IfSome option.old (λ m. TriesToSendNow H.words tt tt m result) }
+        ensures sends { IfSome option.old (λ m. TriesToSendNow H.relations tt tt m result) }
         ensures sent { result ≡ Ok true → option.new ≡ None }
         ensures kept { result ≢ Ok true → option.new ≡ option.old }
     {

@@ -32,19 +32,19 @@ fn handles<T: Drop>(
 ///
 /// # Examples
 /// ```text
-/// let (sender, receiver) = over(alloc, core, history, cleanup, log)?;
+/// let (sender, receiver) = over(alloc, core, history, internal_pass, log)?;
 /// ```
 pub fn over<T: Drop, H: History<T>>(
     alloc: Global,
     core: Core<T, H>,
     history: H,
-    cleanup: H::Cleanup,
+    internal_pass: H::InternalPass,
     log: H::Log,
 ) -> Result<(AsyncSender<T, H>, AsyncReceiver<T, H>), NewError>
     requires core { H.stands history (line_of core) }
     ensures large { IsErrOf result NewError.TooLarge → ⊥ }
 {
-    let (shared, first) = Shared::with_handles(core, history, cleanup, log, alloc)?;
+    let (shared, first) = Shared::with_handles(core, history, internal_pass, log, alloc)?;
     let Ok(other) = Arc::try_clone(&shared) else {
         return Err(NewError::NoMemory);
     };

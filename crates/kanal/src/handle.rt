@@ -10,7 +10,7 @@ ghost use Rattle.kanal_state.specs.Results.{count_by, flag_by, number_by};
 use kanal_channel::Shared;
 use kanal_core::error::{CloseError, TooMany};
 use kanal_events::event::Ask;
-use kanal_state::{Caller, Counted, History, OfSide};
+use kanal_state::{CallContext, Counted, History, OfSide};
 use std::sync::{Arc, Wait};
 
 /// What the handles of a side share, for threads and for tasks: the questions, `seal` and `close`.
@@ -36,7 +36,7 @@ impl<T: Drop, H: History<T>, S: OfSide> Handle<T, H, S> {
 
     /// One more of the side, as a call of this pass.
     pub(crate) fn one_more<R: Wait>(&self, rt: &R, pass: &mut H::Pass) -> Result<Self, TooMany>
-        ensures counted { Clones H.words pass.old pass.new S.side result }
+        ensures counted { Clones H.relations pass.old pass.new S.side result }
     {
         let Ok(shared) = Arc::try_clone(&self.shared) else {
             return Err(TooMany);
@@ -46,32 +46,32 @@ impl<T: Drop, H: History<T>, S: OfSide> Handle<T, H, S> {
     }
 
     /// Asks what is answered by yes or no.
-    fn ask_flag<R: Caller<H::Pass>>(&self, rt: R, question: Ask) -> bool
-        ensures asked { Asks H.words (R.before rt) (R.after rt) S.side question flag_by result }
+    fn ask_flag<R: CallContext<H::Pass>>(&self, rt: R, question: Ask) -> bool
+        ensures asked { Asks H.relations (R.before rt) (R.after rt) S.side question flag_by result }
     {
-        let (rt, mut pass, end) = rt.begin();
+        let (rt, mut pass, end) = rt.enter();
         let answer = self.shared.ask_flag(&rt, &mut pass, S::side(), question);
-        R::end(end, pass);
+        R::exit(end, pass);
         answer
     }
 
     /// Asks how many messages there are, or may be.
-    fn ask_number<R: Caller<H::Pass>>(&self, rt: R, question: Ask) -> usize
-        ensures asked { Asks H.words (R.before rt) (R.after rt) S.side question number_by result }
+    fn ask_number<R: CallContext<H::Pass>>(&self, rt: R, question: Ask) -> usize
+        ensures asked { Asks H.relations (R.before rt) (R.after rt) S.side question number_by result }
     {
-        let (rt, mut pass, end) = rt.begin();
+        let (rt, mut pass, end) = rt.enter();
         let answer = self.shared.ask_number(&rt, &mut pass, S::side(), question);
-        R::end(end, pass);
+        R::exit(end, pass);
         answer
     }
 
     /// Asks how many handles there are.
-    fn ask_count<R: Caller<H::Pass>>(&self, rt: R, question: Ask) -> u32
-        ensures asked { Asks H.words (R.before rt) (R.after rt) S.side question count_by result }
+    fn ask_count<R: CallContext<H::Pass>>(&self, rt: R, question: Ask) -> u32
+        ensures asked { Asks H.relations (R.before rt) (R.after rt) S.side question count_by result }
     {
-        let (rt, mut pass, end) = rt.begin();
+        let (rt, mut pass, end) = rt.enter();
         let answer = self.shared.ask_count(&rt, &mut pass, S::side(), question);
-        R::end(end, pass);
+        R::exit(end, pass);
         answer
     }
 
@@ -92,8 +92,8 @@ impl<T: Drop, H: History<T>, S: OfSide> Handle<T, H, S> {
     /// ```text
     /// receiver.is_disconnected(&rt)   answers  true   after the last sender was dropped
     /// ```
-    pub fn is_disconnected<R: Caller<H::Pass>>(&self, rt: R) -> bool
-        ensures asked { Asks H.words (R.before rt) (R.after rt) S.side Ask.IsDisconnected flag_by result }
+    pub fn is_disconnected<R: CallContext<H::Pass>>(&self, rt: R) -> bool
+        ensures asked { Asks H.relations (R.before rt) (R.after rt) S.side Ask.IsDisconnected flag_by result }
     {
         self.ask_flag(rt, Ask::IsDisconnected)
     }
@@ -104,8 +104,8 @@ impl<T: Drop, H: History<T>, S: OfSide> Handle<T, H, S> {
     /// ```text
     /// handle.len(&rt)   answers  1   after one message entered a bounded channel for two
     /// ```
-    pub fn len<R: Caller<H::Pass>>(&self, rt: R) -> usize
-        ensures asked { Asks H.words (R.before rt) (R.after rt) S.side Ask.Len number_by result }
+    pub fn len<R: CallContext<H::Pass>>(&self, rt: R) -> usize
+        ensures asked { Asks H.relations (R.before rt) (R.after rt) S.side Ask.Len number_by result }
     {
         self.ask_number(rt, Ask::Len)
     }
@@ -116,8 +116,8 @@ impl<T: Drop, H: History<T>, S: OfSide> Handle<T, H, S> {
     /// ```text
     /// handle.is_empty(&rt)   answers  false   after one message entered
     /// ```
-    pub fn is_empty<R: Caller<H::Pass>>(&self, rt: R) -> bool
-        ensures asked { Asks H.words (R.before rt) (R.after rt) S.side Ask.IsEmpty flag_by result }
+    pub fn is_empty<R: CallContext<H::Pass>>(&self, rt: R) -> bool
+        ensures asked { Asks H.relations (R.before rt) (R.after rt) S.side Ask.IsEmpty flag_by result }
     {
         self.ask_flag(rt, Ask::IsEmpty)
     }
@@ -129,8 +129,8 @@ impl<T: Drop, H: History<T>, S: OfSide> Handle<T, H, S> {
     /// ```text
     /// handle.is_full(&rt)   answers  true   after one message entered a bounded channel for one
     /// ```
-    pub fn is_full<R: Caller<H::Pass>>(&self, rt: R) -> bool
-        ensures asked { Asks H.words (R.before rt) (R.after rt) S.side Ask.IsFull flag_by result }
+    pub fn is_full<R: CallContext<H::Pass>>(&self, rt: R) -> bool
+        ensures asked { Asks H.relations (R.before rt) (R.after rt) S.side Ask.IsFull flag_by result }
     {
         self.ask_flag(rt, Ask::IsFull)
     }
@@ -141,8 +141,8 @@ impl<T: Drop, H: History<T>, S: OfSide> Handle<T, H, S> {
     /// ```text
     /// handle.is_bounded(&rt)   answers  true   for a channel that `bounded` made
     /// ```
-    pub fn is_bounded<R: Caller<H::Pass>>(&self, rt: R) -> bool
-        ensures asked { Asks H.words (R.before rt) (R.after rt) S.side Ask.IsBounded flag_by result }
+    pub fn is_bounded<R: CallContext<H::Pass>>(&self, rt: R) -> bool
+        ensures asked { Asks H.relations (R.before rt) (R.after rt) S.side Ask.IsBounded flag_by result }
     {
         self.ask_flag(rt, Ask::IsBounded)
     }
@@ -154,8 +154,8 @@ impl<T: Drop, H: History<T>, S: OfSide> Handle<T, H, S> {
     /// ```text
     /// handle.capacity(&rt)   answers  2   for a bounded channel for two
     /// ```
-    pub fn capacity<R: Caller<H::Pass>>(&self, rt: R) -> usize
-        ensures asked { Asks H.words (R.before rt) (R.after rt) S.side Ask.Capacity number_by result }
+    pub fn capacity<R: CallContext<H::Pass>>(&self, rt: R) -> usize
+        ensures asked { Asks H.relations (R.before rt) (R.after rt) S.side Ask.Capacity number_by result }
     {
         self.ask_number(rt, Ask::Capacity)
     }
@@ -166,8 +166,8 @@ impl<T: Drop, H: History<T>, S: OfSide> Handle<T, H, S> {
     /// ```text
     /// handle.receiver_count(&rt)   answers  1   for a new channel
     /// ```
-    pub fn receiver_count<R: Caller<H::Pass>>(&self, rt: R) -> u32
-        ensures asked { Asks H.words (R.before rt) (R.after rt) S.side Ask.ReceiverCount count_by result }
+    pub fn receiver_count<R: CallContext<H::Pass>>(&self, rt: R) -> u32
+        ensures asked { Asks H.relations (R.before rt) (R.after rt) S.side Ask.ReceiverCount count_by result }
     {
         self.ask_count(rt, Ask::ReceiverCount)
     }
@@ -178,8 +178,8 @@ impl<T: Drop, H: History<T>, S: OfSide> Handle<T, H, S> {
     /// ```text
     /// handle.sender_count(&rt)   answers  1   for a new channel
     /// ```
-    pub fn sender_count<R: Caller<H::Pass>>(&self, rt: R) -> u32
-        ensures asked { Asks H.words (R.before rt) (R.after rt) S.side Ask.SenderCount count_by result }
+    pub fn sender_count<R: CallContext<H::Pass>>(&self, rt: R) -> u32
+        ensures asked { Asks H.relations (R.before rt) (R.after rt) S.side Ask.SenderCount count_by result }
     {
         self.ask_count(rt, Ask::SenderCount)
     }
@@ -190,8 +190,8 @@ impl<T: Drop, H: History<T>, S: OfSide> Handle<T, H, S> {
     /// ```text
     /// handle.is_closed(&rt)   answers  true   after a close
     /// ```
-    pub fn is_closed<R: Caller<H::Pass>>(&self, rt: R) -> bool
-        ensures asked { Asks H.words (R.before rt) (R.after rt) S.side Ask.IsClosed flag_by result }
+    pub fn is_closed<R: CallContext<H::Pass>>(&self, rt: R) -> bool
+        ensures asked { Asks H.relations (R.before rt) (R.after rt) S.side Ask.IsClosed flag_by result }
     {
         self.ask_flag(rt, Ask::IsClosed)
     }
@@ -210,12 +210,12 @@ impl<T: Drop, H: History<T>, S: OfSide> Handle<T, H, S> {
     /// handle.seal(&rt)   answers  Ok(())
     /// handle.seal(&rt)   answers  Err(CloseError())   after that
     /// ```
-    pub fn seal<R: Caller<H::Pass>>(&self, rt: R) -> Result<(), CloseError>
-        ensures sealed { Seals H.words (R.before rt) (R.after rt) result }
+    pub fn seal<R: CallContext<H::Pass>>(&self, rt: R) -> Result<(), CloseError>
+        ensures sealed { Seals H.relations (R.before rt) (R.after rt) result }
     {
-        let (rt, mut pass, end) = rt.begin();
+        let (rt, mut pass, end) = rt.enter();
         let answer = self.shared.seal(&rt, &mut pass);
-        R::end(end, pass);
+        R::exit(end, pass);
         answer
     }
 
@@ -230,12 +230,12 @@ impl<T: Drop, H: History<T>, S: OfSide> Handle<T, H, S> {
     /// handle.close(&rt)   answers  Ok(())
     /// handle.close(&rt)   answers  Err(CloseError())   after that
     /// ```
-    pub fn close<R: Caller<H::Pass>>(&self, rt: R) -> Result<(), CloseError>
-        ensures closed { Closes H.words (R.before rt) (R.after rt) result }
+    pub fn close<R: CallContext<H::Pass>>(&self, rt: R) -> Result<(), CloseError>
+        ensures closed { Closes H.relations (R.before rt) (R.after rt) result }
     {
-        let (rt, mut pass, end) = rt.begin();
+        let (rt, mut pass, end) = rt.enter();
         let answer = self.shared.close(&rt, &mut pass);
-        R::end(end, pass);
+        R::exit(end, pass);
         answer
     }
 }

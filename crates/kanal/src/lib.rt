@@ -43,7 +43,7 @@ pub use error::{
 pub use handle::Handle;
 pub use kanal_channel::{Clock, Shared, SystemClock, TestClock};
 pub use kanal_futures::{ReceiveFuture, ReceiveStream, SendFuture};
-pub use kanal_state::{Caller, History, NoHistory};
+pub use kanal_state::{CallContext, History, NoHistory};
 pub use messages::Messages;
 pub use receiver::Receiver;
 pub use receiver_view::ReceiverView;

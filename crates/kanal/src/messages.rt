@@ -8,7 +8,7 @@ ghost use Rattle.kanal.specs.Messages.{ReceivesAll, ReceivesNext, ReceivesUntil}
 
 use crate::async_receiver::AsyncReceiver;
 use kanal_core::error::ReceiveError;
-use kanal_state::{Caller, History, NoHistory};
+use kanal_state::{CallContext, History, NoHistory};
 use std::sync::{Forever, Wait};
 
 /// The messages of a receiver, as `Receiver::iter` and `ReceiverView::iter` answer them.
@@ -38,7 +38,7 @@ impl<'a, T: Drop, R: Wait, H: History<T>> Messages<'a, T, R, H> {
 impl<T: Drop, R: Wait, H: History<T>> Iterator for Messages<'_, T, R, H> {
     type Item = T;
 
-    ghost next_gives = { λ old item new. ReceivesNext H.words (pass_of old) (pass_of new) item };
+    ghost next_gives = { λ old item new. ReceivesNext H.relations (pass_of old) (pass_of new) item };
 
     ghost remaining = { λ messages. at_most (turns_left messages) };
 
@@ -53,18 +53,18 @@ impl<T: Drop, R: Wait, H: History<T>> Iterator for Messages<'_, T, R, H> {
 
 /// Hands each message that comes to the call, until a receive is refused; `Ok` where that is since no
 /// sender is left.
-pub(crate) fn for_each<T: Drop, H: History<T>, R: Caller<H::Pass>, F: FnMut(T)>(
+pub(crate) fn for_each<T: Drop, H: History<T>, R: CallContext<H::Pass>, F: FnMut(T)>(
     rt: R,
     receiver: &AsyncReceiver<T, H>,
     call: F,
 ) -> Result<(), ReceiveError>
     requires callable { F.IsAlwaysCallable call }
-    ensures received { ReceivesAll H.words F.FnMut (R.before rt) (R.after rt) call result }
+    ensures received { ReceivesAll H.relations F.FnMut (R.before rt) (R.after rt) call result }
     ensures ended { IsErrOf result ReceiveError.SendClosed → ⊥ }
 {
-    let (rt, mut pass, end) = rt.begin();
+    let (rt, mut pass, end) = rt.enter();
     let answer = receive_all(&rt, receiver, &mut pass, call);
-    R::end(end, pass);
+    R::exit(end, pass);
     answer
 }
 
@@ -73,16 +73,16 @@ pub(crate) fn try_for_each<
     T: Drop,
     E: Drop,
     H: History<T>,
-    R: Caller<H::Pass>,
+    R: CallContext<H::Pass>,
     F: FnMut(T) -> Result<(), E>,
 >(rt: R, receiver: &AsyncReceiver<T, H>, call: F) -> Result<Result<(), E>, ReceiveError>
     requires callable { F.IsAlwaysCallable call }
-    ensures received { ReceivesUntil H.words F.FnMut (R.before rt) (R.after rt) call result }
+    ensures received { ReceivesUntil H.relations F.FnMut (R.before rt) (R.after rt) call result }
     ensures ended { IsErrOf result ReceiveError.SendClosed → ⊥ }
 {
-    let (rt, mut pass, end) = rt.begin();
+    let (rt, mut pass, end) = rt.enter();
     let answer = receive_until(&rt, receiver, &mut pass, call);
-    R::end(end, pass);
+    R::exit(end, pass);
     answer
 }
 
@@ -94,7 +94,7 @@ fn receive_until<T: Drop, E: Drop, H: History<T>, R: Wait, F: FnMut(T) -> Result
     mut call: F,
 ) -> Result<Result<(), E>, ReceiveError>
     requires callable { F.IsAlwaysCallable call }
-    ensures received { ReceivesUntil H.words F.FnMut pass.old pass.new call result }
+    ensures received { ReceivesUntil H.relations F.FnMut pass.old pass.new call result }
     ensures ended { IsErrOf result ReceiveError.SendClosed → ⊥ }
 {
     for _ in rt.forever() {
@@ -118,7 +118,7 @@ fn receive_all<T: Drop, H: History<T>, R: Wait, F: FnMut(T)>(
     mut call: F,
 ) -> Result<(), ReceiveError>
     requires callable { F.IsAlwaysCallable call }
-    ensures received { ReceivesAll H.words F.FnMut pass.old pass.new call result }
+    ensures received { ReceivesAll H.relations F.FnMut pass.old pass.new call result }
     ensures ended { IsErrOf result ReceiveError.SendClosed → ⊥ }
 {
     for _ in rt.forever() {

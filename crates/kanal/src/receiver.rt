@@ -13,7 +13,7 @@ use crate::async_receiver::AsyncReceiver;
 use crate::messages::{Messages, for_each, try_for_each};
 use kanal_channel::Clock;
 use kanal_core::error::{ReceiveError, ReceiveErrorTimeout, TooMany};
-use kanal_state::{Caller, History, NoHistory};
+use kanal_state::{CallContext, History, NoHistory};
 use std::ops::Deref;
 use std::sync::Wait;
 use std::time::Duration;
@@ -78,8 +78,8 @@ impl<T: Drop, H: History<T>> Receiver<T, H> {
     /// receiver.recv(&rt)   answers  Ok(7)                            where 7 was sent
     /// receiver.recv(&rt)   answers  Err(ReceiveError::SendClosed)    after the last sender's drop
     /// ```
-    pub fn recv<R: Caller<H::Pass>>(&self, rt: R) -> Result<T, ReceiveError>
-        ensures received { Receives H.words (R.before rt) (R.after rt) result }
+    pub fn recv<R: CallContext<H::Pass>>(&self, rt: R) -> Result<T, ReceiveError>
+        ensures received { Receives H.relations (R.before rt) (R.after rt) result }
     {
         self.inner.as_sync().recv(rt)
     }
@@ -98,7 +98,7 @@ impl<T: Drop, H: History<T>> Receiver<T, H> {
     /// receiver.recv_timeout(&rt, Duration::from_millis(50), &SystemClock::new(&rt))
     ///     answers  Err(ReceiveErrorTimeout::Timeout)   where nothing was sent within 50 ms
     /// ```
-    pub fn recv_timeout<R: Caller<H::Pass>, C: Clock>(
+    pub fn recv_timeout<R: CallContext<H::Pass>, C: Clock>(
         &self,
         rt: R,
         duration: Duration,
@@ -106,7 +106,7 @@ impl<T: Drop, H: History<T>> Receiver<T, H> {
     ) -> Result<T, ReceiveErrorTimeout>
     where
         R::Runtime: time::Clock,
-        ensures received { ReceivesInTime H.words (R.before rt) (R.after rt) (C.answers clock.now) (as_nanos duration)
+        ensures received { ReceivesInTime H.relations (R.before rt) (R.after rt) (C.answers clock.now) (as_nanos duration)
             result }
     {
         self.inner.as_sync().recv_timeout(rt, duration, clock)
@@ -126,13 +126,13 @@ impl<T: Drop, H: History<T>> Receiver<T, H> {
     /// ```text
     /// receiver.for_each(&rt, |message| sum += message)   answers  Ok(())   after the last sender's drop
     /// ```
-    pub fn for_each<R: Caller<H::Pass>, F: FnMut(T)>(
+    pub fn for_each<R: CallContext<H::Pass>, F: FnMut(T)>(
         &self,
         rt: R,
         call: F,
     ) -> Result<(), ReceiveError>
         requires callable { F.IsAlwaysCallable call }
-        ensures received { ReceivesAll H.words F.FnMut (R.before rt) (R.after rt) call result }
+        ensures received { ReceivesAll H.relations F.FnMut (R.before rt) (R.after rt) call result }
         ensures ended { IsErrOf result ReceiveError.SendClosed → ⊥ }
     {
         for_each(rt, &self.inner, call)
@@ -152,13 +152,13 @@ impl<T: Drop, H: History<T>> Receiver<T, H> {
     /// ```text
     /// receiver.try_for_each(&rt, |line| parse(line))??   goes on until a line can't be parsed
     /// ```
-    pub fn try_for_each<E: Drop, R: Caller<H::Pass>, F: FnMut(T) -> Result<(), E>>(
+    pub fn try_for_each<E: Drop, R: CallContext<H::Pass>, F: FnMut(T) -> Result<(), E>>(
         &self,
         rt: R,
         call: F,
     ) -> Result<Result<(), E>, ReceiveError>
         requires callable { F.IsAlwaysCallable call }
-        ensures received { ReceivesUntil H.words F.FnMut (R.before rt) (R.after rt) call result }
+        ensures received { ReceivesUntil H.relations F.FnMut (R.before rt) (R.after rt) call result }
         ensures ended { IsErrOf result ReceiveError.SendClosed → ⊥ }
     {
         try_for_each(rt, &self.inner, call)
@@ -175,8 +175,8 @@ impl<T: Drop, H: History<T>> Receiver<T, H> {
     /// let other = receiver.clone(&rt)?;
     /// receiver.receiver_count(&rt)   answers  2   where it answered 1 before
     /// ```
-    pub fn clone<R: Caller<H::Pass>>(&self, rt: R) -> Result<Self, TooMany>
-        ensures counted { Clones H.words (R.before rt) (R.after rt) Side.Rx result }
+    pub fn clone<R: CallContext<H::Pass>>(&self, rt: R) -> Result<Self, TooMany>
+        ensures counted { Clones H.relations (R.before rt) (R.after rt) Side.Rx result }
     {
         self.inner.clone_sync(rt)
     }
@@ -191,8 +191,11 @@ impl<T: Drop, H: History<T>> Receiver<T, H> {
     /// let other = receiver.clone_async(&rt)?;
     /// other.receiver_count(&rt)   answers  2   where it answered 1 before
     /// ```
-    pub fn clone_async<R: Caller<H::Pass>>(&self, rt: R) -> Result<AsyncReceiver<T, H>, TooMany>
-        ensures counted { Clones H.words (R.before rt) (R.after rt) Side.Rx result }
+    pub fn clone_async<R: CallContext<H::Pass>>(
+        &self,
+        rt: R,
+    ) -> Result<AsyncReceiver<T, H>, TooMany>
+        ensures counted { Clones H.relations (R.before rt) (R.after rt) Side.Rx result }
     {
         self.inner.clone(rt)
     }

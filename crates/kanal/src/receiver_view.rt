@@ -12,7 +12,7 @@ use crate::async_receiver::AsyncReceiver;
 use crate::messages::{Messages, for_each, try_for_each};
 use kanal_channel::Clock;
 use kanal_core::error::{ReceiveError, ReceiveErrorTimeout};
-use kanal_state::{Caller, History, NoHistory};
+use kanal_state::{CallContext, History, NoHistory};
 use std::ops::Deref;
 use std::sync::Wait;
 use std::time;
@@ -41,12 +41,12 @@ impl<T: Drop, H: History<T>> ReceiverView<'_, T, H> {
     /// view.recv(&rt)   answers  Ok(7)                            where 7 was sent
     /// view.recv(&rt)   answers  Err(ReceiveError::SendClosed)    after the last sender's drop
     /// ```
-    pub fn recv<R: Caller<H::Pass>>(&self, rt: R) -> Result<T, ReceiveError>
-        ensures received { Receives H.words (R.before rt) (R.after rt) result }
+    pub fn recv<R: CallContext<H::Pass>>(&self, rt: R) -> Result<T, ReceiveError>
+        ensures received { Receives H.relations (R.before rt) (R.after rt) result }
     {
-        let (rt, mut pass, end) = rt.begin();
+        let (rt, mut pass, end) = rt.enter();
         let answer = self.receiver.channel().recv(&rt, &mut pass);
-        R::end(end, pass);
+        R::exit(end, pass);
         answer
     }
 
@@ -64,7 +64,7 @@ impl<T: Drop, H: History<T>> ReceiverView<'_, T, H> {
     /// view.recv_timeout(&rt, Duration::from_millis(50), &SystemClock::new(&rt))
     ///     answers  Err(ReceiveErrorTimeout::Timeout)   where nothing was sent within 50 ms
     /// ```
-    pub fn recv_timeout<R: Caller<H::Pass>, C: Clock>(
+    pub fn recv_timeout<R: CallContext<H::Pass>, C: Clock>(
         &self,
         rt: R,
         duration: Duration,
@@ -72,15 +72,15 @@ impl<T: Drop, H: History<T>> ReceiverView<'_, T, H> {
     ) -> Result<T, ReceiveErrorTimeout>
     where
         R::Runtime: time::Clock,
-        ensures received { ReceivesInTime H.words (R.before rt) (R.after rt) (C.answers clock.now) (as_nanos duration)
+        ensures received { ReceivesInTime H.relations (R.before rt) (R.after rt) (C.answers clock.now) (as_nanos duration)
             result }
     {
-        let (rt, mut pass, end) = rt.begin();
+        let (rt, mut pass, end) = rt.enter();
         let answer = self
             .receiver
             .channel()
             .recv_timeout(&rt, &mut pass, duration, clock);
-        R::end(end, pass);
+        R::exit(end, pass);
         answer
     }
 
@@ -98,13 +98,13 @@ impl<T: Drop, H: History<T>> ReceiverView<'_, T, H> {
     /// ```text
     /// view.for_each(&rt, |message| sum += message)   answers  Ok(())   after the last sender's drop
     /// ```
-    pub fn for_each<R: Caller<H::Pass>, F: FnMut(T)>(
+    pub fn for_each<R: CallContext<H::Pass>, F: FnMut(T)>(
         &self,
         rt: R,
         call: F,
     ) -> Result<(), ReceiveError>
         requires callable { F.IsAlwaysCallable call }
-        ensures received { ReceivesAll H.words F.FnMut (R.before rt) (R.after rt) call result }
+        ensures received { ReceivesAll H.relations F.FnMut (R.before rt) (R.after rt) call result }
         ensures ended { IsErrOf result ReceiveError.SendClosed → ⊥ }
     {
         for_each(rt, self.receiver, call)
@@ -124,13 +124,13 @@ impl<T: Drop, H: History<T>> ReceiverView<'_, T, H> {
     /// ```text
     /// view.try_for_each(&rt, |line| parse(line))??   goes on until a line can't be parsed
     /// ```
-    pub fn try_for_each<E: Drop, R: Caller<H::Pass>, F: FnMut(T) -> Result<(), E>>(
+    pub fn try_for_each<E: Drop, R: CallContext<H::Pass>, F: FnMut(T) -> Result<(), E>>(
         &self,
         rt: R,
         call: F,
     ) -> Result<Result<(), E>, ReceiveError>
         requires callable { F.IsAlwaysCallable call }
-        ensures received { ReceivesUntil H.words F.FnMut (R.before rt) (R.after rt) call result }
+        ensures received { ReceivesUntil H.relations F.FnMut (R.before rt) (R.after rt) call result }
         ensures ended { IsErrOf result ReceiveError.SendClosed → ⊥ }
     {
         try_for_each(rt, self.receiver, call)

@@ -13,7 +13,7 @@ ghost use Rattle.kanal_state.specs.Refusals.{StartedNoWait};
 use crate::async_sender::AsyncSender;
 use kanal_channel::Clock;
 use kanal_core::error::{SendError, SendErrorTimeout, TooMany};
-use kanal_state::{Caller, History, NoHistory};
+use kanal_state::{CallContext, History, NoHistory};
 use std::ops::Deref;
 use std::time::Duration;
 use std::{fmt, time};
@@ -76,8 +76,8 @@ impl<T: Drop, H: History<T>> Sender<T, H> {
     /// sender.send(&rt, 7)   answers  Ok(())                      in a channel with a place
     /// sender.send(&rt, 7)   answers  Err(SendError::Closed)      after a close
     /// ```
-    pub fn send<R: Caller<H::Pass>>(&self, rt: R, message: T) -> Result<(), SendError>
-        ensures sent { Sends H.words (R.before rt) (R.after rt) message result }
+    pub fn send<R: CallContext<H::Pass>>(&self, rt: R, message: T) -> Result<(), SendError>
+        ensures sent { Sends H.relations (R.before rt) (R.after rt) message result }
     {
         self.inner.as_sync().send(rt, message)
     }
@@ -95,7 +95,7 @@ impl<T: Drop, H: History<T>> Sender<T, H> {
     /// sender.send_timeout(&rt, 7, Duration::from_millis(50), &SystemClock::new(&rt))
     ///     answers  Err(SendErrorTimeout::Timeout)   where no place came within 50 ms
     /// ```
-    pub fn send_timeout<R: Caller<H::Pass>, C: Clock>(
+    pub fn send_timeout<R: CallContext<H::Pass>, C: Clock>(
         &self,
         rt: R,
         message: T,
@@ -104,7 +104,7 @@ impl<T: Drop, H: History<T>> Sender<T, H> {
     ) -> Result<(), SendErrorTimeout>
     where
         R::Runtime: time::Clock,
-        ensures sent { SendsInTime H.words (R.before rt) (R.after rt) (C.answers clock.now) (as_nanos duration)
+        ensures sent { SendsInTime H.relations (R.before rt) (R.after rt) (C.answers clock.now) (as_nanos duration)
             message result }
     {
         self.inner
@@ -126,7 +126,7 @@ impl<T: Drop, H: History<T>> Sender<T, H> {
     ///     answers  Err(SendErrorTimeout::Timeout)   in a full channel
     /// option   is  Some(7)
     /// ```
-    pub fn send_option_timeout<R: Caller<H::Pass>, C: Clock>(
+    pub fn send_option_timeout<R: CallContext<H::Pass>, C: Clock>(
         &self,
         rt: R,
         option: &mut Option<T>,
@@ -136,7 +136,7 @@ impl<T: Drop, H: History<T>> Sender<T, H> {
     where
         R::Runtime: time::Clock,
         requires { IsSome option.old }
-        ensures sends { IfSome option.old (λ m. SendsInTime H.words (R.before rt) (R.after rt) (C.answers clock.now)
+        ensures sends { IfSome option.old (λ m. SendsInTime H.relations (R.before rt) (R.after rt) (C.answers clock.now)
             (as_nanos duration) m result) }
         ensures sent { result ≡ Ok tt → option.new ≡ None }
         ensures kept { IfErr result (λ e. StartedNoWait e → option.new ≡ option.old) }
@@ -157,8 +157,8 @@ impl<T: Drop, H: History<T>> Sender<T, H> {
     /// let other = sender.clone(&rt)?;
     /// sender.sender_count(&rt)   answers  2   where it answered 1 before
     /// ```
-    pub fn clone<R: Caller<H::Pass>>(&self, rt: R) -> Result<Self, TooMany>
-        ensures counted { Clones H.words (R.before rt) (R.after rt) Side.Tx result }
+    pub fn clone<R: CallContext<H::Pass>>(&self, rt: R) -> Result<Self, TooMany>
+        ensures counted { Clones H.relations (R.before rt) (R.after rt) Side.Tx result }
     {
         self.inner.clone_sync(rt)
     }
@@ -173,8 +173,8 @@ impl<T: Drop, H: History<T>> Sender<T, H> {
     /// let other = sender.clone_async(&rt)?;
     /// other.sender_count(&rt)   answers  2   where it answered 1 before
     /// ```
-    pub fn clone_async<R: Caller<H::Pass>>(&self, rt: R) -> Result<AsyncSender<T, H>, TooMany>
-        ensures counted { Clones H.words (R.before rt) (R.after rt) Side.Tx result }
+    pub fn clone_async<R: CallContext<H::Pass>>(&self, rt: R) -> Result<AsyncSender<T, H>, TooMany>
+        ensures counted { Clones H.relations (R.before rt) (R.after rt) Side.Tx result }
     {
         self.inner.clone(rt)
     }

@@ -11,7 +11,7 @@ ghost use Rattle.kanal_state.specs.Refusals.{StartedNoWait};
 use crate::async_sender::AsyncSender;
 use kanal_channel::Clock;
 use kanal_core::error::{SendError, SendErrorTimeout};
-use kanal_state::{Caller, History, NoHistory};
+use kanal_state::{CallContext, History, NoHistory};
 use std::ops::Deref;
 use std::time;
 use std::time::Duration;
@@ -39,12 +39,12 @@ impl<T: Drop, H: History<T>> SenderView<'_, T, H> {
     /// view.send(&rt, 7)   answers  Ok(())                      in a channel with a place
     /// view.send(&rt, 7)   answers  Err(SendError::Closed)      after a close
     /// ```
-    pub fn send<R: Caller<H::Pass>>(&self, rt: R, message: T) -> Result<(), SendError>
-        ensures sent { Sends H.words (R.before rt) (R.after rt) message result }
+    pub fn send<R: CallContext<H::Pass>>(&self, rt: R, message: T) -> Result<(), SendError>
+        ensures sent { Sends H.relations (R.before rt) (R.after rt) message result }
     {
-        let (rt, mut pass, end) = rt.begin();
+        let (rt, mut pass, end) = rt.enter();
         let answer = self.sender.channel().send(&rt, &mut pass, message);
-        R::end(end, pass);
+        R::exit(end, pass);
         answer
     }
 
@@ -61,7 +61,7 @@ impl<T: Drop, H: History<T>> SenderView<'_, T, H> {
     /// view.send_timeout(&rt, 7, Duration::from_millis(50), &SystemClock::new(&rt))
     ///     answers  Err(SendErrorTimeout::Timeout)   where no place came within 50 ms
     /// ```
-    pub fn send_timeout<R: Caller<H::Pass>, C: Clock>(
+    pub fn send_timeout<R: CallContext<H::Pass>, C: Clock>(
         &self,
         rt: R,
         message: T,
@@ -70,15 +70,15 @@ impl<T: Drop, H: History<T>> SenderView<'_, T, H> {
     ) -> Result<(), SendErrorTimeout>
     where
         R::Runtime: time::Clock,
-        ensures sent { SendsInTime H.words (R.before rt) (R.after rt) (C.answers clock.now) (as_nanos duration)
+        ensures sent { SendsInTime H.relations (R.before rt) (R.after rt) (C.answers clock.now) (as_nanos duration)
             message result }
     {
-        let (rt, mut pass, end) = rt.begin();
+        let (rt, mut pass, end) = rt.enter();
         let answer = self
             .sender
             .channel()
             .send_timeout(&rt, &mut pass, message, duration, clock);
-        R::end(end, pass);
+        R::exit(end, pass);
         answer
     }
 
@@ -96,7 +96,7 @@ impl<T: Drop, H: History<T>> SenderView<'_, T, H> {
     ///     answers  Err(SendErrorTimeout::Timeout)   in a full channel
     /// option   is  Some(7)
     /// ```
-    pub fn send_option_timeout<R: Caller<H::Pass>, C: Clock>(
+    pub fn send_option_timeout<R: CallContext<H::Pass>, C: Clock>(
         &self,
         rt: R,
         option: &mut Option<T>,
@@ -106,17 +106,17 @@ impl<T: Drop, H: History<T>> SenderView<'_, T, H> {
     where
         R::Runtime: time::Clock,
         requires { IsSome option.old }
-        ensures sends { IfSome option.old (λ m. SendsInTime H.words (R.before rt) (R.after rt) (C.answers clock.now)
+        ensures sends { IfSome option.old (λ m. SendsInTime H.relations (R.before rt) (R.after rt) (C.answers clock.now)
             (as_nanos duration) m result) }
         ensures sent { result ≡ Ok tt → option.new ≡ None }
         ensures kept { IfErr result (λ e. StartedNoWait e → option.new ≡ option.old) }
     {
-        let (rt, mut pass, end) = rt.begin();
+        let (rt, mut pass, end) = rt.enter();
         let answer = self
             .sender
             .channel()
             .send_option_timeout(&rt, &mut pass, option, duration, clock);
-        R::end(end, pass);
+        R::exit(end, pass);
         answer
     }
 }

@@ -8,9 +8,9 @@ use Rattle.atomic_table.specs.Table.{State, step, Act, keeps, takes, gives, chai
 use Rattle.kanal_cell.specs.declared.signal.rule.Bits.{Bits}
 use Rattle.kanal_cell.specs.declared.signal.rule.Role.{Role}
 use Rattle.kanal_cell.specs.declared.signal.rule.Role.TheVariants.{Maker, WaiterToBe, SettlerToBe, Waiter, Settler}
-use Rattle.kanal_cell.specs.declared.signal.rule.View.{View}
+use Rattle.kanal_cell.specs.declared.signal.rule.CellView.{CellView}
 use Rattle.kanal_cell.specs.declared.signal.rule.Held.{Held}
-use Rattle.kanal_cell.specs.CellRule.{Slot, Seated, bits, number, fresh, stepped_to, after_settle, after_sleep, implies, is_within, word_bits, agreement, agree, Recalls, is_home, is_asleep, LiesIf, IsOutcome, IsSleeper, OutcomeLies, cell_state, IsKept, TookIf, waiter_began, settler_began, settled, slept, polled, quit, Carries}
+use Rattle.kanal_cell.specs.CellRule.{Slot, Seated, bits, number, fresh, stepped_to, after_settle, after_sleep, implies, is_within, word_bits, agreement, agree, Recalls, is_home, is_asleep, LiesIf, IsOutcome, IsSleeper, OutcomeLies, cell_state, FollowsRule, TookIf, waiter_began, settler_began, settled, slept, polled, quit, Carries}
 use Rattle.kanal_cell.proofs.CellWord.{ended_set, or_left, or_ended, or_sleeping, left_of, set_of, sleeping_unset}
 use Rattle.kanal_cell.proofs.CellBools.{and_left, and_right, both, follows, implied, bool_case, not_true, and_false, false_not, same_bool, within_all, within_trans}
 
@@ -50,45 +50,45 @@ is_new SettlerToBe = Unit {0}
 is_new _ = ⊥
 
 module _ {P : Type 0} where
-  abbrev Goal : (ℕ → ℕ) → (Seated P → ℕ → Seated P → Type 0) → State (Slot P) View → ℕ → Seated P → Type 0
-  Goal f then s id me = (w : View) × (a : Act (Slot P)) × Valid s.homes me.1 a × IsKept (stepped s 0 (f (slice_index s.words 0)) id me.1 w a) × then me (slice_index s.words 0) (w, carried_after me.1 a)
+  abbrev Goal : (ℕ → ℕ) → (Seated P → ℕ → Seated P → Type 0) → State (Slot P) CellView → ℕ → Seated P → Type 0
+  Goal f then s id me = (w : CellView) × (a : Act (Slot P)) × Valid s.homes me.1 a × FollowsRule (stepped s 0 (f (slice_index s.words 0)) id me.1 w a) × then me (slice_index s.words 0) (w, carried_after me.1 a)
 
-  abbrev Lies : View → View → maybe.Option (Slot P) → maybe.Option (Slot P) → Type 0
+  abbrev Lies : CellView → CellView → maybe.Option (Slot P) → maybe.Option (Slot P) → Type 0
   Lies w t h k = (w.role ≡ Waiter) × (agree w t ≡ true) × OutcomeLies w t t.role h × LiesIf (is_asleep w t) IsSleeper k × Recalls w t
 
-  abbrev table : View → View → maybe.Option (Slot P) → maybe.Option (Slot P) → State (Slot P) View
+  abbrev table : CellView → CellView → maybe.Option (Slot P) → maybe.Option (Slot P) → State (Slot P) CellView
   table w t h k = cell_state (number (word_bits w t)) h k (w ∷ t ∷ [])
 
   -- the second view is a settler's, new or not
-  not_waiter : (w t : View) (r : Role) (h : maybe.Option (Slot P)) → OutcomeLies w t r h → is_waiter r → ⊥
+  not_waiter : (w t : CellView) (r : Role) (h : maybe.Option (Slot P)) → OutcomeLies w t r h → is_waiter r → ⊥
   not_waiter w t Maker h o i = o
   not_waiter w t WaiterToBe h o i = o
   not_waiter w t SettlerToBe h o i = i
   not_waiter w t Waiter h o i = o
   not_waiter w t Settler h o i = i
 
-  by_waiter : (f : ℕ → ℕ) (then : Seated P → ℕ → Seated P → Type 0) (s : State (Slot P) View) (id : ℕ) (me : Seated P) → me.0.role ≡ Waiter → IsKept s → get_elem? s.views id ≡ some me.0
-      → ((w t : View) (h k : maybe.Option (Slot P)) → Lies w t h k → me.0 ≡ w → Goal f then (table w t h k) 0 (w, me.1)) → Goal f then s id me
-  by_waiter f then s id me is (inl (inl e)) at go = let at' = subst (λ (x : State (Slot P) View). get_elem? x.views id ≡ some me.0) e at in
-      absurd (subst is_maker (ap (λ (v : View). v.role) (only_first _ _ _ at').1 ∙ is) tt)
-  by_waiter f then s id me is (inl (inr e)) at go = let at' = subst (λ (x : State (Slot P) View). get_elem? x.views id ≡ some me.0) e at in
-      absurd (subst is_halved (ap (λ (v : View). v.role) (only_first _ _ _ at').1 ∙ is) tt)
-  by_waiter f then s id me is (inr r) at go = let at' = subst (λ (x : State (Slot P) View). get_elem? x.views id ≡ some me.0) r.is at in
+  by_waiter : (f : ℕ → ℕ) (then : Seated P → ℕ → Seated P → Type 0) (s : State (Slot P) CellView) (id : ℕ) (me : Seated P) → me.0.role ≡ Waiter → FollowsRule s → get_elem? s.views id ≡ some me.0
+      → ((w t : CellView) (h k : maybe.Option (Slot P)) → Lies w t h k → me.0 ≡ w → Goal f then (table w t h k) 0 (w, me.1)) → Goal f then s id me
+  by_waiter f then s id me is (inl (inl e)) at go = let at' = subst (λ (x : State (Slot P) CellView). get_elem? x.views id ≡ some me.0) e at in
+      absurd (subst is_maker (ap (λ (v : CellView). v.role) (only_first _ _ _ at').1 ∙ is) tt)
+  by_waiter f then s id me is (inl (inr e)) at go = let at' = subst (λ (x : State (Slot P) CellView). get_elem? x.views id ≡ some me.0) e at in
+      absurd (subst is_halved (ap (λ (v : CellView). v.role) (only_first _ _ _ at').1 ∙ is) tt)
+  by_waiter f then s id me is (inr r) at go = let at' = subst (λ (x : State (Slot P) CellView). get_elem? x.views id ≡ some me.0) r.is at in
       ⊎_elim
-      (λ (p : (id ≡ 0) × (r.waiter ≡ me.0)). subst (λ (x : State (Slot P) View × ℕ × View). Goal f then x.0 x.1 (x.2, me.1)) (λ i. (sym r.is i, sym p.0 i, p.1 i)) (go r.waiter r.settler r.outcome r.sleeper (r.waits, r.agreed, r.outcome_lies, r.sleeper_lies, r.recalls) (sym p.1)))
-      (λ (p : (id ≡ 1) × (r.settler ≡ me.0)). absurd (not_waiter r.waiter r.settler r.settler.role r.outcome r.outcome_lies (subst is_waiter (sym (ap (λ (v : View). v.role) p.1 ∙ is)) tt)))
+      (λ (p : (id ≡ 0) × (r.waiter ≡ me.0)). subst (λ (x : State (Slot P) CellView × ℕ × CellView). Goal f then x.0 x.1 (x.2, me.1)) (λ i. (sym r.is i, sym p.0 i, p.1 i)) (go r.waiter r.settler r.outcome r.sleeper (r.waits, r.agreed, r.outcome_lies, r.sleeper_lies, r.recalls) (sym p.1)))
+      (λ (p : (id ≡ 1) × (r.settler ≡ me.0)). absurd (not_waiter r.waiter r.settler r.settler.role r.outcome r.outcome_lies (subst is_waiter (sym (ap (λ (v : CellView). v.role) p.1 ∙ is)) tt)))
       (first_or_second r.waiter r.settler me.0 id at')
 
-  by_second : (ro : Role) → (is_maker ro → ⊥) → (is_halved ro → ⊥) → (is_waiter ro → ⊥) → (f : ℕ → ℕ) (then : Seated P → ℕ → Seated P → Type 0) (s : State (Slot P) View) (id : ℕ) (me : Seated P) → me.0.role ≡ ro → IsKept s → get_elem? s.views id ≡ some me.0
-      → ((w t : View) (h k : maybe.Option (Slot P)) → Lies w t h k → me.0 ≡ t → Goal f then (table w t h k) 1 (t, me.1)) → Goal f then s id me
-  by_second ro nm nh nw f then s id me is (inl (inl e)) at go = let at' = subst (λ (x : State (Slot P) View). get_elem? x.views id ≡ some me.0) e at in
-      absurd (nm (subst is_maker (ap (λ (v : View). v.role) (only_first _ _ _ at').1 ∙ is) tt))
-  by_second ro nm nh nw f then s id me is (inl (inr e)) at go = let at' = subst (λ (x : State (Slot P) View). get_elem? x.views id ≡ some me.0) e at in
-      absurd (nh (subst is_halved (ap (λ (v : View). v.role) (only_first _ _ _ at').1 ∙ is) tt))
-  by_second ro nm nh nw f then s id me is (inr r) at go = let at' = subst (λ (x : State (Slot P) View). get_elem? x.views id ≡ some me.0) r.is at in
+  by_second : (ro : Role) → (is_maker ro → ⊥) → (is_halved ro → ⊥) → (is_waiter ro → ⊥) → (f : ℕ → ℕ) (then : Seated P → ℕ → Seated P → Type 0) (s : State (Slot P) CellView) (id : ℕ) (me : Seated P) → me.0.role ≡ ro → FollowsRule s → get_elem? s.views id ≡ some me.0
+      → ((w t : CellView) (h k : maybe.Option (Slot P)) → Lies w t h k → me.0 ≡ t → Goal f then (table w t h k) 1 (t, me.1)) → Goal f then s id me
+  by_second ro nm nh nw f then s id me is (inl (inl e)) at go = let at' = subst (λ (x : State (Slot P) CellView). get_elem? x.views id ≡ some me.0) e at in
+      absurd (nm (subst is_maker (ap (λ (v : CellView). v.role) (only_first _ _ _ at').1 ∙ is) tt))
+  by_second ro nm nh nw f then s id me is (inl (inr e)) at go = let at' = subst (λ (x : State (Slot P) CellView). get_elem? x.views id ≡ some me.0) e at in
+      absurd (nh (subst is_halved (ap (λ (v : CellView). v.role) (only_first _ _ _ at').1 ∙ is) tt))
+  by_second ro nm nh nw f then s id me is (inr r) at go = let at' = subst (λ (x : State (Slot P) CellView). get_elem? x.views id ≡ some me.0) r.is at in
       ⊎_elim
-      (λ (p : (id ≡ 0) × (r.waiter ≡ me.0)). absurd (nw (subst is_waiter (sym r.waits ∙ (ap (λ (v : View). v.role) p.1 ∙ is)) tt)))
-      (λ (p : (id ≡ 1) × (r.settler ≡ me.0)). subst (λ (x : State (Slot P) View × ℕ × View). Goal f then x.0 x.1 (x.2, me.1)) (λ i. (sym r.is i, sym p.0 i, p.1 i)) (go r.waiter r.settler r.outcome r.sleeper (r.waits, r.agreed, r.outcome_lies, r.sleeper_lies, r.recalls) (sym p.1)))
+      (λ (p : (id ≡ 0) × (r.waiter ≡ me.0)). absurd (nw (subst is_waiter (sym r.waits ∙ (ap (λ (v : CellView). v.role) p.1 ∙ is)) tt)))
+      (λ (p : (id ≡ 1) × (r.settler ≡ me.0)). subst (λ (x : State (Slot P) CellView × ℕ × CellView). Goal f then x.0 x.1 (x.2, me.1)) (λ i. (sym r.is i, sym p.0 i, p.1 i)) (go r.waiter r.settler r.outcome r.sleeper (r.waits, r.agreed, r.outcome_lies, r.sleeper_lies, r.recalls) (sym p.1)))
       (first_or_second r.waiter r.settler me.0 id at')
 
 -- the facts about Bools, in agreement's order: slept, left, had, ended, back, found SLEEPING
@@ -105,7 +105,7 @@ had_if_ended : (a b c d e f : Bool) → agreement a b c d e f ≡ true → impli
 had_if_ended = follows agreement (λ a b c d e f. implies (c || d) d && implies d (c || d)) refl
 
 -- what the views recall after a step of the waiter's that sets these bits
-recalls_wait : (sl le : Bool) (w t : View) → Recalls w t → agree w t ≡ true → is_within (word_bits w t) (bits sl t.set.ended le) ≡ true
+recalls_wait : (sl le : Bool) (w t : CellView) → Recalls w t → agree w t ≡ true → is_within (word_bits w t) (bits sl t.set.ended le) ≡ true
     → Recalls (stepped_to w (bits sl w.set.ended le) (word_bits w t) (w.had || t.set.ended)) t
 recalls_wait sl le w t r agreed grown = record {
   back = r.back;
@@ -119,7 +119,7 @@ recalls_wait sl le w t r agreed grown = record {
 }
 
 -- and after the settler's
-recalls_settle : (w t : View) → Recalls w t → t.set.ended ≡ false → Recalls w (after_settle t (word_bits w t))
+recalls_settle : (w t : CellView) → Recalls w t → t.set.ended ≡ false → Recalls w (after_settle t (word_bits w t))
 recalls_settle w t r going = let grown : is_within (word_bits w t) (bits w.set.sleeping true w.set.left) ≡ true = within_all (word_bits w t) (bits w.set.sleeping true w.set.left) (implied w.set.sleeping w.set.sleeping (λ e. e)) (implied t.set.ended true (λ e. refl)) (implied w.set.left w.set.left (λ e. e)) in record {
   back = refl;
   had = r.had;
@@ -133,22 +133,22 @@ recalls_settle w t r going = let grown : is_within (word_bits w t) (bits w.set.s
 
 module _ {P : Type 0} where
   -- once the settler ended, its role is known
-  settled_lies : (w t : View) (r : Role) (h : maybe.Option (Slot P)) → OutcomeLies w t r h → t.set.ended ≡ true → LiesIf (is_home w t) IsOutcome h
+  settled_lies : (w t : CellView) (r : Role) (h : maybe.Option (Slot P)) → OutcomeLies w t r h → t.set.ended ≡ true → LiesIf (is_home w t) IsOutcome h
   settled_lies w t Maker h o e = absurd o
   settled_lies w t WaiterToBe h o e = absurd o
-  settled_lies w t SettlerToBe h o e = absurd (true≢false (sym e ∙ ap (λ (v : View). v.set.ended) o.1))
+  settled_lies w t SettlerToBe h o e = absurd (true≢false (sym e ∙ ap (λ (v : CellView). v.set.ended) o.1))
   settled_lies w t Waiter h o e = absurd o
   settled_lies w t Settler h o e = o
 
   -- the outcome after a step of the waiter's
-  restate : (w w' t : View) (r : Role) (h h' : maybe.Option (Slot P)) → OutcomeLies w t r h → t.set.ended ≡ true → LiesIf (is_home w' t) IsOutcome h' → OutcomeLies w' t r h'
+  restate : (w w' t : CellView) (r : Role) (h h' : maybe.Option (Slot P)) → OutcomeLies w t r h → t.set.ended ≡ true → LiesIf (is_home w' t) IsOutcome h' → OutcomeLies w' t r h'
   restate w w' t Maker h h' o e l = o
   restate w w' t WaiterToBe h h' o e l = o
-  restate w w' t SettlerToBe h h' o e l = absurd (true≢false (sym e ∙ ap (λ (v : View). v.set.ended) o.1))
+  restate w w' t SettlerToBe h h' o e l = absurd (true≢false (sym e ∙ ap (λ (v : CellView). v.set.ended) o.1))
   restate w w' t Waiter h h' o e l = o
   restate w w' t Settler h h' o e l = l
 
-  same_lies : (w w' t : View) (r : Role) (h : maybe.Option (Slot P)) → OutcomeLies w t r h → is_home w t ≡ is_home w' t → OutcomeLies w' t r h
+  same_lies : (w w' t : CellView) (r : Role) (h : maybe.Option (Slot P)) → OutcomeLies w t r h → is_home w t ≡ is_home w' t → OutcomeLies w' t r h
   same_lies w w' t Maker h o e = o
   same_lies w w' t WaiterToBe h o e = o
   same_lies w w' t SettlerToBe h o e = o
@@ -156,14 +156,14 @@ module _ {P : Type 0} where
   same_lies w w' t Settler h o e = subst (λ b. LiesIf b IsOutcome h) e o
 
   -- a waiter's step other than sleep: it sets these bits of its own, and the word becomes g of what it was
-  looks : (sl le : Bool) (g : ℕ → ℕ) (then_ : Seated P → ℕ → Seated P → Type 0) (w t : View) (h k : maybe.Option (Slot P)) → Lies w t h k → w.set.left ≡ false → (c : List (ℕ × Slot P))
+  looks : (sl le : Bool) (g : ℕ → ℕ) (then_ : Seated P → ℕ → Seated P → Type 0) (w t : CellView) (h k : maybe.Option (Slot P)) → Lies w t h k → w.set.left ≡ false → (c : List (ℕ × Slot P))
       → sl ≡ w.set.sleeping → g (number (word_bits w t)) ≡ number (bits sl t.set.ended le)
       → agreement sl le (w.had || t.set.ended) t.set.ended t.had t.found.sleeping ≡ true
       → is_within (word_bits w t) (bits sl t.set.ended le) ≡ true
       → ((d : List (ℕ × Slot P)) → TookIf (t.set.ended && not w.had) 0 IsOutcome c d → then_ (w, c) (number (word_bits w t)) (stepped_to w (bits sl w.set.ended le) (word_bits w t) (w.had || t.set.ended), d))
       → Goal g then_ (table w t h k) 0 (w, c)
   looks sl le g then_ w t h k l stays c asleep word agrees grown tells =
-      let w' : View = stepped_to w (bits sl w.set.ended le) (word_bits w t) (w.had || t.set.ended) in
+      let w' : CellView = stepped_to w (bits sl w.set.ended le) (word_bits w t) (w.had || t.set.ended) in
       let pre : agreement w.set.sleeping w.set.left w.had t.set.ended t.had t.found.sleeping ≡ true = l.1 in
       bool_case (t.set.ended && not w.had)
       (λ e. let home = found_home w.set.sleeping w.set.left w.had t.set.ended t.had t.found.sleeping (both _ _ pre (both _ _ e (false_not _ stays))) in
@@ -207,9 +207,9 @@ module _ {P : Type 0} where
       ))
 
   -- a poll
-  pub polls : (slots id : ℕ) (me : Seated P) → me.0.role ≡ Waiter → me.0.set.left ≡ false → Allows IsKept slots id me 0 (λ n. n) (polled (step slots 0 0 0 none) me)
+  pub polls : (slots id : ℕ) (me : Seated P) → me.0.role ≡ Waiter → me.0.set.left ≡ false → Allows FollowsRule slots id me 0 (λ n. n) (polled (step slots 0 0 0 none) me)
   polls slots id me is unspent s kept long at small = by_waiter (λ n. n) (polled (step slots 0 0 0 none)) s id me is kept at (λ w t h k l same.
-      let stays : w.set.left ≡ false = ap (λ (v : View). v.set.left) (sym same) ∙ unspent in
+      let stays : w.set.left ≡ false = ap (λ (v : CellView). v.set.left) (sym same) ∙ unspent in
       looks w.set.sleeping w.set.left (λ n. n) (polled (step slots 0 0 0 none)) w t h k l stays me.1 refl refl
       (poll_agrees w.set.sleeping w.set.left w.had t.set.ended t.had t.found.sleeping (both _ _ l.1 (false_not _ stays)))
       (within_all (word_bits w t) (word_bits w t) (implied w.set.sleeping w.set.sleeping (λ e. e)) (implied t.set.ended t.set.ended (λ e. e)) (implied w.set.left w.set.left (λ e. e)))
@@ -238,9 +238,9 @@ not_had = follows (λ a b c d e f. agreement a b c d e f && not d) (λ a b c d e
 
 module _ {P : Type 0} where
   -- a leave
-  pub leaves : (slots id : ℕ) (me : Seated P) → me.0.role ≡ Waiter → me.0.set.left ≡ false → Allows IsKept slots id me 0 (λ n. bit_or n 4) (quit (step slots 0 4 0 none) me)
+  pub leaves : (slots id : ℕ) (me : Seated P) → me.0.role ≡ Waiter → me.0.set.left ≡ false → Allows FollowsRule slots id me 0 (λ n. bit_or n 4) (quit (step slots 0 4 0 none) me)
   leaves slots id me is unspent s kept long here small = by_waiter (λ n. bit_or n 4) (quit (step slots 0 4 0 none)) s id me is kept here (λ w t h k l same.
-      let stays : w.set.left ≡ false = ap (λ (v : View). v.set.left) (sym same) ∙ unspent in
+      let stays : w.set.left ≡ false = ap (λ (v : CellView). v.set.left) (sym same) ∙ unspent in
       looks w.set.sleeping true (λ n. bit_or n 4) (quit (step slots 0 4 0 none)) w t h k l stays me.1 refl (or_left w.set.sleeping t.set.ended w.set.left)
       (leave_agrees w.set.sleeping w.set.left w.had t.set.ended t.had t.found.sleeping (both _ _ l.1 (false_not _ stays)))
       (within_all (word_bits w t) (bits w.set.sleeping t.set.ended true) (implied w.set.sleeping w.set.sleeping (λ e. e)) (implied t.set.ended t.set.ended (λ e. e)) (implied w.set.left true (λ e. refl)))
@@ -258,9 +258,9 @@ module _ {P : Type 0} where
   here_with : (b : Bool) (kind : Held P → Type 0) (h : maybe.Option (Slot P)) → b ≡ true → LiesIf true kind h → LiesIf b kind h
   here_with b kind h e n = subst (λ v. LiesIf v kind h) (sym e) n
 
-  sleep : (slots : ℕ) (x : Held P) → IsSleeper x → (w t : View) (h k : maybe.Option (Slot P)) → Lies w t h k → w.set.left ≡ false → w.set.sleeping ≡ false → w.had ≡ false → Goal (λ n. bit_or n 1) (slept (step slots 0 1 0 none)) (table w t h k) 0 (w, (1, Some x) ∷ [])
+  sleep : (slots : ℕ) (x : Held P) → IsSleeper x → (w t : CellView) (h k : maybe.Option (Slot P)) → Lies w t h k → w.set.left ≡ false → w.set.sleeping ≡ false → w.had ≡ false → Goal (λ n. bit_or n 1) (slept (step slots 0 1 0 none)) (table w t h k) 0 (w, (1, Some x) ∷ [])
   sleep slots x sleeper w t h k l stays up none_had =
-      let w' : View = after_sleep w (word_bits w t) in
+      let w' : CellView = after_sleep w (word_bits w t) in
       let agrees = sleep_agrees w.set.sleeping w.set.left w.had t.set.ended t.had t.found.sleeping (both _ _ l.1 (both _ _ (both _ _ (false_not _ up) (false_not _ stays)) (false_not _ none_had))) in
       let out_k : k ≡ none = lies_false _ IsSleeper k (ap (λ b. b && not t.set.ended) up) l.3 in
       let grown : is_within (word_bits w t) (bits true t.set.ended w.set.left) ≡ true = within_all (word_bits w t) (bits true t.set.ended w.set.left) (implied w.set.sleeping true (λ e. refl)) (implied t.set.ended t.set.ended (λ e. e)) (implied w.set.left w.set.left (λ e. e)) in
@@ -305,15 +305,15 @@ module _ {P : Type 0} where
         (word_bits w t, refl, refl, subst (λ b. TookIf b 0 IsOutcome (cond b ((1, Some x) ∷ []) []) []) (sym e) (refl {A = List (ℕ × Slot P)})),
       ))
 
-  end : (slots : ℕ) (x : Held P) → IsOutcome x → (w t : View) (h k : maybe.Option (Slot P)) → Lies w t h k → t.role ≡ Settler → t.set.ended ≡ false → Goal (λ n. bit_or n 2) (settled (step slots 0 2 0 none)) (table w t h k) 1 (t, (0, Some x) ∷ [])
+  end : (slots : ℕ) (x : Held P) → IsOutcome x → (w t : CellView) (h k : maybe.Option (Slot P)) → Lies w t h k → t.role ≡ Settler → t.set.ended ≡ false → Goal (λ n. bit_or n 2) (settled (step slots 0 2 0 none)) (table w t h k) 1 (t, (0, Some x) ∷ [])
   end slots x outcome w t h k l role going =
-      let t' : View = after_settle t (word_bits w t) in
+      let t' : CellView = after_settle t (word_bits w t) in
       let out_h : h ≡ none = lies_false _ IsOutcome h (ap (λ b. b && not t.had && not w.had) going) (subst (λ (r : Role). OutcomeLies w t r h) role l.2) in
       let agrees = settle_agrees w.set.sleeping w.set.left w.had t.set.ended t.had t.found.sleeping (both _ _ l.1 (false_not _ going)) in
       let unhad = not_had w.set.sleeping w.set.left w.had t.set.ended t.had t.found.sleeping (both _ _ l.1 (false_not _ going)) in
       let word = or_ended w.set.sleeping t.set.ended w.set.left in
       let silent : w.set.sleeping && false ≡ false = and_false w.set.sleeping in
-      let runs : (h' k' : maybe.Option (Slot P)) → LiesIf (not w.set.left && not w.had) IsOutcome h' → k' ≡ none → IsKept (cell_state (bit_or (number (word_bits w t)) 2) h' k' (w ∷ t' ∷ [])) = λ h' k' o e. inr record {
+      let runs : (h' k' : maybe.Option (Slot P)) → LiesIf (not w.set.left && not w.had) IsOutcome h' → k' ≡ none → FollowsRule (cell_state (bit_or (number (word_bits w t)) 2) h' k' (w ∷ t' ∷ [])) = λ h' k' o e. inr record {
         waiter = w;
         settler = t';
         outcome = h';
@@ -360,45 +360,45 @@ module _ {P : Type 0} where
 
   -- a sleep, with the sleeper in the seat's slot
   pub falls_asleep : (slots id : ℕ) (me : Seated P) (x : Held P) → IsSleeper x → me.1 ≡ (1, Some x) ∷ [] → me.0.role ≡ Waiter → me.0.set.sleeping ≡ false → me.0.set.left ≡ false → me.0.had ≡ false
-      → Allows IsKept slots id me 0 (λ n. bit_or n 1) (slept (step slots 0 1 0 none) me)
+      → Allows FollowsRule slots id me 0 (λ n. bit_or n 1) (slept (step slots 0 1 0 none) me)
   falls_asleep slots id me x sleeper carries is awake unspent empty s kept long here small = by_waiter (λ n. bit_or n 1) (slept (step slots 0 1 0 none)) s id me is kept here (λ w t h k l same.
-      let stays : w.set.left ≡ false = ap (λ (v : View). v.set.left) (sym same) ∙ unspent in
-      let up : w.set.sleeping ≡ false = ap (λ (v : View). v.set.sleeping) (sym same) ∙ awake in
-      let none_had : w.had ≡ false = ap (λ (v : View). v.had) (sym same) ∙ empty in
+      let stays : w.set.left ≡ false = ap (λ (v : CellView). v.set.left) (sym same) ∙ unspent in
+      let up : w.set.sleeping ≡ false = ap (λ (v : CellView). v.set.sleeping) (sym same) ∙ awake in
+      let none_had : w.had ≡ false = ap (λ (v : CellView). v.had) (sym same) ∙ empty in
       subst (λ (c : List (ℕ × Slot P)). Goal (λ n. bit_or n 1) (slept (step slots 0 1 0 none)) (table w t h k) 0 (w, c)) (sym carries) (sleep slots x sleeper w t h k l stays up none_had))
 
   -- a settle, with the outcome in the seat's slot
   pub settles : (slots id : ℕ) (me : Seated P) (x : Held P) → IsOutcome x → me.1 ≡ (0, Some x) ∷ [] → me.0.role ≡ Settler → me.0.set.ended ≡ false
-      → Allows IsKept slots id me 0 (λ n. bit_or n 2) (settled (step slots 0 2 0 none) me)
+      → Allows FollowsRule slots id me 0 (λ n. bit_or n 2) (settled (step slots 0 2 0 none) me)
   settles slots id me x outcome carries is unspent s kept long here small = by_second Settler (λ e. e) (λ e. e) (λ e. e) (λ n. bit_or n 2) (settled (step slots 0 2 0 none)) s id me is kept here (λ w t h k l same.
       subst (λ (c : List (ℕ × Slot P)). Goal (λ n. bit_or n 2) (settled (step slots 0 2 0 none)) (table w t h k) 1 (t, c)) (sym carries)
-      (end slots x outcome w t h k l (ap (λ (v : View). v.role) (sym same) ∙ is) (ap (λ (v : View). v.set.ended) (sym same) ∙ unspent)))
+      (end slots x outcome w t h k l (ap (λ (v : CellView). v.role) (sym same) ∙ is) (ap (λ (v : CellView). v.set.ended) (sym same) ∙ unspent)))
 
   -- the making of a cell: the waiter's slot is taken, then the view is cut, then the settler's slot is taken
-  pub halves : (slots id : ℕ) (me : Seated P) → me ≡ (fresh Maker, []) → Allows IsKept slots id me 0 (λ n. n) (waiter_began (step slots 0 0 0 none) me)
+  pub halves : (slots id : ℕ) (me : Seated P) → me ≡ (fresh Maker, []) → Allows FollowsRule slots id me 0 (λ n. n) (waiter_began (step slots 0 0 0 none) me)
   halves slots id me is s kept long here small = subst (λ (m : Seated P). Goal (λ n. n) (waiter_began (step slots 0 0 0 none)) s id m) (sym is)
       (made s id kept (subst (λ (m : Seated P). get_elem? s.views id ≡ some m.0) is here))
     where
-      made : (s : State (Slot P) View) (id : ℕ) → IsKept s → get_elem? s.views id ≡ some (fresh Maker) → Goal (λ n. n) (waiter_began (step slots 0 0 0 none)) s id (fresh Maker, [])
-      made s id (inl (inl e)) at = let p = only_first _ _ _ (subst (λ (x : State (Slot P) View). get_elem? x.views id ≡ some (fresh Maker)) e at) in
-          subst (λ (x : State (Slot P) View × ℕ). Goal (λ n. n) (waiter_began (step slots 0 0 0 none)) x.0 x.1 (fresh Maker, [])) (λ i. (sym e i, sym p.0 i))
+      made : (s : State (Slot P) CellView) (id : ℕ) → FollowsRule s → get_elem? s.views id ≡ some (fresh Maker) → Goal (λ n. n) (waiter_began (step slots 0 0 0 none)) s id (fresh Maker, [])
+      made s id (inl (inl e)) at = let p = only_first _ _ _ (subst (λ (x : State (Slot P) CellView). get_elem? x.views id ≡ some (fresh Maker)) e at) in
+          subst (λ (x : State (Slot P) CellView × ℕ). Goal (λ n. n) (waiter_began (step slots 0 0 0 none)) x.0 x.1 (fresh Maker, [])) (λ i. (sym e i, sym p.0 i))
           (fresh WaiterToBe, takes 1 None, refl, inl (inr refl), refl)
-      made s id (inl (inr e)) at = let p = only_first _ _ _ (subst (λ (x : State (Slot P) View). get_elem? x.views id ≡ some (fresh Maker)) e at) in
-          absurd (subst is_halved (ap (λ (v : View). v.role) p.1) tt)
-      made s id (inr r) at = let at' = subst (λ (x : State (Slot P) View). get_elem? x.views id ≡ some (fresh Maker)) r.is at in
+      made s id (inl (inr e)) at = let p = only_first _ _ _ (subst (λ (x : State (Slot P) CellView). get_elem? x.views id ≡ some (fresh Maker)) e at) in
+          absurd (subst is_halved (ap (λ (v : CellView). v.role) p.1) tt)
+      made s id (inr r) at = let at' = subst (λ (x : State (Slot P) CellView). get_elem? x.views id ≡ some (fresh Maker)) r.is at in
           ⊎_elim
-          (λ (p : (id ≡ 0) × (r.waiter ≡ fresh Maker)). absurd (subst is_waiter (sym r.waits ∙ ap (λ (v : View). v.role) p.1) tt))
-          (λ (p : (id ≡ 1) × (r.settler ≡ fresh Maker)). absurd (subst (λ (ro : Role). OutcomeLies r.waiter r.settler ro r.outcome) (ap (λ (v : View). v.role) p.1) r.outcome_lies))
+          (λ (p : (id ≡ 0) × (r.waiter ≡ fresh Maker)). absurd (subst is_waiter (sym r.waits ∙ ap (λ (v : CellView). v.role) p.1) tt))
+          (λ (p : (id ≡ 1) × (r.settler ≡ fresh Maker)). absurd (subst (λ (ro : Role). OutcomeLies r.waiter r.settler ro r.outcome) (ap (λ (v : CellView). v.role) p.1) r.outcome_lies))
           (first_or_second r.waiter r.settler (fresh Maker) id at')
 
-  pub begins : (slots id : ℕ) (me : Seated P) → me ≡ (fresh SettlerToBe, []) → Allows IsKept slots id me 0 (λ n. n) (settler_began (step slots 0 0 0 none) me)
+  pub begins : (slots id : ℕ) (me : Seated P) → me ≡ (fresh SettlerToBe, []) → Allows FollowsRule slots id me 0 (λ n. n) (settler_began (step slots 0 0 0 none) me)
   begins slots id me is s kept long here small = by_second SettlerToBe (λ e. e) (λ e. e) (λ e. e) (λ n. n) (settler_began (step slots 0 0 0 none)) s id me (ap (λ (m : Seated P). m.0.role) is) kept here (λ w t h k l same.
       let is_new_ : t ≡ fresh SettlerToBe = sym same ∙ ap (λ (m : Seated P). m.0) is in
-      let at_home : h ≡ some None = (subst (λ (v : View). OutcomeLies w v v.role h) is_new_ l.2).0 in
-      let agrees : agree w (fresh SettlerToBe) ≡ true = subst (λ (v : View). agree w v ≡ true) is_new_ l.1 in
-      let recalled : Recalls w (fresh SettlerToBe) = subst (λ (v : View). Recalls w v) is_new_ l.4 in
-      let asleep : LiesIf (is_asleep w (fresh SettlerToBe)) IsSleeper k = subst (λ (v : View). LiesIf (is_asleep w v) IsSleeper k) is_new_ l.3 in
-      subst (λ (x : View × List (ℕ × Slot P)). Goal (λ n. n) (settler_began (step slots 0 0 0 none)) (table w x.0 h k) 1 (x.0, x.1)) (λ i. (sym is_new_ i, (sym is i).1)) (
+      let at_home : h ≡ some None = (subst (λ (v : CellView). OutcomeLies w v v.role h) is_new_ l.2).0 in
+      let agrees : agree w (fresh SettlerToBe) ≡ true = subst (λ (v : CellView). agree w v ≡ true) is_new_ l.1 in
+      let recalled : Recalls w (fresh SettlerToBe) = subst (λ (v : CellView). Recalls w v) is_new_ l.4 in
+      let asleep : LiesIf (is_asleep w (fresh SettlerToBe)) IsSleeper k = subst (λ (v : CellView). LiesIf (is_asleep w v) IsSleeper k) is_new_ l.3 in
+      subst (λ (x : CellView × List (ℕ × Slot P)). Goal (λ n. n) (settler_began (step slots 0 0 0 none)) (table w x.0 h k) 1 (x.0, x.1)) (λ i. (sym is_new_ i, (sym is i).1)) (
         fresh Settler,
         takes 0 None,
         ap some at_home,

@@ -1,7 +1,7 @@
 -- What the second comer holds right after its step.
 use Rattle.std.proofs.Common.{◌≡◌, ℕ, Bool, true, false, not, ◌&&◌, cond, ◌⊎◌, inl, inr, List, [], ◌∷◌, sym, ap, ◌∙◌, subst, Some}
 use Rattle.atomic_table.specs.Table.{rest}
-use Rattle.kanal_cell.specs.declared.signal.rule.View.{View}
+use Rattle.kanal_cell.specs.declared.signal.rule.CellView.{CellView}
 use Rattle.kanal_cell.specs.declared.signal.rule.Held.{Held}
 use Rattle.kanal_cell.specs.CellRule.{Slot, IsOutcome, IsSleeper, TookIf}
 use Rattle.kanal_cell.specs.CellRunningLaw.{SecondHolds}
@@ -17,8 +17,8 @@ module _ {P : Type 0} where
 
   pub second_holds : SecondHolds P
   second_holds = record {
-    settle_sleeper = λ st m r n p e. took_outcome 1 IsSleeper p.0.sleeping (cond p.0.left m.1 (rest m.1)) n.1 (sym (ap (λ (v : View). v.found.sleeping) p.2) ∙ e) p.3;
-    settle_outcome = λ st m r n x p e put. below_sleeper x p.0.sleeping p.0.left m.1 n.1 (sym (ap (λ (v : View). v.found.left) p.2) ∙ e) put p.3;
-    sleep_outcome = λ st m r n p e. took_outcome 0 IsOutcome p.0.ended (cond p.0.ended m.1 (rest m.1)) n.1 (sym (ap (λ (v : View). v.found.ended) p.2) ∙ e) p.3;
-    leave_outcome = λ st m r n p e h. took_outcome 0 IsOutcome (p.0.ended && not m.0.had) m.1 n.1 (both p.0.ended (not m.0.had) (sym (ap (λ (v : View). v.found.ended) p.2) ∙ e) (false_not m.0.had h)) p.3;
+    settle_sleeper = λ st m r n p e. took_outcome 1 IsSleeper p.0.sleeping (cond p.0.left m.1 (rest m.1)) n.1 (sym (ap (λ (v : CellView). v.found.sleeping) p.2) ∙ e) p.3;
+    settle_outcome = λ st m r n x p e put. below_sleeper x p.0.sleeping p.0.left m.1 n.1 (sym (ap (λ (v : CellView). v.found.left) p.2) ∙ e) put p.3;
+    sleep_outcome = λ st m r n p e. took_outcome 0 IsOutcome p.0.ended (cond p.0.ended m.1 (rest m.1)) n.1 (sym (ap (λ (v : CellView). v.found.ended) p.2) ∙ e) p.3;
+    leave_outcome = λ st m r n p e h. took_outcome 0 IsOutcome (p.0.ended && not m.0.had) m.1 n.1 (both p.0.ended (not m.0.had) (sym (ap (λ (v : CellView). v.found.ended) p.2) ∙ e) (false_not m.0.had h)) p.3;
   }

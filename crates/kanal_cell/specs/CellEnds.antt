@@ -3,17 +3,17 @@ use Rattle.std.specs.Prelude.{◌≡◌, true, false, Option}
 use Rattle.atomic_table.specs.Seated.{TableId}
 use Rattle.futures.specs.declared.task.waker.Waker.{Waker}
 use Rattle.kanal_cell.specs.declared.signal.rule.Bits.{Bits}
-use Rattle.kanal_cell.specs.declared.signal.rule.View.{View}
+use Rattle.kanal_cell.specs.declared.signal.rule.CellView.{CellView}
 use Rattle.kanal_cell.specs.declared.signal.WaitEnd.{WaitEnd}
 use Rattle.kanal_cell.specs.declared.signal.SettleEnd.{SettleEnd}
-use Rattle.kanal_cell.specs.declared.signal.settlement.Settlement.{Settlement}
+use Rattle.kanal_cell.specs.declared.signal.settlement.SettleProof.{SettleProof}
 
 -- the end goes on as this step does where it finds what it found
-abbrev pub GoesOn : (View → Bits → View) → View → View → Type 0
+abbrev pub GoesOn : (CellView → Bits → CellView) → CellView → CellView → Type 0
 GoesOn after old new = new ≡ after old new.found
 
 -- the step found the outcome there, which the waiter had not taken before
-abbrev pub FindsOutcome : View → View → Type 0
+abbrev pub FindsOutcome : CellView → CellView → Type 0
 FindsOutcome old new = (new.found.ended ≡ true) × (old.had ≡ false)
 
 -- the name of a cell
@@ -30,11 +30,11 @@ module _ {P : Type 0} where
   settle_cell e = e.seat.table_id
 
   -- what the waiter knows of its own steps
-  abbrev pub wait_view : WaitEnd P → View
+  abbrev pub wait_view : WaitEnd P → CellView
   wait_view e = e.seat.me.0
 
   -- what the settler knows of its own steps
-  abbrev pub settle_view : SettleEnd P → View
+  abbrev pub settle_view : SettleEnd P → CellView
   settle_view e = e.seat.me.0
 
   -- the waker that a settle will wake
@@ -50,5 +50,5 @@ module _ {P : Type 0} where
   StaysAtCell old new = settle_cell new ≡ settle_cell old
 
   -- the cell of this settler was settled with this outcome
-  abbrev pub HasSettled : Settlement P → SettleEnd P → P → Type 0
+  abbrev pub HasSettled : SettleProof P → SettleEnd P → P → Type 0
   HasSettled shown end outcome = (settle_cell shown.end.value ≡ settle_cell end) × (shown.outcome.value ≡ outcome)

@@ -7,7 +7,7 @@ use Rattle.atomic_table.specs.Table.{State, Me, Step, rest}
 use Rattle.kanal_cell.specs.declared.signal.rule.Bits.{Bits}
 use Rattle.kanal_cell.specs.declared.signal.rule.Role.{Role}
 use Rattle.kanal_cell.specs.declared.signal.rule.Role.TheVariants.{Maker, WaiterToBe, SettlerToBe, Waiter, Settler}
-use Rattle.kanal_cell.specs.declared.signal.rule.View.{View}
+use Rattle.kanal_cell.specs.declared.signal.rule.CellView.{CellView}
 use Rattle.kanal_cell.specs.declared.signal.rule.Held.{Held}
 use Rattle.kanal_cell.specs.declared.signal.rule.Held.TheVariants.{Outcome, Sleeper}
 
@@ -29,41 +29,41 @@ abbrev pub is_within : Bits → Bits → Bool
 is_within f g = implies f.sleeping g.sleeping && implies f.ended g.ended && implies f.left g.left
 
 -- the view of an end that has made no step
-abbrev pub fresh : Role → View
+abbrev pub fresh : Role → CellView
 fresh r = record { role = r; steps = 0; set = no_bits; found = no_bits; had = false }
 
 -- the view one step on
-abbrev pub stepped_to : View → Bits → Bits → Bool → View
+abbrev pub stepped_to : CellView → Bits → Bits → Bool → CellView
 stepped_to v set found had = record { role = v.role; steps = v.steps + 1; set = set; found = found; had = had }
 
 -- a settle that found these bits sets ENDED, and has the outcome back if LEFT was there
-abbrev pub after_settle : View → Bits → View
+abbrev pub after_settle : CellView → Bits → CellView
 after_settle v f = stepped_to v (bits v.set.sleeping true v.set.left) f f.left
 
 -- a sleep sets SLEEPING, and the waiter has the outcome if ENDED was there
-abbrev pub after_sleep : View → Bits → View
+abbrev pub after_sleep : CellView → Bits → CellView
 after_sleep v f = stepped_to v (bits true v.set.ended v.set.left) f (v.had || f.ended)
 
 -- a poll sets nothing
-abbrev pub after_poll : View → Bits → View
+abbrev pub after_poll : CellView → Bits → CellView
 after_poll v f = stepped_to v v.set f (v.had || f.ended)
 
 -- a leave sets LEFT
-abbrev pub after_leave : View → Bits → View
+abbrev pub after_leave : CellView → Bits → CellView
 after_leave v f = stepped_to v (bits v.set.sleeping v.set.ended true) f (v.had || f.ended)
 
 -- the caller's conditions: the end is unspent, and a sleeper is registered once and before any outcome
-abbrev pub HasNotLeft : View → Type 0
+abbrev pub HasNotLeft : CellView → Type 0
 HasNotLeft v = v.set.left ≡ false
 
-abbrev pub HasNotSettled : View → Type 0
+abbrev pub HasNotSettled : CellView → Type 0
 HasNotSettled v = v.set.ended ≡ false
 
-abbrev pub MaySleep : View → Type 0
+abbrev pub MaySleep : CellView → Type 0
 MaySleep v = HasNotLeft v × (v.set.sleeping ≡ false) × (v.had ≡ false)
 
 -- the bits of the word, by the views of the waiter and the settler: each bit is set by the end that it belongs to
-abbrev pub word_bits : View → View → Bits
+abbrev pub word_bits : CellView → CellView → Bits
 word_bits w t = bits w.set.sleeping t.set.ended w.set.left
 
 -- What the views of the two ends say together.
@@ -78,11 +78,11 @@ agreement slept left had ended back found_sleeping =
     && implies (ended && not found_sleeping && slept) had
     && implies (ended && found_sleeping) slept
 
-abbrev pub agree : View → View → Bool
+abbrev pub agree : CellView → CellView → Bool
 agree w t = agreement w.set.sleeping w.set.left w.had t.set.ended t.had t.found.sleeping
 
 -- What the views say of steps that were made: the waiter w and the settler t.
-pub record Recalls (w t : View) : Type 0 where
+pub record Recalls (w t : CellView) : Type 0 where
   -- the settler has the outcome back exactly if it ended and found LEFT
   pub back : t.had ≡ t.set.ended && t.found.left
   -- the waiter had the outcome exactly if its last step found ENDED
@@ -99,11 +99,11 @@ pub record Recalls (w t : View) : Type 0 where
   pub settler_new : t.set.ended ≡ false → t.found ≡ no_bits
 
 -- the outcome is in the cell: it ended, and neither end has it
-abbrev pub is_home : View → View → Bool
+abbrev pub is_home : CellView → CellView → Bool
 is_home w t = t.set.ended && not t.had && not w.had
 
 -- the sleeper is in the cell
-abbrev pub is_asleep : View → View → Bool
+abbrev pub is_asleep : CellView → CellView → Bool
 is_asleep w t = w.set.sleeping && not t.set.ended
 
 abbrev pub Slot : Type 0 → Type 0
@@ -111,7 +111,7 @@ Slot P = Option (Held P)
 
 -- a view, and the slots that its end is lent
 abbrev pub Seated : Type 0 → Type 0
-Seated P = Me (Slot P) View
+Seated P = Me (Slot P) CellView
 
 module _ {P : Type 0} where
   -- the slot is at home with something of this kind if the test holds, else it is lent out
@@ -128,23 +128,23 @@ module _ {P : Type 0} where
   IsSleeper (Sleeper u) = Unit {0}
 
   -- the outcome's slot: with the settler until it ends, then at home until an end takes it
-  abbrev pub OutcomeLies : View → View → Role → maybe.Option (Slot P) → Type 0
+  abbrev pub OutcomeLies : CellView → CellView → Role → maybe.Option (Slot P) → Type 0
   OutcomeLies w t SettlerToBe h = (h ≡ some None) × (t ≡ fresh SettlerToBe)
   OutcomeLies w t Settler h = LiesIf (is_home w t) IsOutcome h
   OutcomeLies w t role h = ⊥
 
   -- a cell with this word, these two slots and these views
-  abbrev pub cell_state : ℕ → maybe.Option (Slot P) → maybe.Option (Slot P) → List View → State (Slot P) View
+  abbrev pub cell_state : ℕ → maybe.Option (Slot P) → maybe.Option (Slot P) → List CellView → State (Slot P) CellView
   cell_state n h k vs = record { words = n ∷ []; homes = h ∷ k ∷ []; views = vs }
 
   -- while the cell is made, there is one seat, and the word is 0
-  abbrev pub IsMade : State (Slot P) View → Type 0
-  IsMade s = (s ≡ cell_state 0 (some None) (some None) (fresh Maker ∷ [])) ⊎ (s ≡ cell_state 0 (some None) none (fresh WaiterToBe ∷ []))
+  abbrev pub IsBeingMade : State (Slot P) CellView → Type 0
+  IsBeingMade s = (s ≡ cell_state 0 (some None) (some None) (fresh Maker ∷ [])) ⊎ (s ≡ cell_state 0 (some None) none (fresh WaiterToBe ∷ []))
 
   -- the cell has its two ends
-  pub record Runs (s : State (Slot P) View) : Type 0 where
-    pub waiter : View
-    pub settler : View
+  pub record Runs (s : State (Slot P) CellView) : Type 0 where
+    pub waiter : CellView
+    pub settler : CellView
     pub outcome : maybe.Option (Slot P)
     pub sleeper : maybe.Option (Slot P)
     pub is : s ≡ cell_state (number (word_bits waiter settler)) outcome sleeper (waiter ∷ settler ∷ [])
@@ -155,8 +155,8 @@ module _ {P : Type 0} where
     pub recalls : Recalls waiter settler
 
   -- the rule of the cell
-  abbrev pub IsKept : State (Slot P) View → Type 0
-  IsKept s = IsMade s ⊎ Runs s
+  abbrev pub FollowsRule : State (Slot P) CellView → Type 0
+  FollowsRule s = IsBeingMade s ⊎ Runs s
 
   -- the making of a cell: the waiter is lent the sleeper's slot, and the settler the outcome's
   abbrev pub waiter_began : Step (Slot P) → Seated P → ℕ → Seated P → Type 0
@@ -192,9 +192,9 @@ module _ {P : Type 0} where
   Carries k kind c = (x : Held P) × kind x × (c ≡ (k, Some x) ∷ rest c)
 
   -- the waiter has the sleeper's slot, empty, until it sleeps or has the outcome
-  abbrev pub IsWaiter : View → List (ℕ × Slot P) → Type 0
+  abbrev pub IsWaiter : CellView → List (ℕ × Slot P) → Type 0
   IsWaiter v c = (v.role ≡ Waiter) × (v.set.sleeping || v.had ≡ false → c ≡ (1, None) ∷ [])
 
   -- the settler has the outcome's slot, empty, until it settles
-  abbrev pub IsSettler : View → List (ℕ × Slot P) → Type 0
+  abbrev pub IsSettler : CellView → List (ℕ × Slot P) → Type 0
   IsSettler v c = (v.role ≡ Settler) × (v.set.ended ≡ false → c ≡ (0, None) ∷ [])

@@ -6,24 +6,24 @@ use Rattle.atomic_table.specs.Table.{State, Step}
 use Rattle.kanal_cell.specs.declared.signal.steps.Owner.{Owner}
 use Rattle.kanal_cell.specs.declared.signal.steps.Owner.TheVariants.{Nowhere, Home, Waiter, Settler}
 use Rattle.kanal_cell.specs.declared.signal.rule.Bits.{Bits}
-use Rattle.kanal_cell.specs.declared.signal.rule.View.{View}
+use Rattle.kanal_cell.specs.declared.signal.rule.CellView.{CellView}
 use Rattle.kanal_cell.specs.declared.signal.rule.Held.{Held}
 use Rattle.kanal_cell.specs.CellRule.{Slot, Seated, Runs, is_within, number, word_bits, IsOutcome, IsSleeper, Carries, settled, slept, quit, after_settle, after_sleep, after_poll, after_leave, HasNotLeft, HasNotSettled}
 
 -- who has the outcome, by the two views
-abbrev pub owner_now : View → View → Owner
+abbrev pub owner_now : CellView → CellView → Owner
 owner_now w t = if not t.set.ended then Nowhere else if t.had then Settler else if w.had then Waiter else Home
 
 -- what each step keeps of its end's view v, whatever bits f it found
 pub record StepLaw : Type 0 where
   -- a bit that an end set stays set
-  pub settle_keeps : (v : View) (f : Bits) → is_within v.set (after_settle v f).set ≡ true
-  pub sleep_keeps : (v : View) (f : Bits) → is_within v.set (after_sleep v f).set ≡ true
-  pub poll_keeps : (v : View) (f : Bits) → is_within v.set (after_poll v f).set ≡ true
-  pub leave_keeps : (v : View) (f : Bits) → is_within v.set (after_leave v f).set ≡ true
+  pub settle_keeps : (v : CellView) (f : Bits) → is_within v.set (after_settle v f).set ≡ true
+  pub sleep_keeps : (v : CellView) (f : Bits) → is_within v.set (after_sleep v f).set ≡ true
+  pub poll_keeps : (v : CellView) (f : Bits) → is_within v.set (after_poll v f).set ≡ true
+  pub leave_keeps : (v : CellView) (f : Bits) → is_within v.set (after_leave v f).set ≡ true
   -- a settle and a leave spend their end, so each is made at most once
-  pub settles_once : (v : View) (f : Bits) → HasNotSettled (after_settle v f) → ⊥
-  pub leaves_once : (v : View) (f : Bits) → HasNotLeft (after_leave v f) → ⊥
+  pub settles_once : (v : CellView) (f : Bits) → HasNotSettled (after_settle v f) → ⊥
+  pub leaves_once : (v : CellView) (f : Bits) → HasNotLeft (after_leave v f) → ⊥
 
 module _ {P : Type 0} where
   -- something of this kind lies in the slot at home
@@ -35,14 +35,14 @@ module _ {P : Type 0} where
   LacksIn kind h = LiesIn kind h → ⊥
 
   -- the outcome is with the owner and with nobody else
-  abbrev pub OwnedBy : View → View → maybe.Option (Slot P) → Owner → Type 0
+  abbrev pub OwnedBy : CellView → CellView → maybe.Option (Slot P) → Owner → Type 0
   OwnedBy w t h Nowhere = (w.had ≡ false) × (t.had ≡ false) × LacksIn IsOutcome h
   OwnedBy w t h Home = (w.had ≡ false) × (t.had ≡ false) × LiesIn IsOutcome h
   OwnedBy w t h Waiter = (w.had ≡ true) × (t.had ≡ false) × LacksIn IsOutcome h
   OwnedBy w t h Settler = (w.had ≡ false) × (t.had ≡ true) × LacksIn IsOutcome h
 
   -- the law, of the cell in the state s
-  pub record RunningLaw (s : State (Slot P) View) (r : Runs s) : Type 0 where
+  pub record RunningLaw (s : State (Slot P) CellView) (r : Runs s) : Type 0 where
     -- the one word and the two slots of the cell
     pub word : s.words ≡ number (word_bits r.waiter r.settler) ∷ []
     pub slots : s.homes ≡ r.outcome ∷ r.sleeper ∷ []

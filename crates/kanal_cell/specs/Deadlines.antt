@@ -4,8 +4,8 @@ use Rattle.kanal_cell.specs.declared.backoff.Looked.{Looked}
 use Rattle.kanal_cell.specs.declared.backoff.Looked.TheVariants.{Late, Early, Outcome}
 
 -- the clock has answered a moment that is not before the deadline
-abbrev pub HasCome : (ℕ → Type 0) → ℕ → Type 0
-HasCome answered deadline = (moment : ℕ) × answered moment × (deadline ≤ moment)
+abbrev pub DeadlineReached : (ℕ → Type 0) → ℕ → Type 0
+DeadlineReached answered deadline = (moment : ℕ) × answered moment × (deadline ≤ moment)
 
 -- who looked is late by a moment that was answered, and that is not before the deadline
 abbrev pub LooksBy : {P : Type 0} → (ℕ → Type 0) → ℕ → Looked P → Type 0

@@ -6,15 +6,15 @@ ghost use Rattle.std.specs.Prelude.{◌≡◌, ◌∷◌};
 ghost use Rattle.atomic_table.specs.Table.{rest};
 ghost use Rattle.kanal_cell.specs.CellRule.{Carries, IsOutcome, IsSleeper};
 
-use crate::signal::{Held, SignalRule, Sleeper, View};
+use crate::signal::{CellView, Held, SignalRule, Sleeper};
 use atomic_table::{Seat, Shared};
 
-pub(crate) type Slots<P> = Shared<Option<Held<P>>, View, (), SignalRule>;
+pub(crate) type SharedSlot<P> = Shared<Option<Held<P>>, CellView, (), SignalRule>;
 
-type Place<P> = Seat<Option<Held<P>>, View>;
+type Place<P> = Seat<Option<Held<P>>, CellView>;
 
 /// Puts the outcome into its slot, which is lent and empty.
-pub(crate) fn put_outcome<P: Drop>(cell: &Slots<P>, seat: &mut Place<P>, outcome: P)
+pub(crate) fn put_outcome<P: Drop>(cell: &SharedSlot<P>, seat: &mut Place<P>, outcome: P)
     requires table { seat.old.table_id ≡ cell.now.table_id }
     requires empty { seat.old.me.1 ≡ (0, None) ∷ rest seat.old.me.1 }
     ensures table { (seat.new.table_id ≡ seat.old.table_id) × (seat.new.id ≡ seat.old.id) }
@@ -27,7 +27,7 @@ pub(crate) fn put_outcome<P: Drop>(cell: &Slots<P>, seat: &mut Place<P>, outcome
 }
 
 /// Takes the outcome out of its slot, which is lent and holds it.
-pub(crate) fn take_outcome<P: Drop>(cell: &Slots<P>, seat: &mut Place<P>) -> P
+pub(crate) fn take_outcome<P: Drop>(cell: &SharedSlot<P>, seat: &mut Place<P>) -> P
     requires table { seat.old.table_id ≡ cell.now.table_id }
     requires full { Carries 0 IsOutcome seat.old.me.1 }
     ensures table { (seat.new.table_id ≡ seat.old.table_id) × (seat.new.id ≡ seat.old.id) }
@@ -41,7 +41,7 @@ pub(crate) fn take_outcome<P: Drop>(cell: &Slots<P>, seat: &mut Place<P>) -> P
 }
 
 /// Puts the sleeper into its slot, which is lent and empty.
-pub(crate) fn put_sleeper<P: Drop>(cell: &Slots<P>, seat: &mut Place<P>, sleeper: Sleeper)
+pub(crate) fn put_sleeper<P: Drop>(cell: &SharedSlot<P>, seat: &mut Place<P>, sleeper: Sleeper)
     requires table { seat.old.table_id ≡ cell.now.table_id }
     requires empty { seat.old.me.1 ≡ (1, None) ∷ rest seat.old.me.1 }
     ensures table { (seat.new.table_id ≡ seat.old.table_id) × (seat.new.id ≡ seat.old.id) }
@@ -54,7 +54,7 @@ pub(crate) fn put_sleeper<P: Drop>(cell: &Slots<P>, seat: &mut Place<P>, sleeper
 }
 
 /// Takes the sleeper out of its slot, which is lent and holds it.
-pub(crate) fn take_sleeper<P: Drop>(cell: &Slots<P>, seat: &mut Place<P>) -> Sleeper
+pub(crate) fn take_sleeper<P: Drop>(cell: &SharedSlot<P>, seat: &mut Place<P>) -> Sleeper
     requires table { seat.old.table_id ≡ cell.now.table_id }
     requires full { Carries 1 IsSleeper seat.old.me.1 }
     ensures table { (seat.new.table_id ≡ seat.old.table_id) × (seat.new.id ≡ seat.old.id) }

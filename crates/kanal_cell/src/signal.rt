@@ -28,15 +28,15 @@ mod waking;
 
 pub use calls::new;
 pub use law::{cell_law, signal_law};
-pub use rule::{Bits, Held, Role, Signal, SignalRule, Sleeper, View};
-pub use settlement::Settlement;
+pub use rule::{Bits, CellView, Held, Role, Signal, SignalRule, Sleeper};
+pub use settlement::SettleProof;
 pub use steps::{CellCore, CellReply, CellReport, CellStep, Owner, cell_run};
 
 /// The end that waits for the outcome. Once it has left it may not be used any more.
 #[derive(Drop)]
 pub struct WaitEnd<P> {
     signal: Arc<Signal<P>, Global>,
-    seat: Seat<Option<Held<P>>, View>,
+    seat: Seat<Option<Held<P>>, CellView>,
     had: bool,
     ghost sized: { ((arc_value signal).table.shared.table_id.words ≡ 1) × ((arc_value signal).table.shared.table_id.slots ≡ 2) },
     ghost fits: { seat.table_id ≡ (arc_value signal).table.shared.table_id },
@@ -47,7 +47,7 @@ pub struct WaitEnd<P> {
 #[derive(Drop)]
 pub struct SettleEnd<P> {
     signal: Arc<Signal<P>, Global>,
-    seat: Seat<Option<Held<P>>, View>,
+    seat: Seat<Option<Held<P>>, CellView>,
     waker: Option<Waker>,
     ghost sized: { ((arc_value signal).table.shared.table_id.words ≡ 1) × ((arc_value signal).table.shared.table_id.slots ≡ 2) },
     ghost fits: { seat.table_id ≡ (arc_value signal).table.shared.table_id },

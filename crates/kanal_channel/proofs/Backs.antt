@@ -13,7 +13,7 @@ use Rattle.kanal_core.specs.declared.error.SendError.{SendError}
 use Rattle.kanal_state.specs.Handles.{TriesToSend}
 use Rattle.kanal_state.specs.Makes.{IsAnswered}
 use Rattle.kanal_state.specs.Results.{back_by, entered_by}
-use Rattle.kanal_state.specs.Words.{Words}
+use Rattle.kanal_state.specs.HistoryRelations.{HistoryRelations}
 use Rattle.kanal_state.proofs.Settling.{comes_replied}
 
 module _ {T : Type 0} where
@@ -43,7 +43,7 @@ module _ {T : Type 0} where
         ]
       ]
 
-  module _ {P : Type 0} (w : Words T P) (old new : P) (m : T) (reply : Reply T) (answered : IsAnswered w old new (TrySend m) reply) where
+  module _ {P : Type 0} (w : HistoryRelations T P) (old new : P) (m : T) (reply : Reply T) (answered : IsAnswered w old new (TrySend m) reply) where
     backs : Backs m reply
     backs =
         elim answered [

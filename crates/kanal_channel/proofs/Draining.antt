@@ -12,9 +12,9 @@ use Rattle.kanal_events.specs.declared.step_result.Leaving.TheVariants.{One, All
 use Rattle.kanal_events.specs.StepResult.{drained_of, drained_of_left, is_drained, is_drained_left, reply_of, reply_of_left}
 use Rattle.kanal_state.specs.Entries.{call_from}
 use Rattle.kanal_state.specs.Handles.{Drains}
-use Rattle.kanal_state.specs.Makes.{IsNoted}
+use Rattle.kanal_state.specs.Makes.{StepAppendPost}
 use Rattle.kanal_state.specs.Results.{drained_by}
-use Rattle.kanal_state.specs.Words.{Words}
+use Rattle.kanal_state.specs.HistoryRelations.{HistoryRelations}
 
 if-err : {A E : Type 0} (P : Type 0) (r : Result A E) → P → IfErr r (λ _. P)
 if-err P (Ok a) p = tt
@@ -30,38 +30,38 @@ module _ {T : Type 0} where
       ]
 
 module _ {T W : Type 0} where
-  none-left : (leaving : Leaving T W) → is_no_memory (reply_of_left leaving) ≡ true → drained_of_left leaving ≡ []
-  none-left (One reply settled) lacking = refl
-  none-left (All reply ended) lacking = refl
-  none-left (Shut closing) lacking = refl
-  none-left (WasDrained count ended moved) lacking = absurd (true≢false (sym lacking))
+  none-pending : (leaving : Leaving T W) → is_no_memory (reply_of_left leaving) ≡ true → drained_of_left leaving ≡ []
+  none-pending (One reply settled) lacking = refl
+  none-pending (All reply ended) lacking = refl
+  none-pending (Shut closing) lacking = refl
+  none-pending (WasDrained count ended moved) lacking = absurd (true≢false (sym lacking))
 
   none-drained : (made : StepResult T W) → is_no_memory (reply_of made) ≡ true → drained_of made ≡ []
-  none-drained made lacking = none-left made.leaving lacking
+  none-drained made lacking = none-pending made.leaving lacking
 
-  holds-left : (before now : List T) (leaving : Leaving T W) → now ≡ before ++ drained_of_left leaving → IfErr (drained_by (reply_of_left leaving)) (λ _. now ≡ before)
-  holds-left before now (One reply settled) moved = if-err (now ≡ before) _ (moved ∙ append-nil before)
-  holds-left before now (All reply ended) moved = if-err (now ≡ before) _ (moved ∙ append-nil before)
-  holds-left before now (Shut closing) moved = moved ∙ append-nil before
-  holds-left before now (WasDrained count ended vectors) moved = tt
+  holds-pending : (before now : List T) (leaving : Leaving T W) → now ≡ before ++ drained_of_left leaving → IfErr (drained_by (reply_of_left leaving)) (λ _. now ≡ before)
+  holds-pending before now (One reply settled) moved = if-err (now ≡ before) _ (moved ∙ append-nil before)
+  holds-pending before now (All reply ended) moved = if-err (now ≡ before) _ (moved ∙ append-nil before)
+  holds-pending before now (Shut closing) moved = moved ∙ append-nil before
+  holds-pending before now (WasDrained count ended vectors) moved = tt
 
   -- a refused drain leaves the vector as it was
   pub refused_holds : (before now : List T) (made : StepResult T W) → now ≡ before ++ drained_of made → IfErr (drained_by (reply_of made)) (λ _. now ≡ before)
-  refused_holds before now made moved = holds-left before now made.leaving moved
+  refused_holds before now made moved = holds-pending before now made.leaving moved
 
-  keeps-left : (before now : ℕ) (leaving : Leaving T W) → (is_drained_left leaving ≡ false → now ≡ before) → OnErr (drained_by (reply_of_left leaving)) (now ≡ before)
-  keeps-left before now (One reply settled) keeps = if-err (now ≡ before) _ (keeps refl)
-  keeps-left before now (All reply ended) keeps = if-err (now ≡ before) _ (keeps refl)
-  keeps-left before now (Shut closing) keeps = keeps refl
-  keeps-left before now (WasDrained count ended vectors) keeps = tt
+  keeps-pending : (before now : ℕ) (leaving : Leaving T W) → (is_drained_left leaving ≡ false → now ≡ before) → OnErr (drained_by (reply_of_left leaving)) (now ≡ before)
+  keeps-pending before now (One reply settled) keeps = if-err (now ≡ before) _ (keeps refl)
+  keeps-pending before now (All reply ended) keeps = if-err (now ≡ before) _ (keeps refl)
+  keeps-pending before now (Shut closing) keeps = keeps refl
+  keeps-pending before now (WasDrained count ended vectors) keeps = tt
 
   -- a refused drain leaves the vector's room as it was
   pub refused_keeps_room : (before now : ℕ) (made : StepResult T W) → (is_drained made ≡ false → now ≡ before) → OnErr (drained_by (reply_of made)) (now ≡ before)
-  refused_keeps_room before now made keeps = keeps-left before now made.leaving keeps
+  refused_keeps_room before now made keeps = keeps-pending before now made.leaving keeps
 
   -- a drain that was noted
-  pub noted_drains : {P : Type 0} (w : Words T P) (old new : P) (before now : List T) (made : StepResult T W)
-      → IsNoted w old new Drain made → now ≡ before ++ drained_of made → Drains w old new before now (drained_by (reply_of made))
+  pub noted_drains : {P : Type 0} (w : HistoryRelations T P) (old new : P) (before now : List T) (made : StepResult T W)
+      → StepAppendPost w old new Drain made → now ≡ before ++ drained_of made → Drains w old new before now (drained_by (reply_of made))
   noted_drains w old new before now made n moved =
       elim (cases_Bool (is_no_memory (reply_of made))) [
         | inl lacking ↦ let l = n.lacks lacking in inr (l.0, moved ∙ (ap (λ ms. before ++ ms) (none-drained made lacking) ∙ append-nil before), ap drained_by l.1)

@@ -6,17 +6,17 @@ use Rattle.kanal_events.specs.Steps.{no_memory}
 use Rattle.kanal_state.specs.Makes.{IsReplied}
 use Rattle.kanal_state.specs.Results.{InTime}
 use Rattle.kanal_state.specs.Timed.{FinishesBy}
-use Rattle.kanal_state.specs.Words.{Words}
-use Rattle.kanal_cell.specs.Deadlines.{HasCome as IsLate}
+use Rattle.kanal_state.specs.HistoryRelations.{HistoryRelations}
+use Rattle.kanal_cell.specs.Deadlines.{DeadlineReached as IsLate}
 use Rattle.kanal_channel.specs.declared.blocking.WaitOutcome.{WaitOutcome}
 use Rattle.kanal_channel.specs.declared.blocking.WaitOutcome.TheVariants.{Replied, Settled, Withdrawn}
-use Rattle.kanal_channel.specs.Deadlines.{HasEnded, HasPassed, answer_in_time}
+use Rattle.kanal_channel.specs.Deadlines.{WithdrawPost, TimedPost, answer_in_time}
 use Rattle.kanal_state.proofs.Settling.{finishes_replied, has_waited}
 
-module _ {T P : Type 0} (w : Words T P) where
+module _ {T P : Type 0} (w : HistoryRelations T P) where
   -- a call whose wait was to be taken back, since the clock answered so late a moment
   pub ended_passed : (answered : ℕ → Type 0) (deadline : ℕ) (old mid new : P) (event : Event T) (ticket : ℕ) (came : WaitOutcome T)
-      → IsLate answered deadline → IsReplied w old mid event (λ reply. reply) (Waits ticket) → HasEnded w mid new ticket came → HasPassed w answered deadline old new event came
+      → IsLate answered deadline → IsReplied w old mid event (λ reply. reply) (Waits ticket) → WithdrawPost w mid new ticket came → TimedPost w answered deadline old new event came
   ended_passed answered deadline old mid new event ticket (Settled outcome) late waits e = has_waited w old mid new event ticket outcome waits e.0 e.1
   ended_passed answered deadline old mid new event ticket (Withdrawn back) late waits e = (
     record {
@@ -33,10 +33,10 @@ module _ {T P : Type 0} (w : Words T P) where
   )
   ended_passed answered deadline old mid new event ticket (Replied reply) late waits e = absurd e
 
-module _ {T P : Type 0} (w : Words T P) (answered : ℕ → Type 0) (deadline : ℕ) where
+module _ {T P : Type 0} (w : HistoryRelations T P) (answered : ℕ → Type 0) (deadline : ℕ) where
   -- the answer of a call with a deadline, for what it came to
   pub finishes_by : {R : Type 0} (old new : P) (event : Event T) (answers : InTime T R) (came : WaitOutcome T) (answer : R)
-      → HasPassed w answered deadline old new event came → answers.by_reply (no_memory event) ≡ answers.no_memory → answer ≡ answer_in_time answers came
+      → TimedPost w answered deadline old new event came → answers.by_reply (no_memory event) ≡ answers.no_memory → answer ≡ answer_in_time answers came
       → FinishesBy w answered deadline old new event answers answer
   finishes_by old new event answers (Replied reply) answer c none is =
       inl (finishes_replied w old new event answers.by_reply answers.by_outcome answers.no_memory answer reply c none is)

@@ -5,14 +5,14 @@ use Rattle.kanal_events.specs.declared.event.Reply.{Reply}
 use Rattle.kanal_state.specs.declared.counted.CountedWait.{CountedWait}
 use Rattle.kanal_state.specs.Makes.{HasReplied}
 use Rattle.kanal_state.specs.Waits.{IsWaiting}
-use Rattle.kanal_state.specs.Words.{Words, AreSound}
+use Rattle.kanal_state.specs.HistoryRelations.{HistoryRelations, AreSound}
 use Rattle.kanal_state.proofs.Settling.{replied_on, waiting_on}
 
-module _ {T P E : Type 0} (w : Words T P) (sound : AreSound w) (old mid new : P) (event back : Event T) (looks : w.looks old mid) (same : back ≡ event) where
+module _ {T P E : Type 0} (w : HistoryRelations T P) (sound : AreSound w) (old mid new : P) (event back : Event T) (extends : w.extends old mid) (same : back ≡ event) where
   pub begun_on : (begun : Result (CountedWait × E) (Reply T)) → IfOk begun (λ b. IsWaiting w mid new back b.0) → IfOk begun (λ b. IsWaiting w old new event b.0)
-  begun_on (Ok b) c = waiting_on w sound old mid new event back b.0 looks same c
+  begun_on (Ok b) c = waiting_on w sound old mid new event back b.0 extends same c
   begun_on (Err reply) c = tt
 
   pub refused_on : (begun : Result (CountedWait × E) (Reply T)) → IfErr begun (HasReplied w mid new back) → IfErr begun (HasReplied w old new event)
   refused_on (Ok b) c = tt
-  refused_on (Err reply) c = replied_on w sound old mid new event back reply looks same c
+  refused_on (Err reply) c = replied_on w sound old mid new event back reply extends same c

@@ -5,10 +5,10 @@ use Rattle.kanal_state.specs.Calls.{IsTold}
 use Rattle.kanal_state.specs.Entries.{withdrawal}
 use Rattle.kanal_state.specs.Results.{InTime, back_after, back_by}
 use Rattle.kanal_state.specs.Timed.{IsTooLate}
-use Rattle.kanal_state.specs.Words.{Words}
+use Rattle.kanal_state.specs.HistoryRelations.{HistoryRelations}
 use Rattle.kanal_channel.specs.declared.blocking.WaitOutcome.{WaitOutcome}
 use Rattle.kanal_channel.specs.declared.blocking.WaitOutcome.TheVariants.{Replied, Settled, Withdrawn}
-use Rattle.kanal_channel.specs.Starts.{HasCome}
+use Rattle.kanal_channel.specs.Starts.{BlockingPost}
 
 module _ {T : Type 0} where
   -- the answer of a call with a deadline, for what it came to
@@ -25,15 +25,15 @@ module _ {T : Type 0} where
 
 module _ {T P : Type 0} where
   -- how a wait ended that was to be taken back: it was settled and the pass has learnt of that, or the pass took it back
-  abbrev pub HasEnded : Words T P → P → P → ℕ → WaitOutcome T → Type 0
-  HasEnded w old new ticket (Settled outcome) = w.looks old new × w.settled new (ticket, outcome)
-  HasEnded w old new ticket (Withdrawn back) = w.makes old new (withdrawal ticket back) × IsTold (withdrawal ticket back)
-  HasEnded w old new ticket (Replied reply) = ⊥
+  abbrev pub WithdrawPost : HistoryRelations T P → P → P → ℕ → WaitOutcome T → Type 0
+  WithdrawPost w old new ticket (Settled outcome) = w.extends old new × w.saw_settled new (ticket, outcome)
+  WithdrawPost w old new ticket (Withdrawn back) = w.appends old new (withdrawal ticket back) × IsTold (withdrawal ticket back)
+  WithdrawPost w old new ticket (Replied reply) = ⊥
 
   -- the clock answered a moment that is not before the deadline, and the pass took the wait back, with this message
-  abbrev pub TakesBack : Words T P → (ℕ → Type 0) → ℕ → P → P → Event T → Option T → Type 0
+  abbrev pub TakesBack : HistoryRelations T P → (ℕ → Type 0) → ℕ → P → P → Event T → Option T → Type 0
   TakesBack w answered deadline old new event back = (late : IsTooLate w answered deadline old new event) × (late.withdrawn.back ≡ back)
 
   -- what a call with this deadline came to
-  abbrev pub HasPassed : Words T P → (ℕ → Type 0) → ℕ → P → P → Event T → WaitOutcome T → Type 0
-  HasPassed w answered deadline old new event came = HasCome w (TakesBack w answered deadline old new event) old new event came
+  abbrev pub TimedPost : HistoryRelations T P → (ℕ → Type 0) → ℕ → P → P → Event T → WaitOutcome T → Type 0
+  TimedPost w answered deadline old new event came = BlockingPost w (TakesBack w answered deadline old new event) old new event came

@@ -2,7 +2,7 @@
 use Rattle.std.specs.Prelude.{Option}
 use Rattle.kanal_events.specs.declared.event.Event.{Event}
 use Rattle.kanal_state.specs.Makes.{HasReplied, HasWaited}
-use Rattle.kanal_state.specs.Words.{Words}
+use Rattle.kanal_state.specs.HistoryRelations.{HistoryRelations}
 use Rattle.kanal_channel.specs.declared.blocking.WaitOutcome.{WaitOutcome}
 use Rattle.kanal_channel.specs.declared.blocking.WaitOutcome.TheVariants.{Replied, Settled, Withdrawn}
 
@@ -13,7 +13,7 @@ module _ {T : Type 0} where
 
 module _ {T P : Type 0} where
   -- what a call came to that waits where it must, where `late` says that its wait was taken back, with this message
-  abbrev pub HasCome : Words T P → (Option T → Type 0) → P → P → Event T → WaitOutcome T → Type 0
-  HasCome w late old new event (Replied reply) = HasReplied w old new event reply
-  HasCome w late old new event (Settled outcome) = HasWaited w old new event outcome
-  HasCome w late old new event (Withdrawn back) = late back
+  abbrev pub BlockingPost : HistoryRelations T P → (Option T → Type 0) → P → P → Event T → WaitOutcome T → Type 0
+  BlockingPost w late old new event (Replied reply) = HasReplied w old new event reply
+  BlockingPost w late old new event (Settled outcome) = HasWaited w old new event outcome
+  BlockingPost w late old new event (Withdrawn back) = late back

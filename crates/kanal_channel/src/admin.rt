@@ -27,7 +27,7 @@ impl<T: Drop, H: History<T>> Shared<T, H> {
     /// ```
     #[tactic(auto, using(kanal_state::proofs::Settling::free_replied))]
     pub fn close<R: Wait>(&self, rt: &R, pass: &mut H::Pass) -> Result<(), CloseError>
-        ensures closed { Closes H.words pass.old pass.new result }
+        ensures closed { Closes H.relations pass.old pass.new result }
     {
         closed_by(self.call(rt, pass, Event::Close))
     }
@@ -45,7 +45,7 @@ impl<T: Drop, H: History<T>> Shared<T, H> {
     /// ```
     #[tactic(auto, using(kanal_state::proofs::Settling::free_replied))]
     pub fn seal<R: Wait>(&self, rt: &R, pass: &mut H::Pass) -> Result<(), CloseError>
-        ensures sealed { Seals H.words pass.old pass.new result }
+        ensures sealed { Seals H.relations pass.old pass.new result }
     {
         closed_by(self.call(rt, pass, Event::Seal))
     }
@@ -66,7 +66,7 @@ impl<T: Drop, H: History<T>> Shared<T, H> {
         rt: &R,
         pass: &mut H::Pass,
     ) -> Result<Counted<S>, TooMany>
-        ensures counted { IsReplied H.words pass.old pass.new (one_more S.side) counted_by
+        ensures counted { IsReplied H.relations pass.old pass.new (one_more S.side) counted_by
             (whether_counted result) }
     {
         let mut locked = self.lock(rt);
@@ -83,7 +83,7 @@ impl<T: Drop, H: History<T>> Shared<T, H> {
     /// ```
     #[tactic(auto, using(kanal_state::proofs::Settling::free_replied))]
     pub fn ask<R: Wait>(&self, rt: &R, pass: &mut H::Pass, side: Side, question: Ask) -> Reply<T>
-        ensures asked { Asks H.words pass.old pass.new side question (λ reply. reply) result }
+        ensures asked { Asks H.relations pass.old pass.new side question (λ reply. reply) result }
     {
         self.call(rt, pass, Event::Ask(side, question))
     }
@@ -96,7 +96,7 @@ impl<T: Drop, H: History<T>> Shared<T, H> {
     /// ```
     #[tactic(auto, using(kanal_state::proofs::Settling::free_replied))]
     pub fn ask_flag<R: Wait>(&self, rt: &R, pass: &mut H::Pass, side: Side, question: Ask) -> bool
-        ensures asked { Asks H.words pass.old pass.new side question flag_by result }
+        ensures asked { Asks H.relations pass.old pass.new side question flag_by result }
     {
         flag_by(self.call(rt, pass, Event::Ask(side, question)))
     }
@@ -115,7 +115,7 @@ impl<T: Drop, H: History<T>> Shared<T, H> {
         side: Side,
         question: Ask,
     ) -> usize
-        ensures asked { Asks H.words pass.old pass.new side question number_by result }
+        ensures asked { Asks H.relations pass.old pass.new side question number_by result }
     {
         number_by(self.call(rt, pass, Event::Ask(side, question)))
     }
@@ -128,7 +128,7 @@ impl<T: Drop, H: History<T>> Shared<T, H> {
     /// ```
     #[tactic(auto, using(kanal_state::proofs::Settling::free_replied))]
     pub fn ask_count<R: Wait>(&self, rt: &R, pass: &mut H::Pass, side: Side, question: Ask) -> u32
-        ensures asked { Asks H.words pass.old pass.new side question count_by result }
+        ensures asked { Asks H.relations pass.old pass.new side question count_by result }
     {
         count_by(self.call(rt, pass, Event::Ask(side, question)))
     }
@@ -141,7 +141,7 @@ impl<T: Drop, H: History<T>> Shared<T, H> {
     /// ```
     #[tactic(auto, using(kanal_state::proofs::Settling::free_replied))]
     pub fn is_terminated<R: Wait>(&self, rt: &R, pass: &mut H::Pass) -> bool
-        ensures asked { AsksForTheEnd H.words pass.old pass.new result }
+        ensures asked { AsksForTheEnd H.relations pass.old pass.new result }
     {
         flag_by(self.call(rt, pass, Event::Terminated))
     }

@@ -11,7 +11,7 @@ ghost use Rattle.kanal_state.specs.Counts.{counts_handle, ticket_of};
 ghost use Rattle.kanal_state.specs.Makes.{HasReplied, IsAnswered, SeesWait};
 ghost use Rattle.kanal_state.specs.Waits.{IsWaiting};
 ghost use Rattle.kanal_channel.specs.Locks.{IsQuiet, line_under};
-ghost use Rattle.kanal_channel.specs.Starts.{HasCome, never_late};
+ghost use Rattle.kanal_channel.specs.Starts.{BlockingPost, never_late};
 
 use crate::shared::{Locked, Shared};
 use kanal_cell::signal::WaitEnd;
@@ -41,7 +41,7 @@ impl<T: Drop, H: History<T>> Shared<T, H> {
     pub(crate) fn call<R: Wait>(&self, rt: &R, pass: &mut H::Pass, event: Event<T>) -> Reply<T>
         requires plain { is_plain event ≡ true }
         requires uncounted { counts_handle event ≡ false }
-        ensures answered { IsAnswered H.words pass.old pass.new event result }
+        ensures answered { IsAnswered H.relations pass.old pass.new event result }
     {
         self.call_held(self.lock(rt), pass, event)
     }
@@ -56,7 +56,7 @@ impl<T: Drop, H: History<T>> Shared<T, H> {
         requires plain { is_plain event ≡ true }
         requires uncounted { counts_handle event ≡ false }
         requires quiet { IsQuiet locked }
-        ensures answered { IsAnswered H.words pass.old pass.new event result }
+        ensures answered { IsAnswered H.relations pass.old pass.new event result }
     {
         let mut locked = locked;
         let made = locked.state.call(&self.log, pass, event);
@@ -75,7 +75,7 @@ impl<T: Drop, H: History<T>> Shared<T, H> {
     ) -> WaitOutcome<T>
         requires waits { may_wait event ≡ true }
         requires quiet { IsQuiet locked }
-        ensures come { HasCome H.words never_late pass.old pass.new event result }
+        ensures come { BlockingPost H.relations never_late pass.old pass.new event result }
     {
         match self.begin_held(locked, pass, event) {
             Ok((counted, end)) => {
@@ -101,9 +101,9 @@ impl<T: Drop, H: History<T>> Shared<T, H> {
     ) -> Result<StartedWait<T, H>, Reply<T>>
         requires waits { may_wait event ≡ true }
         requires quiet { IsQuiet locked }
-        ensures begun { IfOk result (λ begun. IsWaiting H.words pass.old pass.new event begun.0) }
+        ensures begun { IfOk result (λ begun. IsWaiting H.relations pass.old pass.new event begun.0) }
         ensures fresh { IfOk result (λ begun. MaySleep (wait_view begun.1)) }
-        ensures replied { IfErr result (HasReplied H.words pass.old pass.new event) }
+        ensures replied { IfErr result (HasReplied H.relations pass.old pass.new event) }
     {
         if !self.has_buffer {
             return self.begin_held(locked, pass, event);
@@ -124,9 +124,9 @@ impl<T: Drop, H: History<T>> Shared<T, H> {
     ) -> Result<StartedWait<T, H>, Reply<T>>
         requires waits { may_wait event ≡ true }
         requires quiet { IsQuiet locked }
-        ensures begun { IfOk result (λ begun. IsWaiting H.words pass.old pass.new event begun.0) }
+        ensures begun { IfOk result (λ begun. IsWaiting H.relations pass.old pass.new event begun.0) }
         ensures fresh { IfOk result (λ begun. MaySleep (wait_view begun.1)) }
-        ensures replied { IfErr result (HasReplied H.words pass.old pass.new event) }
+        ensures replied { IfErr result (HasReplied H.relations pass.old pass.new event) }
     {
         let (locked, event) = self.start(locked, pass, event)?;
         let Some((end, waiter)) = ends(self.alloc) else {
@@ -159,11 +159,11 @@ impl<T: Drop, H: History<T>> Shared<T, H> {
     ) -> Result<(Locked<'a, T, H>, Event<T>), Reply<T>>
         requires waits { may_wait event ≡ true }
         requires quiet { IsQuiet locked }
-        ensures replied { IfErr result (HasReplied H.words pass.old pass.new event) }
+        ensures replied { IfErr result (HasReplied H.relations pass.old pass.new event) }
         ensures must { IfOk result (λ back. MustWait (line_under back.0) event) }
-        ensures sees { IfOk result (λ _. SeesWait H.words pass.new event) }
+        ensures sees { IfOk result (λ _. SeesWait H.relations pass.new event) }
         ensures back { IfOk result (λ back. IsQuiet back.0 × (back.1 ≡ event)) }
-        ensures looks { IfOk result (λ _. H.words.looks pass.old pass.new) }
+        ensures extends { IfOk result (λ _. H.relations.extends pass.old pass.new) }
     {
         let mut locked = locked;
         let event = match locked.state.start(&self.log, pass, event) {
@@ -194,8 +194,8 @@ impl<T: Drop, H: History<T>> Shared<T, H> {
         requires waits { may_wait event ≡ true }
         requires must { MustWait (line_under locked) event }
         requires quiet { IsQuiet locked }
-        ensures waiting { IfOk result (IsWaiting H.words pass.old pass.new event) }
-        ensures replied { IfErr result (HasReplied H.words pass.old pass.new event) }
+        ensures waiting { IfOk result (IsWaiting H.relations pass.old pass.new event) }
+        ensures replied { IfErr result (HasReplied H.relations pass.old pass.new event) }
     {
         let mut locked = locked;
         let start = locked.state.wait(&self.log, pass, event, waiter);
@@ -218,8 +218,8 @@ impl<T: Drop, H: History<T>> Shared<T, H> {
         counted: CountedWait,
         delivered: WaitResult<T, H>,
     ) -> Outcome<T>
-        ensures looks { H.words.looks pass.old pass.new }
-        ensures settled { H.words.settled pass.new (number_of (ticket_of counted), result) }
+        ensures extends { H.relations.extends pass.old pass.new }
+        ensures settled { H.relations.saw_settled pass.new (number_of (ticket_of counted), result) }
     {
         let _another = match counted.learn(&self.log, pass, delivered) {
             Ok(outcome) => return outcome,

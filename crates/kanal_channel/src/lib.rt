@@ -20,4 +20,4 @@ pub use kanal_state::{
     Core, Counted, CountedReceiver, CountedSender, CountedWait, FirstHandles, OfSide, ReceiveSide,
     Released, SendSide, State, WaitResult, WaiterHandle,
 };
-pub use shared::{Left, Locked, Shared};
+pub use shared::{Locked, Pending, Shared};

@@ -8,7 +8,7 @@ ghost use Rattle.std.specs.Duration.{as_nanos};
 ghost use Rattle.std.specs.Vec.{vec_capacity, vec_len};
 ghost use Rattle.kanal_state.specs.Handles.{Drains, Receives, ReceivesInTime, TriesToReceive, TriesToReceiveNow};
 ghost use Rattle.kanal_state.specs.Makes.{HasTooLittleRoom};
-ghost use Rattle.kanal_channel.specs.Deadlines.{HasPassed};
+ghost use Rattle.kanal_channel.specs.Deadlines.{TimedPost};
 ghost use Rattle.kanal_channel.specs.Locks.{IsQuiet};
 
 use crate::blocking::WaitOutcome;
@@ -41,7 +41,7 @@ impl<T: Drop, H: History<T>> Shared<T, H> {
     /// ```
     #[inline]
     pub fn recv<R: Wait>(&self, rt: &R, pass: &mut H::Pass) -> Result<T, ReceiveError>
-        ensures received { Receives H.words pass.old pass.new result }
+        ensures received { Receives H.relations pass.old pass.new result }
         ensures got { IfOk result (λ message. H.exchanges pass.old pass.new [] (message ∷ [])) }
     {
         let mut locked = self.lock(rt);
@@ -63,7 +63,7 @@ impl<T: Drop, H: History<T>> Shared<T, H> {
         pass: &mut H::Pass,
     ) -> Result<T, ReceiveError>
         requires quiet { IsQuiet locked }
-        ensures received { Receives H.words pass.old pass.new result }
+        ensures received { Receives H.relations pass.old pass.new result }
     {
         if self.has_buffer {
             self.recv_again(rt, locked, pass)
@@ -82,7 +82,7 @@ impl<T: Drop, H: History<T>> Shared<T, H> {
         pass: &mut H::Pass,
     ) -> Result<T, ReceiveError>
         requires quiet { IsQuiet locked }
-        ensures received { Receives H.words pass.old pass.new result }
+        ensures received { Receives H.relations pass.old pass.new result }
     {
         if !locked.state.is_empty() {
             return self.recv_waiting(rt, locked, pass);
@@ -109,7 +109,7 @@ impl<T: Drop, H: History<T>> Shared<T, H> {
         pass: &mut H::Pass,
     ) -> Result<T, ReceiveError>
         requires quiet { IsQuiet locked }
-        ensures received { Receives H.words pass.old pass.new result }
+        ensures received { Receives H.relations pass.old pass.new result }
     {
         match self.blocking(rt, locked, pass, Event::Recv) {
             WaitOutcome::Replied(reply) => received_by(reply),
@@ -131,7 +131,7 @@ impl<T: Drop, H: History<T>> Shared<T, H> {
     #[inline]
     #[tactic(auto, using(kanal_state::proofs::Exchanging::tries_got))]
     pub fn try_recv<R: Wait>(&self, rt: &R, pass: &mut H::Pass) -> Result<Option<T>, ReceiveError>
-        ensures received { TriesToReceive H.words pass.old pass.new result }
+        ensures received { TriesToReceive H.relations pass.old pass.new result }
         ensures got { IfOk result (λ came.
             H.exchanges pass.old pass.new [] (option_to_list came)) }
     {
@@ -154,7 +154,7 @@ impl<T: Drop, H: History<T>> Shared<T, H> {
         pass: &mut H::Pass,
     ) -> Result<Option<T>, ReceiveError>
         requires quiet { IsQuiet locked }
-        ensures received { TriesToReceive H.words pass.old pass.new result }
+        ensures received { TriesToReceive H.relations pass.old pass.new result }
     {
         asked_by(self.call_held(locked, pass, Event::TryRecv))
     }
@@ -171,13 +171,13 @@ impl<T: Drop, H: History<T>> Shared<T, H> {
     /// ```
     #[tactic(auto, using(kanal_state::proofs::Settling::free_replied))]
     pub fn try_recv_realtime(&self, pass: &mut H::Pass) -> Result<Option<T>, ReceiveError>
-        ensures received { TriesToReceiveNow H.words pass.old pass.new result }
+        ensures received { TriesToReceiveNow H.relations pass.old pass.new result }
     {
-        let Some((mut locked, left)) = self.try_lock() else {
+        let Some((mut locked, pending)) = self.try_lock() else {
             return Ok(None);
         };
         let made = locked.state.call(&self.log, pass, Event::TryRecv);
-        asked_by(self.unlock_tried(locked, left, pass, made))
+        asked_by(self.unlock_tried(locked, pending, pass, made))
     }
 
     /// Receives a message, and waits where there is none, until the deadline, which is the clock's moment
@@ -206,7 +206,7 @@ impl<T: Drop, H: History<T>> Shared<T, H> {
         duration: Duration,
         clock: &C,
     ) -> Result<T, ReceiveErrorTimeout>
-        ensures received { ReceivesInTime H.words pass.old pass.new (C.answers clock.now)
+        ensures received { ReceivesInTime H.relations pass.old pass.new (C.answers clock.now)
             (as_nanos duration) result }
         ensures got { IfOk result (λ message. H.exchanges pass.old pass.new [] (message ∷ [])) }
     {
@@ -229,7 +229,7 @@ impl<T: Drop, H: History<T>> Shared<T, H> {
         clock: &C,
         deadline: u64,
     ) -> WaitOutcome<T>
-        ensures passed { HasPassed H.words (C.answers clock.now) deadline pass.old pass.new
+        ensures passed { TimedPost H.relations (C.answers clock.now) deadline pass.old pass.new
             Event.Recv result }
     {
         let mut locked = self.lock(rt);
@@ -260,10 +260,10 @@ impl<T: Drop, H: History<T>> Shared<T, H> {
         pass: &mut H::Pass,
         into: &mut Vec<T>,
     ) -> Result<usize, ReceiveError>
-        ensures drained { Drains H.words pass.old pass.new into.old.items into.new.items result }
+        ensures drained { Drains H.relations pass.old pass.new into.old.items into.new.items result }
         ensures refused { IfErr result (λ _. into.new.items ≡ into.old.items) }
         ensures memory { IsErrOf result ReceiveError.NoMemory
-            → HasTooLittleRoom H.words pass.new (vec_len into.old) (vec_capacity into.old) }
+            → HasTooLittleRoom H.relations pass.new (vec_len into.old) (vec_capacity into.old) }
         ensures no_growth { OnErr result (vec_capacity into.new ≡ vec_capacity into.old) }
     {
         let mut locked = self.lock(rt);

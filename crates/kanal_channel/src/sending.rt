@@ -8,7 +8,7 @@ ghost use Rattle.kanal_state.specs.Handles.{Sends, SendsInTime, TriesToSend, Tri
 ghost use Rattle.kanal_state.specs.Makes.{Comes};
 ghost use Rattle.kanal_state.specs.Refusals.{StartedNoWait};
 ghost use Rattle.kanal_state.specs.Results.{entered_by};
-ghost use Rattle.kanal_channel.specs.Deadlines.{HasPassed};
+ghost use Rattle.kanal_channel.specs.Deadlines.{TimedPost};
 ghost use Rattle.kanal_channel.specs.Locks.{IsQuiet};
 
 use crate::blocking::WaitOutcome;
@@ -24,7 +24,7 @@ use std::time;
 use std::time::Duration;
 
 /// Takes the option's message, which the caller knows to be there.
-fn taken<T: Drop>(option: &mut Option<T>) -> T
+fn applied<T: Drop>(option: &mut Option<T>) -> T
     requires { IsSome option.old }
     ensures was { option.old ≡ Some result }
     ensures emptied { option.new ≡ None }
@@ -53,7 +53,7 @@ impl<T: Drop, H: History<T>> Shared<T, H> {
     /// ```
     #[inline]
     pub fn send<R: Wait>(&self, rt: &R, pass: &mut H::Pass, message: T) -> Result<(), SendError>
-        ensures sent { Sends H.words pass.old pass.new message result }
+        ensures sent { Sends H.relations pass.old pass.new message result }
         ensures put { IfOk result (λ _. H.exchanges pass.old pass.new (message ∷ []) []) }
     {
         let mut locked = self.lock(rt);
@@ -76,7 +76,7 @@ impl<T: Drop, H: History<T>> Shared<T, H> {
         message: T,
     ) -> Result<(), SendError>
         requires quiet { IsQuiet locked }
-        ensures sent { Sends H.words pass.old pass.new message result }
+        ensures sent { Sends H.relations pass.old pass.new message result }
     {
         if self.has_buffer {
             self.send_again(rt, locked, pass, message)
@@ -96,7 +96,7 @@ impl<T: Drop, H: History<T>> Shared<T, H> {
         message: T,
     ) -> Result<(), SendError>
         requires quiet { IsQuiet locked }
-        ensures sent { Sends H.words pass.old pass.new message result }
+        ensures sent { Sends H.relations pass.old pass.new message result }
     {
         if !locked.state.is_full() {
             return self.send_waiting(rt, locked, pass, message);
@@ -123,7 +123,7 @@ impl<T: Drop, H: History<T>> Shared<T, H> {
         message: T,
     ) -> Result<(), SendError>
         requires quiet { IsQuiet locked }
-        ensures sent { Sends H.words pass.old pass.new message result }
+        ensures sent { Sends H.relations pass.old pass.new message result }
     {
         match self.blocking(rt, locked, pass, Event::Send(message)) {
             WaitOutcome::Replied(reply) => sent_by(reply),
@@ -151,7 +151,7 @@ impl<T: Drop, H: History<T>> Shared<T, H> {
         pass: &mut H::Pass,
         message: T,
     ) -> Result<bool, SendError>
-        ensures sent { TriesToSend H.words pass.old pass.new message result }
+        ensures sent { TriesToSend H.relations pass.old pass.new message result }
         ensures put { IfOk result (λ entered.
             H.exchanges pass.old pass.new (cond entered (message ∷ []) []) []) }
     {
@@ -169,7 +169,7 @@ impl<T: Drop, H: History<T>> Shared<T, H> {
         back: &mut Option<T>,
     ) -> Result<bool, SendError>
         requires empty { back.old ≡ None }
-        ensures sent { TriesToSend H.words pass.old pass.new message result }
+        ensures sent { TriesToSend H.relations pass.old pass.new message result }
         ensures entered { result ≡ Ok true → back.new ≡ None }
         ensures kept { result ≢ Ok true → back.new ≡ Some message }
     {
@@ -195,7 +195,7 @@ impl<T: Drop, H: History<T>> Shared<T, H> {
     ) -> Result<bool, SendError>
         requires empty { back.old ≡ None }
         requires quiet { IsQuiet locked }
-        ensures sent { TriesToSend H.words pass.old pass.new message result }
+        ensures sent { TriesToSend H.relations pass.old pass.new message result }
         ensures entered { result ≡ Ok true → back.new ≡ None }
         ensures kept { result ≢ Ok true → back.new ≡ Some message }
     {
@@ -223,11 +223,11 @@ impl<T: Drop, H: History<T>> Shared<T, H> {
         option: &mut Option<T>,
     ) -> Result<bool, SendError>
         requires { IsSome option.old }
-        ensures sends { IfSome option.old (λ m. TriesToSend H.words pass.old pass.new m result) }
+        ensures sends { IfSome option.old (λ m. TriesToSend H.relations pass.old pass.new m result) }
         ensures sent { result ≡ Ok true → option.new ≡ None }
         ensures kept { result ≢ Ok true → option.new ≡ option.old }
     {
-        let message = taken(option);
+        let message = applied(option);
         self.offer(rt, pass, message, option)
     }
 
@@ -242,7 +242,7 @@ impl<T: Drop, H: History<T>> Shared<T, H> {
     /// shared.try_send_realtime(&mut pass, 1)   answers  Ok(true)   in a new bounded channel for one
     /// ```
     pub fn try_send_realtime(&self, pass: &mut H::Pass, message: T) -> Result<bool, SendError>
-        ensures sent { TriesToSendNow H.words pass.old pass.new message result }
+        ensures sent { TriesToSendNow H.relations pass.old pass.new message result }
     {
         let mut back = None;
         self.offer_now(pass, message, &mut back)
@@ -257,16 +257,16 @@ impl<T: Drop, H: History<T>> Shared<T, H> {
         back: &mut Option<T>,
     ) -> Result<bool, SendError>
         requires empty { back.old ≡ None }
-        ensures sent { TriesToSendNow H.words pass.old pass.new message result }
+        ensures sent { TriesToSendNow H.relations pass.old pass.new message result }
         ensures entered { result ≡ Ok true → back.new ≡ None }
         ensures kept { result ≢ Ok true → back.new ≡ Some message }
     {
-        let Some((mut locked, left)) = self.try_lock() else {
+        let Some((mut locked, pending)) = self.try_lock() else {
             *back = Some(message);
             return Ok(false);
         };
         let made = locked.state.call(&self.log, pass, Event::TrySend(message));
-        restored(self.unlock_tried(locked, left, pass, made), back)
+        restored(self.unlock_tried(locked, pending, pass, made), back)
     }
 
     /// Sends the option's message if it can enter at once and the lock is free, and empties the option exactly
@@ -289,11 +289,11 @@ impl<T: Drop, H: History<T>> Shared<T, H> {
         option: &mut Option<T>,
     ) -> Result<bool, SendError>
         requires { IsSome option.old }
-        ensures sends { IfSome option.old (λ m. TriesToSendNow H.words pass.old pass.new m result) }
+        ensures sends { IfSome option.old (λ m. TriesToSendNow H.relations pass.old pass.new m result) }
         ensures sent { result ≡ Ok true → option.new ≡ None }
         ensures kept { result ≢ Ok true → option.new ≡ option.old }
     {
-        let message = taken(option);
+        let message = applied(option);
         self.offer_now(pass, message, option)
     }
 
@@ -320,7 +320,7 @@ impl<T: Drop, H: History<T>> Shared<T, H> {
         duration: Duration,
         clock: &C,
     ) -> Result<(), SendErrorTimeout>
-        ensures sent { SendsInTime H.words pass.old pass.new (C.answers clock.now)
+        ensures sent { SendsInTime H.relations pass.old pass.new (C.answers clock.now)
             (as_nanos duration) message result }
         ensures put { IfOk result (λ _. H.exchanges pass.old pass.new (message ∷ []) []) }
     {
@@ -351,12 +351,12 @@ impl<T: Drop, H: History<T>> Shared<T, H> {
         clock: &C,
     ) -> Result<(), SendErrorTimeout>
         requires { IsSome option.old }
-        ensures sends { IfSome option.old (λ m. SendsInTime H.words pass.old pass.new
+        ensures sends { IfSome option.old (λ m. SendsInTime H.relations pass.old pass.new
             (C.answers clock.now) (as_nanos duration) m result) }
         ensures sent { result ≡ Ok tt → option.new ≡ None }
         ensures kept { IfErr result (λ e. StartedNoWait e → option.new ≡ option.old) }
     {
-        let message = taken(option);
+        let message = applied(option);
         self.send_before(rt, pass, message, option, duration, clock)
     }
 
@@ -371,7 +371,7 @@ impl<T: Drop, H: History<T>> Shared<T, H> {
         clock: &C,
     ) -> Result<(), SendErrorTimeout>
         requires empty { back.old ≡ None }
-        ensures sent { SendsInTime H.words pass.old pass.new (C.answers clock.now)
+        ensures sent { SendsInTime H.relations pass.old pass.new (C.answers clock.now)
             (as_nanos duration) message result }
         ensures entered { result ≡ Ok tt → back.new ≡ None }
         ensures kept { IfErr result (λ e. StartedNoWait e → back.new ≡ Some message) }
@@ -393,7 +393,7 @@ impl<T: Drop, H: History<T>> Shared<T, H> {
         clock: &C,
         deadline: u64,
     ) -> WaitOutcome<T>
-        ensures passed { HasPassed H.words (C.answers clock.now) deadline pass.old pass.new
+        ensures passed { TimedPost H.relations (C.answers clock.now) deadline pass.old pass.new
             (Event.Send message) result }
     {
         let mut locked = self.lock(rt);

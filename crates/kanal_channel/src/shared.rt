@@ -14,7 +14,7 @@ use kanal_cell::WaitPolicy;
 use kanal_core::error::NewError;
 use kanal_core::mutex::Mutex;
 use kanal_state::{Core, Counted, CountedWait, FirstHandles, History, Notices, OfSide, State};
-pub use locked::{Left, Locked};
+pub use locked::{Locked, Pending};
 use std::alloc::Global;
 use std::sync::Arc;
 
@@ -55,14 +55,14 @@ impl<T: Drop, H: History<T>> Shared<T, H> {
     pub fn new(
         core: Core<T, H>,
         history: H,
-        cleanup: H::Cleanup,
+        internal_pass: H::InternalPass,
         log: H::Log,
         alloc: Global,
     ) -> Self
         requires core { H.stands history (line_of core) }
     {
         let places = core.capacity();
-        Shared::round(State::new(core, history, cleanup), places, log, alloc)
+        Shared::round(State::new(core, history, internal_pass), places, log, alloc)
     }
 
     /// A free lock round this state, of which so many messages may lie in the buffer, and no notices.
@@ -86,7 +86,7 @@ impl<T: Drop, H: History<T>> Shared<T, H> {
     pub fn with_handles(
         core: Core<T, H>,
         history: H,
-        cleanup: H::Cleanup,
+        internal_pass: H::InternalPass,
         log: H::Log,
         alloc: Global,
     ) -> Result<(Arc<Self>, FirstHandles), NewError>
@@ -94,7 +94,7 @@ impl<T: Drop, H: History<T>> Shared<T, H> {
         ensures large { IsErrOf result NewError.TooLarge → ⊥ }
     {
         let places = core.capacity();
-        let (state, first) = State::with_handles(core, history, cleanup);
+        let (state, first) = State::with_handles(core, history, internal_pass);
         let Ok(shared) = Arc::new(alloc, Shared::round(state, places, log, alloc)) else {
             return Err(NewError::NoMemory);
         };
@@ -130,9 +130,9 @@ impl<T: Drop, H: History<T>> Shared<T, H> {
     /// Example: `shared.drop_handle(counted)`: the last sender ends the receivers that wait.
     pub fn drop_handle<S: OfSide>(&self, counted: Counted<S>) {
         match self.try_lock() {
-            Some((mut locked, left)) => {
+            Some((mut locked, pending)) => {
                 let gone = locked.state.drop_handle(&self.log, counted);
-                self.unlock_dropped(locked, left, gone);
+                self.unlock_dropped(locked, pending, gone);
             },
             None => {
                 self.notices.add_handle(counted);
@@ -145,9 +145,9 @@ impl<T: Drop, H: History<T>> Shared<T, H> {
     /// Example: `shared.leave(counted)` withdraws the wait, or leaves a notice where the lock is held.
     pub fn leave(&self, counted: CountedWait) {
         match self.try_lock() {
-            Some((mut locked, left)) => {
+            Some((mut locked, pending)) => {
                 let found = locked.state.leave(&self.log, counted);
-                self.unlock_left(locked, left, found);
+                self.unlock_left(locked, pending, found);
             },
             None => {
                 self.notices.add_wait(counted);

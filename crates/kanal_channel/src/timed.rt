@@ -7,7 +7,7 @@ ghost use Rattle.kanal_core.specs.Tickets.{number_of};
 ghost use Rattle.kanal_events.specs.StepResult.{may_wait};
 ghost use Rattle.kanal_state.specs.Counts.{ticket_of};
 ghost use Rattle.kanal_state.specs.Results.{receive_in_time, send_in_time};
-ghost use Rattle.kanal_channel.specs.Deadlines.{HasEnded, HasPassed, answer_in_time, back_in_time};
+ghost use Rattle.kanal_channel.specs.Deadlines.{WithdrawPost, TimedPost, answer_in_time, back_in_time};
 ghost use Rattle.kanal_channel.specs.Locks.{IsQuiet};
 
 use crate::blocking::WaitOutcome;
@@ -67,7 +67,7 @@ impl<T: Drop, H: History<T>> Shared<T, H> {
     ) -> WaitOutcome<T>
         requires waits { may_wait event ≡ true }
         requires quiet { IsQuiet locked }
-        ensures passed { HasPassed H.words (C.answers clock.now) deadline pass.old pass.new event
+        ensures passed { TimedPost H.relations (C.answers clock.now) deadline pass.old pass.new event
             result }
     {
         let (counted, end) = match self.begin(rt, locked, pass, event) {
@@ -89,7 +89,7 @@ impl<T: Drop, H: History<T>> Shared<T, H> {
         counted: CountedWait,
         waiting: Waiting<WaitResult<T, H>>,
     ) -> WaitOutcome<T>
-        ensures ended { HasEnded H.words pass.old pass.new (number_of (ticket_of counted)) result }
+        ensures ended { WithdrawPost H.relations pass.old pass.new (number_of (ticket_of counted)) result }
     {
         let mut locked = self.lock(rt);
         let withdrawn = locked.state.withdraw(&self.log, pass, counted);

@@ -1,7 +1,7 @@
 -- Entries that wait for nothing.
 use Rattle.std.proofs.Common.{◌≡◌, ℕ, zero, suc, List, [], ◌∷◌, ◌++◌, map, take, Option, Some, None, refl, ap, append-nil}
 use Rattle.std.proofs.lemmas.List.{take-append-drop}
-use Rattle.kanal_core.specs.Line.{Entry, Line, bare, messages, tickets, under}
+use Rattle.kanal_core.specs.Line.{LineEntry, Line, bare, messages, tickets, under}
 use Rattle.kanal_core.specs.Moves.{seated, taken, leave}
 
 module _ {T : Type 0} where
@@ -24,7 +24,7 @@ module _ {T : Type 0} where
   under-bare None ms = refl
   under-bare (Some c) ms = take-bare c ms
 
-  again : (ms : List T) → map (λ (e : Entry T). bare e.message) (map bare ms) ≡ map bare ms
+  again : (ms : List T) → map (λ (e : LineEntry T). bare e.message) (map bare ms) ≡ map bare ms
   again [] = refl
   again (m ∷ ms) = ap (λ xs. bare m ∷ xs) (again ms)
 

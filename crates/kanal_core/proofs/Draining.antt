@@ -5,7 +5,7 @@ use Rattle.std.proofs.Math.ListN.{length-map}
 use mathlib.Core.List.{map-append}
 use Rattle.kanal_core.specs.declared.internal.outcome.Outcome.TheVariants.{Taken}
 use Rattle.kanal_core.specs.declared.internal.outcome.Waiter.{Waiter}
-use Rattle.kanal_core.specs.Line.{Entry, bare, messages, tickets, IsWithin}
+use Rattle.kanal_core.specs.Line.{LineEntry, bare, messages, tickets, IsWithin}
 use Rattle.kanal_core.specs.Moves.{drain, taken}
 use Rattle.kanal_core.specs.Channel.{after_drain, line_of, settlement, taken_by}
 use Rattle.kanal_core.specs.Waiters.{brought, sender_first}
@@ -22,7 +22,7 @@ none-within None = tt
 none-within (Some c) = omega arith
 
 module _ {T : Type 0} where
-  tickets-behind : (ms : List T) (es : List (Entry T)) → tickets (map bare ms ++ es) ≡ tickets es
+  tickets-behind : (ms : List T) (es : List (LineEntry T)) → tickets (map bare ms ++ es) ≡ tickets es
   tickets-behind [] es = refl
   tickets-behind (m ∷ ms) es = tickets-behind ms es
 

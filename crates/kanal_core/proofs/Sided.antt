@@ -9,7 +9,7 @@ use Rattle.kanal_core.specs.declared.internal.outcome.Reason.{Reason}
 use Rattle.kanal_core.specs.declared.internal.outcome.Outcome.{Outcome}
 use Rattle.kanal_core.specs.declared.internal.outcome.Outcome.TheVariants.{Ended}
 use Rattle.kanal_core.specs.declared.internal.outcome.Waiter.{Waiter}
-use Rattle.kanal_core.specs.Line.{Entry, Line, bare, messages, under, is_below, holds_ticket, IsWithin}
+use Rattle.kanal_core.specs.Line.{LineEntry, Line, bare, messages, under, is_below, holds_ticket, IsWithin}
 use Rattle.kanal_core.specs.Moves.{serve, ended_entry, quiet}
 use Rattle.kanal_core.specs.Channel.{ended_by, settlement}
 use Rattle.kanal_core.specs.Waiters.{receiver_first, sender_first}
@@ -19,10 +19,10 @@ use Rattle.kanal_core.proofs.Within.{under-within}
 use Rattle.kanal_core.proofs.Sides.{entries, demands, receive-entries, send-demands, ends-send, ends-receive}
 
 module _ {T : Type 0} where
-  take-bare-full : (ms : List T) (es : List (Entry T)) → take (length ms) (map bare ms ++ es) ≡ map bare ms
+  take-bare-full : (ms : List T) (es : List (LineEntry T)) → take (length ms) (map bare ms ++ es) ≡ map bare ms
   take-bare-full ms es = take_at (map bare ms) es (length ms) (simp length-map refl)
 
-  drop-bare-full : (ms : List T) (es : List (Entry T)) → drop (length ms) (map bare ms ++ es) ≡ es
+  drop-bare-full : (ms : List T) (es : List (LineEntry T)) → drop (length ms) (map bare ms ++ es) ≡ es
   drop-bare-full [] es = refl
   drop-bare-full (m ∷ ms) es = drop-bare-full ms es
 

@@ -8,19 +8,19 @@ use Rattle.kanal_core.specs.declared.internal.outcome.Outcome.{Outcome}
 use Rattle.kanal_core.specs.declared.internal.outcome.Outcome.TheVariants.{Ended}
 use Rattle.kanal_core.specs.declared.internal.outcome.Ticket.{Ticket}
 use Rattle.kanal_core.specs.declared.internal.outcome.Waiter.{Waiter}
-use Rattle.kanal_core.specs.Line.{Entry, waiting, messages, has, holds_ticket, found}
+use Rattle.kanal_core.specs.Line.{LineEntry, waiting, messages, has, holds_ticket, found}
 use Rattle.kanal_core.specs.Moves.{ended_entry}
 use Rattle.kanal_core.specs.Channel.{entry_of, demand_of, ended_by, settlement}
 use Rattle.kanal_core.specs.Waiters.{waiter_of, without, with_w, same_ticket, brought, IsPlaced}
 use Rattle.kanal_core.specs.Sided.{AllSend, AllReceive, Rises}
 
-brought-cons : {T : Type 0} (o : Option T) (n : ℕ) (rest : List (Entry T)) (ms : List T) → messages rest ≡ ms → messages (cons_option (option_map (λ m. waiting m n) o) rest) ≡ cons_option o ms
+brought-cons : {T : Type 0} (o : Option T) (n : ℕ) (rest : List (LineEntry T)) (ms : List T) → messages rest ≡ ms → messages (cons_option (option_map (λ m. waiting m n) o) rest) ≡ cons_option o ms
 brought-cons None n rest ms h = h
 brought-cons (Some m) n rest ms h = ap (λ xs. m ∷ xs) h
 
 module _ {T W : Type 0} where
   -- the entries and the demands of waiters
-  abbrev pub entries : List (Waiter T W) → List (Entry T)
+  abbrev pub entries : List (Waiter T W) → List (LineEntry T)
   entries ws = filter_map entry_of ws
 
   abbrev pub demands : List (Waiter T W) → List ℕ
@@ -149,7 +149,7 @@ module _ {T W : Type 0} (n : ℕ) (w : Waiter T W) (ws : List (Waiter T W)) wher
     send-on : eqb w.ticket.number n ≡ false → found n (entries (w ∷ ws)) ≡ found n (entries ws)
     send-on h = rw (e, h) refl
 
-    send-stays : eqb w.ticket.number n ≡ false → (xs : List (Entry T)) → xs ≡ filter (λ e. not (holds_ticket n e)) (entries ws) → waiting m w.ticket.number ∷ xs ≡ filter (λ e. not (holds_ticket n e)) (entries (w ∷ ws))
+    send-stays : eqb w.ticket.number n ≡ false → (xs : List (LineEntry T)) → xs ≡ filter (λ e. not (holds_ticket n e)) (entries ws) → waiting m w.ticket.number ∷ xs ≡ filter (λ e. not (holds_ticket n e)) (entries (w ∷ ws))
     send-stays h xs rest = rw (e, h) (ap (λ ys. waiting m w.ticket.number ∷ ys) rest)
 
     send-entries : entries (w ∷ ws) ≡ waiting m w.ticket.number ∷ entries ws

@@ -8,7 +8,7 @@ use Rattle.std.proofs.Math.ListN.{length-map}
 use Rattle.kanal_core.specs.declared.internal.outcome.Outcome.TheVariants.{Taken, Given}
 use Rattle.kanal_core.specs.declared.internal.outcome.Ticket.{Ticket}
 use Rattle.kanal_core.specs.declared.internal.outcome.Waiter.{Waiter}
-use Rattle.kanal_core.specs.Line.{Entry, bare, waiting, tickets, is_below, has, has_place, holds_ticket, found, IsWithin}
+use Rattle.kanal_core.specs.Line.{LineEntry, bare, waiting, tickets, is_below, has, has_place, holds_ticket, found, IsWithin}
 use Rattle.kanal_core.specs.Moves.{Moved, enter, leave, wait_send, wait_recv}
 use Rattle.kanal_core.specs.Channel.{Channel, line_of, entry_of, demand_of}
 use Rattle.kanal_core.specs.Waiters.{same_ticket, waiter_of, without, IsPlaced, receiver_first, sender_first}
@@ -31,15 +31,15 @@ is_below-more a b None h f = f
 is_below-more a b (Some c) h f = grind (arith, nat_tests)
 
 module _ {T : Type 0} where
-  take-one-more : (rest : List T) (x : Entry T) (es : List (Entry T)) → take (suc (length rest)) (map bare rest ++ x ∷ es) ≡ map bare rest ++ x ∷ []
+  take-one-more : (rest : List T) (x : LineEntry T) (es : List (LineEntry T)) → take (suc (length rest)) (map bare rest ++ x ∷ es) ≡ map bare rest ++ x ∷ []
   take-one-more [] x es = refl
   take-one-more (m ∷ rest) x es = ap (λ xs. bare m ∷ xs) (take-one-more rest x es)
 
-  drop-one-more : (rest : List T) (x : Entry T) (es : List (Entry T)) → drop (suc (length rest)) (map bare rest ++ x ∷ es) ≡ es
+  drop-one-more : (rest : List T) (x : LineEntry T) (es : List (LineEntry T)) → drop (suc (length rest)) (map bare rest ++ x ∷ es) ≡ es
   drop-one-more [] x es = refl
   drop-one-more (m ∷ rest) x es = drop-one-more rest x es
 
-  seat-one-more : (rest : List T) (m : T) (t : ℕ) → map (λ (e : Entry T). bare e.message) (map bare rest ++ waiting m t ∷ []) ≡ map bare (rest ++ m ∷ [])
+  seat-one-more : (rest : List T) (m : T) (t : ℕ) → map (λ (e : LineEntry T). bare e.message) (map bare rest ++ waiting m t ∷ []) ≡ map bare (rest ++ m ∷ [])
   seat-one-more [] m t = refl
   seat-one-more (x ∷ rest) m t = ap (λ xs. bare x ∷ xs) (seat-one-more rest m t)
 
@@ -47,11 +47,11 @@ module _ {T : Type 0} where
   ticket-one-more [] m t = refl
   ticket-one-more (x ∷ rest) m t = ticket-one-more rest m t
 
-  bare-found : (n : ℕ) (ms : List T) (es : List (Entry T)) → found n (map bare ms ++ es) ≡ found n es
+  bare-found : (n : ℕ) (ms : List T) (es : List (LineEntry T)) → found n (map bare ms ++ es) ≡ found n es
   bare-found n [] es = refl
   bare-found n (m ∷ ms) es = bare-found n ms es
 
-  bare-without : (n : ℕ) (ms : List T) (es : List (Entry T)) → filter (λ e. not (holds_ticket n e)) (map bare ms ++ es) ≡ map bare ms ++ filter (λ e. not (holds_ticket n e)) es
+  bare-without : (n : ℕ) (ms : List T) (es : List (LineEntry T)) → filter (λ e. not (holds_ticket n e)) (map bare ms ++ es) ≡ map bare ms ++ filter (λ e. not (holds_ticket n e)) es
   bare-without n [] es = refl
   bare-without n (m ∷ ms) es = ap (λ xs. bare m ∷ xs) (bare-without n ms es)
 

@@ -8,7 +8,7 @@ use Rattle.kanal_core.specs.declared.internal.outcome.Offer.{Offer}
 use Rattle.kanal_core.specs.declared.internal.outcome.Offer.TheVariants.{Entered, Handed, Full, Closed as OfferClosed, ReceiveClosed, Sealed, NoMemory}
 use Rattle.kanal_core.specs.declared.internal.outcome.Take.{Take}
 use Rattle.kanal_core.specs.declared.internal.outcome.Take.TheVariants.{Got, Closed as TakeClosed, SendClosed, Empty}
-use Rattle.kanal_core.specs.Line.{Entry, Line, has_place, has, found}
+use Rattle.kanal_core.specs.Line.{LineEntry, Line, has_place, has, found}
 use Rattle.kanal_core.specs.Moves.{Moved, enter, leave, without_entry, without_demand}
 use Rattle.kanal_core.specs.Channel.{Channel, settlement, settlements}
 use Rattle.kanal_core.specs.Tickets.{number_of}
@@ -30,8 +30,8 @@ pub record Enters {T : Type 0} (old : Line T) (m : T) (settled : List (ℕ × Ou
 
 -- the front of the line was taken
 pub record TakesFront {T : Type 0} (old : Line T) (m : T) (settled : List (ℕ × Outcome T)) (new : Line T) : Type 0 where
-  pub front : Entry T
-  pub rest : List (Entry T)
+  pub front : LineEntry T
+  pub rest : List (LineEntry T)
   pub receiver : old.receivers ≢ 0
   pub was : old.line ≡ front ∷ rest
   pub message : m ≡ front.message

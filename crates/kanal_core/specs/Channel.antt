@@ -7,7 +7,7 @@ use Rattle.kanal_core.specs.declared.internal.outcome.Outcome.{Outcome}
 use Rattle.kanal_core.specs.declared.internal.outcome.Outcome.TheVariants.{Taken, Ended}
 use Rattle.kanal_core.specs.declared.internal.outcome.Settled.{Settled}
 use Rattle.kanal_core.specs.declared.internal.outcome.Waiter.{Waiter}
-use Rattle.kanal_core.specs.Line.{Entry, Line, bare, waiting}
+use Rattle.kanal_core.specs.Line.{LineEntry, Line, bare, waiting}
 use Rattle.kanal_core.specs.Waiters.{receiver_first, sender_first}
 
 -- the buffer from front to back, those that wait from the oldest on, and the counts
@@ -26,7 +26,7 @@ unserved (Some m) t = None
 
 module _ {T W : Type 0} where
   -- a waiting sender's place in the line
-  abbrev pub entry_of : Waiter T W → Option (Entry T)
+  abbrev pub entry_of : Waiter T W → Option (LineEntry T)
   entry_of w = option_map (λ m. waiting m w.ticket.number) w.message
 
   -- a waiting receiver's demand

@@ -3,14 +3,14 @@ use Rattle.std.specs.Prelude.{ℕ, ◌≤◌, ◌==◌, nat_lt, filter, Bool, tr
 use Rattle.std.specs.List.{filter_map, list_any}
 
 -- a message in the line, with the ticket of the send that waits with it
-pub record Entry (T : Type 0) : Type 0 where
+pub record LineEntry (T : Type 0) : Type 0 where
   pub message : T
   pub ticket : Option ℕ
 
 -- a capacity of None is no limit; the demands are the tickets of the receives that wait
 pub record Line (T : Type 0) : Type 0 where
   pub capacity : Option ℕ
-  pub line : List (Entry T)
+  pub line : List (LineEntry T)
   pub demands : List ℕ
   pub senders : ℕ
   pub receivers : ℕ
@@ -72,27 +72,27 @@ is_ticket t (Some u) = u == t
 
 module _ {T : Type 0} where
   -- an entry that waits for nothing
-  abbrev pub bare : T → Entry T
+  abbrev pub bare : T → LineEntry T
   bare m = record { message = m; ticket = None }
 
   -- an entry whose send waits with ticket t
-  abbrev pub waiting : T → ℕ → Entry T
+  abbrev pub waiting : T → ℕ → LineEntry T
   waiting m t = record { message = m; ticket = Some t }
 
   -- the messages of the entries, in order
-  abbrev pub messages : List (Entry T) → List T
+  abbrev pub messages : List (LineEntry T) → List T
   messages line = map (λ e. e.message) line
 
   -- the tickets that wait in the line, in order
-  abbrev pub tickets : List (Entry T) → List ℕ
+  abbrev pub tickets : List (LineEntry T) → List ℕ
   tickets line = filter_map (λ e. e.ticket) line
 
   -- the entry waits with ticket t
-  abbrev pub holds_ticket : ℕ → Entry T → Bool
+  abbrev pub holds_ticket : ℕ → LineEntry T → Bool
   holds_ticket t e = is_ticket t e.ticket
 
   -- the messages of the entries that wait with ticket t
-  abbrev pub found : ℕ → List (Entry T) → List T
+  abbrev pub found : ℕ → List (LineEntry T) → List T
   found t line = messages (filter (holds_ticket t) line)
 
   -- a message may enter: a demand waits, or the line is shorter than the capacity

@@ -6,7 +6,7 @@ use Rattle.kanal_core.specs.declared.internal.outcome.Reason.{Reason}
 use Rattle.kanal_core.specs.declared.internal.outcome.Reason.TheVariants.{Closed as ByClose, SendClosed, ReceiveClosed}
 use Rattle.kanal_core.specs.declared.internal.outcome.Outcome.{Outcome}
 use Rattle.kanal_core.specs.declared.internal.outcome.Outcome.TheVariants.{Taken, Given, Ended}
-use Rattle.kanal_core.specs.Line.{Entry, Line, under, over, bare, waiting, messages, tickets, holds_ticket}
+use Rattle.kanal_core.specs.Line.{LineEntry, Line, under, over, bare, waiting, messages, tickets, holds_ticket}
 
 -- the largest count of a side's handles
 abbrev pub last_count : ℕ
@@ -29,7 +29,7 @@ module _ {T : Type 0} where
   -- Serving: while a message and a demand are there, the front goes to the first demand.
   -- One side of a channel's line is always empty, so only an entering message is ever served here. Moves go by the
   -- tickets in the entries; that a send waits by its place is a law, `tickets_follow_places` of `kanal_journal::laws`.
-  abbrev pub serve : Line T → List (Entry T) → List ℕ → Moved T
+  abbrev pub serve : Line T → List (LineEntry T) → List ℕ → Moved T
   serve old line [] = quiet (record old { line = line; demands = [] })
   serve old [] (d ∷ ds) = quiet (record old { line = []; demands = d ∷ ds })
   serve old (e ∷ es) (d ∷ ds) = let rest = serve old es ds in record rest { settled = (d, Given e.message) ∷ rest.settled }
@@ -39,15 +39,15 @@ module _ {T : Type 0} where
   enter old m = serve old (old.line ++ bare m ∷ []) old.demands
 
   -- the entries whose place is below the capacity wait no more
-  abbrev pub seated : Option ℕ → List (Entry T) → List (Entry T)
+  abbrev pub seated : Option ℕ → List (LineEntry T) → List (LineEntry T)
   seated capacity line = map (λ e. bare e.message) (under capacity line) ++ over capacity line
 
   -- the sends that waited with these entries are settled as taken
-  abbrev pub taken : List (Entry T) → List (ℕ × Outcome T)
+  abbrev pub taken : List (LineEntry T) → List (ℕ × Outcome T)
   taken entries = map (λ t. (t, Taken)) (tickets entries)
 
   -- Leaving: some entries leave from the front; they, and those whose place falls below the capacity, wait no more.
-  abbrev pub leave : Line T → List (Entry T) → List (Entry T) → Moved T
+  abbrev pub leave : Line T → List (LineEntry T) → List (LineEntry T) → Moved T
   leave old gone rest = record { line = record old { line = seated old.capacity rest }; settled = taken (gone ++ under old.capacity rest) }
 
   -- Draining: the whole line leaves.
@@ -71,7 +71,7 @@ module _ {T : Type 0} where
   without_demand old t = record old { demands = filter (λ u. not (u == t)) old.demands }
 
   -- the end of a send that waits, with its message
-  abbrev pub ended_entry : Reason → Entry T → Option (ℕ × Outcome T)
+  abbrev pub ended_entry : Reason → LineEntry T → Option (ℕ × Outcome T)
   ended_entry reason e = option_map (λ t. (t, Ended reason (Some e.message))) e.ticket
 
   -- Ending: each ticket that waits ends, with its message if it has one.

@@ -41,6 +41,6 @@ module _ {T W : Type 0} where
   LeaveTried old (Err back) new = new ≡ old
 
   -- behind those that waited stands the call, with its message and what it brought; or nobody came, and that is back
-  abbrev pub Comes : List (Waiter T W) → Event T → W → Kept W → List (Waiter T W) → Type 0
-  Comes old event w (Waiting ticket) new = new ≡ old ++ record { ticket = ticket; message = message_of event; w = w } ∷ []
-  Comes old event w (Back back) new = (back ≡ w) × (new ≡ old)
+  abbrev pub WaitPost : List (Waiter T W) → Event T → W → Kept W → List (Waiter T W) → Type 0
+  WaitPost old event w (Waiting ticket) new = new ≡ old ++ record { ticket = ticket; message = message_of event; w = w } ∷ []
+  WaitPost old event w (Back back) new = (back ≡ w) × (new ≡ old)

@@ -1,7 +1,7 @@
 -- What one event does to the line, and what it tells.
 use Rattle.std.specs.Prelude.{◌≡◌, ◌≢◌, ℕ, ◌==◌, Bool, true, false, ◌&&◌, cond, List, [], ◌∷◌, length, Option, Some, None, ◌⊎◌}
 use Rattle.kanal_core.specs.declared.internal.outcome.Outcome.{Outcome}
-use Rattle.kanal_core.specs.Line.{Entry, Line, last_word, is_at, is_bounded, capacity_word, messages, has_place, buffered, has, found}
+use Rattle.kanal_core.specs.Line.{LineEntry, Line, last_word, is_at, is_bounded, capacity_word, messages, has_place, buffered, has, found}
 use Rattle.kanal_core.specs.Moves.{Moved, last_count, enter, leave, drain, close, cleared, wait_send, wait_recv, without_entry, without_demand, add_sender, add_receiver, drop_sender, drop_receiver, seal}
 use Rattle.kanal_events.specs.declared.event.Side.{Side}
 use Rattle.kanal_events.specs.declared.event.Side.TheVariants.{Tx, Rx}
@@ -43,7 +43,7 @@ module _ {T : Type 0} where
       )
 
   -- the front is taken if there is one, or the call goes on in its own way
-  abbrev pub take_front : Line T → List (Entry T) → Told T → Told T
+  abbrev pub take_front : Line T → List (LineEntry T) → Told T → Told T
   take_front old [] otherwise = otherwise
   take_front old (e ∷ es) otherwise = moving (leave old (e ∷ []) es) (Got e.message)
 

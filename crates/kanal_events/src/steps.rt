@@ -11,7 +11,7 @@ ghost use Rattle.kanal_core.specs.Waiters.{IsPlaced, waiter_of, without};
 ghost use Rattle.kanal_core.specs.Calls.{IsFull, IsEmpty};
 ghost use Rattle.kanal_events.specs.Steps.{Tells, answer as answer_of, is_no_memory, only};
 ghost use Rattle.kanal_events.specs.Given.{Gives, GivesNone};
-ghost use Rattle.kanal_events.specs.Leaving.{Comes, Leave, LeaveTried, gone_of};
+ghost use Rattle.kanal_events.specs.Leaving.{WaitPost, Leave, LeaveTried, gone_of};
 ghost use Rattle.kanal_events.specs.StepResult.{Keeps, MustWait, Tries, drained_of, entered, got, is_drained, is_plain, may_wait, not_waiting, reply_of, told_of, withdrawn};
 
 use crate::event::{Ask, Event, Refusal, Reply, Side};
@@ -186,7 +186,7 @@ fn wait_send<T: Drop, W: Drop>(
         (only (line_of core.new) result.0) }
     ensures kept { Keeps result.0 result.1 }
     ensures tickets { Gives result.1 core.old core.new }
-    ensures comes { Comes core.old.waiters (Event.Send message) w result.1 core.new.waiters }
+    ensures comes { WaitPost core.old.waiters (Event.Send message) w result.1 core.new.waiters }
 {
     match core.wait_send(message, w) {
         Ok(ticket) => (Reply::Waits(ticket.number()), Kept::Ticket(ticket)),
@@ -206,7 +206,7 @@ fn wait_recv<T: Drop, W: Drop>(core: &mut ChannelInternal<T, W>, w: W) -> (Reply
     ensures told { Tells (line_of core.old) Event.Recv (only (line_of core.new) result.0) }
     ensures kept { Keeps result.0 result.1 }
     ensures tickets { Gives result.1 core.old core.new }
-    ensures comes { Comes core.old.waiters Event.Recv w result.1 core.new.waiters }
+    ensures comes { WaitPost core.old.waiters Event.Recv w result.1 core.new.waiters }
 {
     match core.wait_recv(w) {
         Ok(ticket) => (Reply::Waits(ticket.number()), Kept::Ticket(ticket)),
@@ -230,7 +230,7 @@ pub fn wait<T: Drop, W: Drop>(
     ensures told { Tells (line_of core.old) event (only (line_of core.new) result.0) }
     ensures kept { Keeps result.0 result.1 }
     ensures tickets { Gives result.1 core.old core.new }
-    ensures comes { Comes core.old.waiters event w result.1 core.new.waiters }
+    ensures comes { WaitPost core.old.waiters event w result.1 core.new.waiters }
 {
     match event {
         Event::Send(message) => wait_send(core, message, w),

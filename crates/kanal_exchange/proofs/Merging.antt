@@ -3,7 +3,7 @@ use Rattle.std.proofs.Common.{◌≡◌, ◌+◌, ℕ, suc, Bool, true, false, c
 use mathlib.Core.List.{IsPrefix}
 use Rattle.std.proofs.Math.Seq.{take-length}
 use Rattle.std.proofs.lemmas.Bool.{cases_Bool}
-use Rattle.kanal_log.specs.Views.{Known, IsAmong, AreApart, OwnsAllButQuiet}
+use Rattle.kanal_log.specs.Views.{Known, IsAmong, AreDisjoint, OwnsAllButQuiet}
 use Rattle.kanal_log.proofs.Places.{among-cases, among-left, among-right}
 use Rattle.kanal_journal.specs.Paired.{History, Demand, sent, asked, cleared_by, kept, receipts, receipts_from, send_stays, demand_stays, without_last, ArePaired, Paired}
 use Rattle.kanal_state.specs.declared.call.Call.{Call}
@@ -63,7 +63,7 @@ merge-map f (Second m) = Second (merge-map f m)
 
 module _ {E X : Type 0} (f : E → List X) where
   -- what is read of all is a merge of what is read at the places of the two, where the third reads nothing and all else is silent
-  pub read-merged : (calm : E → Type 0) → ((e : E) → calm e → f e ≡ []) → (one two other : List ℕ) (n : ℕ) (xs : List E) → AreCovered calm (other ++ (two ++ one)) n xs → AreApart one two → AreApart one other → AreApart two other → read_at f other n xs ≡ []
+  pub read-merged : (calm : E → Type 0) → ((e : E) → calm e → f e ≡ []) → (one two other : List ℕ) (n : ℕ) (xs : List E) → AreCovered calm (other ++ (two ++ one)) n xs → AreDisjoint one two → AreDisjoint one other → AreDisjoint two other → read_at f other n xs ≡ []
       → IsMerge (read_all f xs) (read_at f one n xs) (read_at f two n xs)
   read-merged calm quiet one two other n [] all ab ac bc none = Neither
   read-merged calm quiet one two other n (x ∷ xs) all ab ac bc none =
@@ -122,7 +122,7 @@ turned k xs ys zs a =
 module _ {T : Type 0} where
   -- three passes beside whom nobody put or got: what the third got, if that is as much as the two put, is a merge of what they put
   pub merged : (capacity : Option ℕ) (one two other : Known (Call T)) (log : List (Call T)) (first second got : List T) → Tells first [] one → Tells second [] two → Tells [] got other → IsPrefix one.log log → IsPrefix two.log log → IsPrefix other.log log
-      → AreApart one.own two.own → AreApart one.own other.own → AreApart two.own other.own → IsLegal capacity log → OwnsAllButQuiet (λ (c : Call T). IsSilent c.event) log (other.own ++ (two.own ++ one.own)) → length got ≡ length first + length second → IsMerge got first second
+      → AreDisjoint one.own two.own → AreDisjoint one.own other.own → AreDisjoint two.own other.own → IsLegal capacity log → OwnsAllButQuiet (λ (c : Call T). IsSilent c.event) log (other.own ++ (two.own ++ one.own)) → length got ≡ length first + length second → IsMerge got first second
   merged capacity one two other log first second got s1 s2 r seen1 seen2 heard ab ac bc legal owns count =
       let all = owned_covered capacity log (other.own ++ (two.own ++ one.own)) legal owns in
       let waits : WaitsAsSettled log = waits_as_settled capacity log legal in
@@ -131,9 +131,9 @@ module _ {T : Type 0} where
       let ss1 : List (T × Option ℕ) = read_at sent_in one.own 0 one.log in
       let ss2 : List (T × Option ℕ) = read_at sent_in two.own 0 two.log in
       let ds : List (Demand T) = read_at asked_in other.own 0 other.log in
-      let ba : AreApart two.own one.own = λ k b a. ab k a b in
-      let ca : AreApart other.own one.own = λ k c a. ac k a c in
-      let cb : AreApart other.own two.own = λ k c b. bc k b c in
+      let ba : AreDisjoint two.own one.own = λ k b a. ab k a b in
+      let ca : AreDisjoint other.own one.own = λ k c a. ac k a c in
+      let cb : AreDisjoint other.own two.own = λ k c b. bc k b c in
       let turn : AreCovered ExchangesNothing (one.own ++ (two.own ++ other.own)) 0 log = covered-more ExchangesNothing (other.own ++ (two.own ++ one.own)) (one.own ++ (two.own ++ other.own)) 0 log (λ k a. turned k other.own two.own one.own a) all in
       let sends = read-merged sent_in ExchangesNothing (λ c q. q.sends) one.own two.own other.own 0 log all ab ac bc (read-longer sent_in other.own other.log log r.below heard ∙ put_none other.log (read_at sent_in other.own 0 other.log) r.puts) in
       let asks = merge-nothing (read-merged asked_in ExchangesNothing (λ c q. q.asks) other.own two.own one.own 0 log turn cb ca ba (read-longer asked_in one.own one.log log s1.below seen1 ∙ got_none one.log (read_at asked_in one.own 0 one.log) s1.gets)) (read-longer asked_in two.own two.log log s2.below seen2 ∙ got_none two.log (read_at asked_in two.own 0 two.log) s2.gets) in

@@ -4,7 +4,7 @@ use Rattle.std.proofs.lemmas.List.{append-nil}
 use Rattle.std.proofs.lemmas.Bool.{cases_Bool}
 use Rattle.std.proofs.lemmas.Bool.Decides.{Decides-eqb}
 use mathlib.Core.List.{IsPrefix}
-use Rattle.kanal_log.specs.Views.{IsAmong, AreApart, AreBelow}
+use Rattle.kanal_log.specs.Views.{IsAmong, AreDisjoint, AreBelow}
 use Rattle.kanal_log.proofs.Places.{among-cases, among-left, among-right}
 use Rattle.kanal_exchange.specs.Readings.{is_at, read_at}
 
@@ -79,7 +79,7 @@ module _ {E X : Type 0} (f : E → List X) where
       a ∙ (ap (λ zs. zs ++ read_at f (length before ∷ own) (0 + length before) (call ∷ [])) (b ∙ c) ∙ ap (λ zs. read_at f own 0 old ++ zs) (rw here (append-nil (f call))))
 
   -- where each entry at the places of neither is silent, and nothing is read at those of one, all is read at those of the other
-  pub read-whole : (quiet : E → Type 0) → ((e : E) → quiet e → f e ≡ []) → (mine theirs : List ℕ) (n : ℕ) (xs : List E) → AreCovered quiet (theirs ++ mine) n xs → AreApart mine theirs → read_at f theirs n xs ≡ [] → read_all f xs ≡ read_at f mine n xs
+  pub read-whole : (quiet : E → Type 0) → ((e : E) → quiet e → f e ≡ []) → (mine theirs : List ℕ) (n : ℕ) (xs : List E) → AreCovered quiet (theirs ++ mine) n xs → AreDisjoint mine theirs → read_at f theirs n xs ≡ [] → read_all f xs ≡ read_at f mine n xs
   read-whole quiet none-read mine theirs n [] all apart none = refl
   read-whole quiet none-read mine theirs n (x ∷ xs) all apart none =
       let front : cond (is_at n theirs) (f x) [] ≡ [] = left-nil (cond (is_at n theirs) (f x) []) (read_at f theirs (suc n) xs) none in

@@ -4,7 +4,7 @@ use mathlib.Core.List.{IsPrefix}
 use Rattle.std.proofs.lemmas.Option.{none-some}
 use Rattle.std.proofs.Math.Seq.{take-length}
 use Rattle.std.proofs.lemmas.List.Sums.{sum_by-append}
-use Rattle.kanal_log.specs.Views.{Known, IsAmong, AreApart, AreBelow, OwnsAllButQuiet}
+use Rattle.kanal_log.specs.Views.{Known, IsAmong, AreDisjoint, AreBelow, OwnsAllButQuiet}
 use Rattle.kanal_log.proofs.Readers.{prefix_length, prefix_trans}
 use Rattle.kanal_core.specs.Line.{Line}
 use Rattle.kanal_events.specs.Steps.{step}
@@ -16,7 +16,7 @@ use Rattle.kanal_journal.specs.Paired.{History, Demand, history_from, along, sen
 use Rattle.kanal_state.specs.declared.call.Call.{Call}
 use Rattle.kanal_state.specs.Calls.{IsSilent}
 use Rattle.kanal_one_history.specs.Calls.{AreTold, IsLegal, with_calls, history_of}
-use Rattle.kanal_one_history.specs.History.{Makes}
+use Rattle.kanal_one_history.specs.History.{Appends}
 use Rattle.kanal_one_history.specs.Puts.{AreGot, ArePut, Exchanges, ExchangesNothing, HasMade, WaitsAsSettled}
 use Rattle.kanal_one_history.proofs.Exchanging.{got_longer, got_more, got_none, got_received, put_kept, put_longer, put_more, put_none}
 use Rattle.kanal_one_history.proofs.Pairing.{legal-paired}
@@ -28,7 +28,7 @@ use Rattle.kanal_exchange.proofs.Places.{AreCovered, among-swap, covered-all, co
 
 module _ {T : Type 0} where
   -- what one call adds to what is read
-  own-more : {X : Type 0} (f : Call T → List X) (capacity : Option ℕ) (old new : Known (Call T)) (call : Call T) → AreBelow (length old.log) old.own → Makes capacity old new call → read_at f new.own 0 new.log ≡ read_at f old.own 0 old.log ++ f call
+  own-more : {X : Type 0} (f : Call T → List X) (capacity : Option ℕ) (old new : Known (Call T)) (call : Call T) → AreBelow (length old.log) old.own → Appends capacity old new call → read_at f new.own 0 new.log ≡ read_at f old.own 0 old.log ++ f call
   own-more f capacity old new call below m =
       (ap (λ (own : List ℕ). read_at f own 0 new.log) m.own ∙ ap (λ (log : List (Call T)). read_at f (length m.before ∷ old.own) 0 log) m.last) ∙ read-call f old.own old.log m.before call below m.seen
 
@@ -47,10 +47,10 @@ module _ {T : Type 0} where
   made-more : {X : Type 0} (f : Call T → List X) (capacity : Option ℕ) (old new : Known (Call T)) (call : Call T) → AreBelow (length old.log) old.own → (m : HasMade capacity old new call) → AreBelow (length m.mid.log) m.mid.own
       → read_at f new.own 0 new.log ≡ read_at f old.own 0 old.log ++ f call
   made-more f capacity old new call below m here =
-      ap (λ (own : List ℕ). read_at f own 0 new.log) m.looks.own ∙ (read-longer f m.mid.own m.mid.log new.log here m.looks.seen ∙ own-more f capacity old m.mid call below m.made)
+      ap (λ (own : List ℕ). read_at f own 0 new.log) m.extends.own ∙ (read-longer f m.mid.own m.mid.log new.log here m.extends.seen ∙ own-more f capacity old m.mid call below m.made)
 
   -- the places stay below what the pass has seen
-  made-below : (capacity : Option ℕ) (old mid : Known (Call T)) (call : Call T) → AreBelow (length old.log) old.own → Makes capacity old mid call → AreBelow (length mid.log) mid.own
+  made-below : (capacity : Option ℕ) (old mid : Known (Call T)) (call : Call T) → AreBelow (length old.log) old.own → Appends capacity old mid call → AreBelow (length mid.log) mid.own
   made-below capacity old mid call below m k among =
       let among' : IsAmong k (length m.before ∷ old.own) = subst (λ (own : List ℕ). IsAmong k own) m.own among in
       let long : length mid.log ≡ length m.before + 1 = ap length m.last ∙ length-append m.before (call ∷ []) in
@@ -60,7 +60,7 @@ module _ {T : Type 0} where
   made-seen : (capacity : Option ℕ) (old new : Known (Call T)) (call : Call T) → HasMade capacity old new call → IsPrefix old.log new.log
   made-seen capacity old new call m =
       let here : IsPrefix m.made.before m.mid.log = (call ∷ [], sym m.made.last) in
-      prefix_trans old.log m.mid.log new.log (prefix_trans old.log m.made.before m.mid.log m.made.seen here) m.looks.seen
+      prefix_trans old.log m.mid.log new.log (prefix_trans old.log m.made.before m.mid.log m.made.seen here) m.extends.seen
 
   -- what one call adds to the tale
   pub tells_more : (capacity : Option ℕ) (put got more_put more_got : List T) (old new : Known (Call T)) → Tells put got old → Exchanges capacity old new more_put more_got
@@ -70,17 +70,17 @@ module _ {T : Type 0} where
       let m = x.made in
       let seen = made-seen capacity old new call m in
       let here = made-below capacity old m.mid call t.below m.made in
-      let long = prefix_length m.mid.log new.log m.looks.seen in
+      let long = prefix_length m.mid.log new.log m.extends.seen in
       let puts = made-more sent_in capacity old new call t.below m here in
       let gets = made-more asked_in capacity old new call t.below m here in
       let clears = made-more cleared_in capacity old new call t.below m here in (
         record {
-          below = λ k among. let b = here k (subst (λ (own : List ℕ). IsAmong k own) m.looks.own among) in omega arith;
+          below = λ k among. let b = here k (subst (λ (own : List ℕ). IsAmong k own) m.extends.own among) in omega arith;
           puts = subst (λ ss. ArePut new.log ss (put ++ more_put)) (sym puts) (put_more new.log (read_at sent_in old.own 0 old.log) put (sent_in call) more_put (put_longer old.log new.log seen (read_at sent_in old.own 0 old.log) put t.puts) x.puts);
           gets = subst (λ ds. AreGot new.log ds (got ++ more_got)) (sym gets) (got_more new.log (read_at asked_in old.own 0 old.log) got (asked_in call) more_got (got_longer old.log new.log seen (read_at asked_in old.own 0 old.log) got t.gets) x.gets);
           clears = clears ∙ (ap (λ xs. xs ++ cleared_in call) t.clears ∙ cleared-none call x.clears);
         },
-        m.looks.share ∙ m.made.share,
+        m.extends.share ∙ m.made.share,
       )
 
   -- who has seen more, and has no other calls, tells the same
@@ -148,7 +148,7 @@ module _ {T : Type 0} where
 
   -- what is read at the places of one alone is read of all
   whole-one : {X : Type 0} (f : Call T → List X) → ((c : Call T) → ExchangesNothing c → f c ≡ []) → (one other : Known (Call T)) (log : List (Call T)) → AreBelow (length one.log) one.own → AreBelow (length other.log) other.own → IsPrefix one.log log → IsPrefix other.log log
-      → AreApart one.own other.own → AreCovered ExchangesNothing (other.own ++ one.own) 0 log → read_at f other.own 0 other.log ≡ [] → read_all f log ≡ read_at f one.own 0 one.log
+      → AreDisjoint one.own other.own → AreCovered ExchangesNothing (other.own ++ one.own) 0 log → read_at f other.own 0 other.log ≡ [] → read_all f log ≡ read_at f one.own 0 one.log
   whole-one f quiet one other log below below' seen heard apart all none =
       read-whole f ExchangesNothing quiet one.own other.own 0 log all apart (read-longer f other.own other.log log below' heard ∙ none) ∙ read-longer f one.own one.log log below seen
 
@@ -170,13 +170,13 @@ module _ {T : Type 0} where
 
   -- two passes beside whom nobody put or got: what the one got is what the other put first
   pub exchanged : (capacity : Option ℕ) (one other : Known (Call T)) (log : List (Call T)) (put got : List T) → Tells put [] one → Tells [] got other → IsPrefix one.log log → IsPrefix other.log log
-      → AreApart one.own other.own → IsLegal capacity log → OwnsAllButQuiet (λ (c : Call T). IsSilent c.event) log (other.own ++ one.own) → got ≡ take (length got) put
+      → AreDisjoint one.own other.own → IsLegal capacity log → OwnsAllButQuiet (λ (c : Call T). IsSilent c.event) log (other.own ++ one.own) → got ≡ take (length got) put
   exchanged capacity one other log put got s r seen heard apart legal owns =
       let all = owned_covered capacity log (other.own ++ one.own) legal owns in
       let waits : WaitsAsSettled log = waits_as_settled capacity log legal in
       let paired : Paired (history_of log) = legal-paired capacity log legal in
       let all' : AreCovered ExchangesNothing (one.own ++ other.own) 0 log = covered-more ExchangesNothing (other.own ++ one.own) (one.own ++ other.own) 0 log (among-swap other.own one.own) all in
-      let apart' : AreApart other.own one.own = λ k a b. apart k b a in
+      let apart' : AreDisjoint other.own one.own = λ k a b. apart k b a in
       let h : History T = history_of log in
       let ss : List (T × Option ℕ) = read_at sent_in one.own 0 one.log in
       let ds : List (Demand T) = read_at asked_in other.own 0 other.log in

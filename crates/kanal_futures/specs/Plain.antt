@@ -11,7 +11,7 @@ message_of (Some begun) = Some begun.1
 
 -- a pass is left after an answer, and this holds of it
 abbrev pub HasAnswered : {P : Type 0} → Option P → (P → Type 0) → Type 0
-HasAnswered left says = MatchOption left ⊥ says
+HasAnswered pending says = MatchOption pending ⊥ says
 
 module _ {T H M A P B S C O : Type 0} where
   -- what the pass was at first, and what is asked, of a future that has not answered

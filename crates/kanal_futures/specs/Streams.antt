@@ -2,7 +2,7 @@
 use Rattle.std.specs.Prelude.{◌≡◌, ℕ, Bool, Option, Some, Result, Err, MatchOption, is_some}
 use Rattle.kanal_core.specs.declared.error.ReceiveError.{ReceiveError}
 use Rattle.kanal_state.specs.Handles.{Receives}
-use Rattle.kanal_state.specs.Words.{Words}
+use Rattle.kanal_state.specs.HistoryRelations.{HistoryRelations}
 use Rattle.kanal_futures.specs.declared.stream.ReceiveStream.{ReceiveStream}
 use Rattle.kanal_futures.specs.Futures.{call_begun, call_source, call_waits}
 use Rattle.kanal_futures.specs.Tasks.{passes}
@@ -30,7 +30,7 @@ module _ {T H P B S C : Type 0} where
 
 module _ {T P : Type 0} where
   -- a receive by the pass that was there before has this answer, and the pass that is there after made it
-  pub record HasReceived (w : Words T P) (before after : Option P) (answer : Result T ReceiveError) : Type 0 where
+  pub record HasReceived (w : HistoryRelations T P) (before after : Option P) (answer : Result T ReceiveError) : Type 0 where
     pub old : P
     pub new : P
     pub from : before ≡ Some old
@@ -38,5 +38,5 @@ module _ {T P : Type 0} where
     pub receives : Receives w old new answer
 
   -- a receive by the pass that was there before was refused so
-  abbrev pub HasEnded : Words T P → Option P → Option P → Option ReceiveError → Type 0
-  HasEnded w before after fault = MatchOption fault ⊥ (λ error. HasReceived w before after (Err error))
+  abbrev pub StreamRefused : HistoryRelations T P → Option P → Option P → Option ReceiveError → Type 0
+  StreamRefused w before after fault = MatchOption fault ⊥ (λ error. HasReceived w before after (Err error))

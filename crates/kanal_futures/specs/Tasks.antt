@@ -1,7 +1,7 @@
 -- Where a call in a task is, what it began with, and what is left of a poll.
 use Rattle.std.specs.Prelude.{◌≡◌, ℕ, Bool, true, false, Option, Some, None}
 use Rattle.kanal_channel.specs.Locks.{IsQuiet}
-use Rattle.kanal_futures.specs.declared.operation.Opening.{Opening}
+use Rattle.kanal_futures.specs.declared.operation.GhostStart.{GhostStart}
 use Rattle.kanal_futures.specs.declared.progress.Progress.{Progress}
 use Rattle.kanal_futures.specs.declared.progress.Progress.TheVariants.{Zero, Waiting, Done}
 use Rattle.kanal_futures.specs.declared.progress.Rest.{Rest}
@@ -9,7 +9,7 @@ use Rattle.kanal_futures.specs.declared.progress.Rest.TheVariants.{Held, Refused
 use Rattle.kanal_futures.specs.declared.wakers.Wakers.{Wakers}
 
 -- the pass as it was, and what was asked
-abbrev pub opened : {P M : Type 0} → Opening P M → P × M
+abbrev pub opened : {P M : Type 0} → GhostStart P M → P × M
 opened opening = (opening.pass.value, opening.asked.value)
 
 -- what the pass was at first
@@ -53,7 +53,7 @@ module _ {T H M A P B S C O : Type 0} where
   begun_with Begun state = begun_by state
 
   -- a call that was taken out is in the rest alone, and one that was not taken out was made
-  abbrev pub Fits : Rest T H M P B S C → Progress T H M A P B S C O → Type 0
-  Fits (Held locked pass asked) state = (begun_by state ≡ None) × IsQuiet locked
-  Fits (Refused pass asked) state = begun_by state ≡ None
-  Fits Begun state = is_fresh state ≡ false
+  abbrev pub RestMatches : Rest T H M P B S C → Progress T H M A P B S C O → Type 0
+  RestMatches (Held locked pass asked) state = (begun_by state ≡ None) × IsQuiet locked
+  RestMatches (Refused pass asked) state = begun_by state ≡ None
+  RestMatches Begun state = is_fresh state ≡ false

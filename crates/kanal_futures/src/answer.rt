@@ -4,38 +4,38 @@
 ghost use Rattle.std.specs.Prelude.{◌≡◌};
 ghost use Rattle.kanal_futures.specs.Answers.{Answers};
 
-use crate::operation::{Asks, Opening};
+use crate::operation::{Asks, GhostStart};
 use kanal_state::History;
 use std::marker::Model;
 
 /// What a call in a task came to: the answer, and the pass. Contracts see what the pass was at first, what was
 /// asked, the pass, and the answer.
 #[derive(Drop)]
-pub struct Answered<T, H: History<T>, M, A: Asks<T, M>> {
-    opening: Opening<H::Pass, M>,
+pub struct TaskAnswer<T, H: History<T>, M, A: Asks<T, M>> {
+    opening: GhostStart<H::Pass, M>,
     pass: H::Pass,
     answer: A::Answer,
 }
 
-impl<T, H: History<T>, M, A: Asks<T, M>> Model for Answered<T, H, M, A> {
+impl<T, H: History<T>, M, A: Asks<T, M>> Model for TaskAnswer<T, H, M, A> {
     ghost use Rattle.kanal_futures.specs.Answers.{Answers};
 
     ghost Value = { H.Pass × M × H.Pass × A.Answer };
 
     ghost view = { λ a. (a.opening.pass.value, a.opening.asked.value, a.pass, a.answer) };
 
-    ghost invariant = { λ a. Answers H.words (A.event a.opening.asked.value) A.read A.ended
+    ghost invariant = { λ a. Answers H.relations (A.event a.opening.asked.value) A.read A.ended
         a.opening.pass.value a.pass a.answer };
 }
 
-impl<T: Drop, H: History<T>, M: Drop, A: Asks<T, M>> Answered<T, H, M, A> {
+impl<T: Drop, H: History<T>, M: Drop, A: Asks<T, M>> TaskAnswer<T, H, M, A> {
     /// An answer, with the pass and what it was at first.
-    pub(crate) fn new(opening: Opening<H::Pass, M>, pass: H::Pass, answer: A::Answer) -> Self
-        requires made { Answers H.words (A.event opening.asked.value) A.read A.ended
+    pub(crate) fn new(opening: GhostStart<H::Pass, M>, pass: H::Pass, answer: A::Answer) -> Self
+        requires made { Answers H.relations (A.event opening.asked.value) A.read A.ended
             opening.pass.value pass answer }
         ensures { result ≡ (opening.pass.value, opening.asked.value, pass, answer) }
     {
-        Answered {
+        TaskAnswer {
             opening,
             pass,
             answer,
@@ -44,11 +44,11 @@ impl<T: Drop, H: History<T>, M: Drop, A: Asks<T, M>> Answered<T, H, M, A> {
 
     /// The pass, and the answer.
     pub(crate) fn apart(self) -> (H::Pass, A::Answer)
-        ensures made { Answers H.words (A.event self.1) A.read A.ended self.0 result.0 result.1 }
+        ensures made { Answers H.relations (A.event self.1) A.read A.ended self.0 result.0 result.1 }
         ensures pass { result.0 ≡ self.2 }
         ensures answer { result.1 ≡ self.3 }
     {
-        let Answered {
+        let TaskAnswer {
             opening,
             pass,
             answer,

@@ -7,11 +7,11 @@ ghost use Rattle.std.specs.Option.{is_none};
 ghost use Rattle.futures.specs.Task.{Covers, Keeps};
 ghost use Rattle.futures.specs.Poll.{IfReady, OnPending};
 ghost use Rattle.kanal_channel.specs.Locks.{IsQuiet};
-ghost use Rattle.kanal_futures.specs.Tasks.{Fits, begun_with, is_fresh, passes};
+ghost use Rattle.kanal_futures.specs.Tasks.{RestMatches, begun_with, is_fresh, passes};
 ghost use Rattle.kanal_futures.specs.Futures.{IsPoll, IsPolled, call_begun, call_kept, call_source, call_waits};
 
-use crate::answer::Answered;
-use crate::operation::{Asks, Opening};
+use crate::answer::TaskAnswer;
+use crate::operation::{Asks, GhostStart};
 use crate::progress::{Progress, Rest};
 use crate::started::Started;
 use crate::wakers::Wakers;
@@ -114,11 +114,11 @@ impl<'a, T: Drop, H: History<T>, M: Drop, A: Asks<T, M>> TaskCall<'a, T, H, M, A
 
     /// Makes the call where it goes by itself: it was not made yet, the lock is free, and there is no notice.
     #[inline]
-    pub(crate) fn at_once(&mut self) -> Result<Answered<T, H, M, A>, Rest<'a, T, H, M>>
+    pub(crate) fn at_once(&mut self) -> Result<TaskAnswer<T, H, M, A>, Rest<'a, T, H, M>>
         ensures begun { IfOk result (λ x. call_begun self.old ≡ Some (x.0, x.1)) }
         ensures ends { IfOk result (λ _. call_begun self.new ≡ None) }
         ensures rest { IfErr result (λ rest. begun_with rest self.new.state ≡ call_begun self.old) }
-        ensures fits { IfErr result (λ rest. Fits rest self.new.state) }
+        ensures fits { IfErr result (λ rest. RestMatches rest self.new.state) }
         ensures idle { IfErr result (λ _. call_begun self.old ≡ None → self.new.state ≡ self.old.state) }
         ensures source { call_source self.new ≡ call_source self.old }
     {
@@ -131,19 +131,24 @@ impl<'a, T: Drop, H: History<T>, M: Drop, A: Asks<T, M>> TaskCall<'a, T, H, M, A
         if !self.shared.is_quiet() {
             return Err(Rest::Held(locked, pass, asked));
         }
-        let opening = Opening::of(&pass, &asked);
+        let opening = GhostStart::of(&pass, &asked);
         let mut pass = pass;
         match A::at_once(&mut locked, self.shared.log(), &mut pass, asked) {
             Ok(answer) => {
                 locked.unlock_quiet();
-                Ok(Answered::new(opening, pass, answer))
+                Ok(TaskAnswer::new(opening, pass, answer))
             },
             Err(asked) => Err(Rest::Held(locked, pass, asked)),
         }
     }
 
     /// Makes the call later, since another holds the lock.
-    fn retry(&mut self, pass: H::Pass, asked: M, cx: &mut Context<'_>) -> Poll<Answered<T, H, M, A>>
+    fn retry(
+        &mut self,
+        pass: H::Pass,
+        asked: M,
+        cx: &mut Context<'_>,
+    ) -> Poll<TaskAnswer<T, H, M, A>>
         requires over { call_begun self.old ≡ None }
         ensures pending { result ≡ Poll.Pending }
         ensures goes_on { call_begun self.new ≡ Some (pass, asked) }
@@ -165,7 +170,7 @@ impl<'a, T: Drop, H: History<T>, M: Drop, A: Asks<T, M>> TaskCall<'a, T, H, M, A
         pass: H::Pass,
         asked: M,
         cx: &mut Context<'_>,
-    ) -> Poll<Answered<T, H, M, A>>
+    ) -> Poll<TaskAnswer<T, H, M, A>>
         requires over { call_begun self.old ≡ None }
         requires quiet { IsQuiet locked }
         ensures polled { IsPolled (pass, asked) cx.old cx.new self.old self.new result }
@@ -185,7 +190,7 @@ impl<'a, T: Drop, H: History<T>, M: Drop, A: Asks<T, M>> TaskCall<'a, T, H, M, A
         pass: H::Pass,
         asked: M,
         cx: &mut Context<'_>,
-    ) -> Poll<Answered<T, H, M, A>>
+    ) -> Poll<TaskAnswer<T, H, M, A>>
         requires over { call_begun self.old ≡ None }
         ensures polled { IsPolled (pass, asked) cx.old cx.new self.old self.new result }
     {
@@ -202,7 +207,7 @@ impl<'a, T: Drop, H: History<T>, M: Drop, A: Asks<T, M>> TaskCall<'a, T, H, M, A
         pass: H::Pass,
         asked: M,
         cx: &mut Context<'_>,
-    ) -> Poll<Answered<T, H, M, A>>
+    ) -> Poll<TaskAnswer<T, H, M, A>>
         requires over { call_begun self.old ≡ None }
         requires quiet { IsQuiet locked }
         ensures polled { IsPolled (pass, asked) cx.old cx.new self.old self.new result }
@@ -210,7 +215,7 @@ impl<'a, T: Drop, H: History<T>, M: Drop, A: Asks<T, M>> TaskCall<'a, T, H, M, A
         let begun = self.wakers.begin(self.shared, locked, pass, asked, cx);
         match begun {
             Ok((opening, pass, reply)) => {
-                Poll::Ready(Answered::new(opening, pass, A::by(reply)))
+                Poll::Ready(TaskAnswer::new(opening, pass, A::by(reply)))
             },
             Err(started) => {
                 self.state = Progress::Waiting(started);
@@ -225,13 +230,13 @@ impl<'a, T: Drop, H: History<T>, M: Drop, A: Asks<T, M>> TaskCall<'a, T, H, M, A
         &mut self,
         started: Started<T, H, M, A>,
         cx: &mut Context<'_>,
-    ) -> Poll<Answered<T, H, M, A>>
+    ) -> Poll<TaskAnswer<T, H, M, A>>
         requires over { call_begun self.old ≡ None }
         ensures polled { IsPolled started cx.old cx.new self.old self.new result }
     {
         match started.look(&mut self.wakers, self.shared, cx) {
             Ok((opening, pass, outcome)) => {
-                Poll::Ready(Answered::new(opening, pass, A::after(outcome)))
+                Poll::Ready(TaskAnswer::new(opening, pass, A::after(outcome)))
             },
             Err(waiting) => {
                 self.state = Progress::Waiting(waiting);
@@ -246,8 +251,8 @@ impl<'a, T: Drop, H: History<T>, M: Drop, A: Asks<T, M>> TaskCall<'a, T, H, M, A
         &mut self,
         rest: Rest<'a, T, H, M>,
         cx: &mut Context<'_>,
-    ) -> Poll<Option<Answered<T, H, M, A>>>
-        requires fits { Fits rest self.old.state }
+    ) -> Poll<Option<TaskAnswer<T, H, M, A>>>
+        requires fits { RestMatches rest self.old.state }
         ensures begun { IfReady result (λ r. IfSome r (λ x. begun_with rest.entry self.old.state
             ≡ Some (x.0, x.1))) }
         ensures answered { IfReady result (λ r. IfNone r (begun_with rest.entry self.old.state ≡ None)) }
@@ -270,7 +275,7 @@ impl<'a, T: Drop, H: History<T>, M: Drop, A: Asks<T, M>> TaskCall<'a, T, H, M, A
     }
 
     /// Goes on with a call that was made.
-    fn look(&mut self, cx: &mut Context<'_>) -> Poll<Option<Answered<T, H, M, A>>>
+    fn look(&mut self, cx: &mut Context<'_>) -> Poll<Option<TaskAnswer<T, H, M, A>>>
         requires made { is_fresh self.old.state ≡ false }
         ensures begun { IfReady result (λ r. IfSome r (λ x. call_begun self.old ≡ Some (x.0, x.1))) }
         ensures answered { IfReady result (λ r. IfNone r (call_begun self.old ≡ None)) }
@@ -291,7 +296,7 @@ impl<'a, T: Drop, H: History<T>, M: Drop, A: Asks<T, M>> TaskCall<'a, T, H, M, A
 }
 
 impl<T: Drop, H: History<T>, M: Drop, A: Asks<T, M>> Future for TaskCall<'_, T, H, M, A> {
-    type Output = Option<Answered<T, H, M, A>>;
+    type Output = Option<TaskAnswer<T, H, M, A>>;
 
     ghost use Rattle.std.specs.Prelude.{MatchOption};
 
@@ -308,7 +313,7 @@ impl<T: Drop, H: History<T>, M: Drop, A: Asks<T, M>> Future for TaskCall<'_, T, 
     /// task.poll(&mut sending)   answers  Ready(Some(sent))   in a channel with a place
     /// task.poll(&mut sending)   answers  Ready(None)         after that
     /// ```
-    fn poll(&mut self, cx: &mut Context<'_>) -> Poll<Option<Answered<T, H, M, A>>>
+    fn poll(&mut self, cx: &mut Context<'_>) -> Poll<Option<TaskAnswer<T, H, M, A>>>
         ensures value { IfReady result (λ r. MatchOption r (call_begun self.old ≡ None)
             (λ x. call_begun self.old ≡ Some (x.0, x.1))) }
         ensures again { OnPending result ⊤ }

@@ -12,7 +12,7 @@
 
 mod answer;
 mod call;
-mod earlier;
+mod ghost_value;
 mod operation;
 mod plain;
 mod progress;
@@ -22,6 +22,6 @@ mod started;
 mod stream;
 mod wakers;
 
-pub use receiving::{ReceiveFuture, Received, Receiving, receive_future, recv_in_task};
-pub use sending::{SendFuture, Sending, Sent, send_future, send_in_task};
+pub use receiving::{ReceiveAnswer, ReceiveFuture, Receiving, receive_future, recv_in_task};
+pub use sending::{SendAnswer, SendFuture, Sending, send_future, send_in_task};
 pub use stream::{ReceiveStream, receive_stream};

@@ -9,7 +9,7 @@ ghost use Rattle.kanal_events.specs.StepResult.{may_wait};
 ghost use Rattle.kanal_channel.specs.Locks.{IsQuiet};
 ghost use Rattle.kanal_futures.specs.Answers.{Answers};
 
-use crate::earlier::Earlier;
+use crate::ghost_value::GhostValue;
 use kanal_channel::Locked;
 use kanal_core::internal::Outcome;
 use kanal_events::event::{Event, Reply};
@@ -48,7 +48,7 @@ pub trait Asks<T, M> {
     where
         T: Drop,
         ensures made { IfOk result (λ answer.
-            Answers H.words (event asked) read ended pass.old pass.new answer) }
+            Answers H.relations (event asked) read ended pass.old pass.new answer) }
         ensures refused { IfErr result (λ back. (back ≡ asked) × (pass.new ≡ pass.old)) }
         ensures quiet { IsQuiet locked.old → IsQuiet locked.new };
 
@@ -71,20 +71,20 @@ pub trait Asks<T, M> {
 
 /// What a call in a task began with, for proofs alone: the pass as it was, and what was asked.
 #[derive(Drop)]
-pub(crate) struct Opening<P, M> {
-    pub(crate) pass: Earlier<P>,
-    pub(crate) asked: Earlier<M>,
+pub(crate) struct GhostStart<P, M> {
+    pub(crate) pass: GhostValue<P>,
+    pub(crate) asked: GhostValue<M>,
 }
 
-impl<P, M> Opening<P, M> {
+impl<P, M> GhostStart<P, M> {
     /// Of a call of this pass that asks this.
     pub(crate) fn of(pass: &P, asked: &M) -> Self
         ensures pass { result.pass.value ≡ pass.now }
         ensures asked { result.asked.value ≡ asked.now }
     {
-        Opening {
-            pass: Earlier::of(pass),
-            asked: Earlier::of(asked),
+        GhostStart {
+            pass: GhostValue::of(pass),
+            asked: GhostValue::of(asked),
         }
     }
 }

@@ -9,9 +9,9 @@ ghost use Rattle.futures.specs.Poll.{IfReady, OnPending};
 ghost use Rattle.kanal_futures.specs.Answers.{Answers};
 ghost use Rattle.kanal_futures.specs.Futures.{call_begun};
 ghost use Rattle.kanal_futures.specs.Plain.{HasAnswered, call_of, future_source, is_over, left_of};
-ghost use Rattle.kanal_futures.specs.Tasks.{Fits, begun_with};
+ghost use Rattle.kanal_futures.specs.Tasks.{RestMatches, begun_with};
 
-use crate::answer::Answered;
+use crate::answer::TaskAnswer;
 use crate::call::TaskCall;
 use crate::operation::Asks;
 use crate::progress::Rest;
@@ -39,10 +39,10 @@ impl<'a, T: Drop, H: History<T>, M: Drop, A: Asks<T, M>> PlainFuture<'a, T, H, M
 
     /// Keeps the pass of an answer.
     #[inline]
-    fn keep(&mut self, answered: Answered<T, H, M, A>) -> A::Answer
+    fn keep(&mut self, answered: TaskAnswer<T, H, M, A>) -> A::Answer
         requires over { is_over self.old ≡ true }
-        ensures made { Answers H.words (A.event answered.1) A.read A.ended answered.0 answered.2 result }
-        ensures left { left_of self.new ≡ Some answered.2 }
+        ensures made { Answers H.relations (A.event answered.1) A.read A.ended answered.0 answered.2 result }
+        ensures pending { left_of self.new ≡ Some answered.2 }
         ensures ends { is_over self.new ≡ true }
         ensures source { future_source self.new ≡ future_source self.old }
     {
@@ -54,10 +54,10 @@ impl<'a, T: Drop, H: History<T>, M: Drop, A: Asks<T, M>> PlainFuture<'a, T, H, M
     /// Goes on with a poll that did not answer at once.
     #[cold]
     fn go_on(&mut self, rest: Rest<'a, T, H, M>, cx: &mut Context<'_>) -> Poll<A::Answer>
-        requires fits { Fits rest self.old.call.state }
+        requires fits { RestMatches rest self.old.call.state }
         ensures made { IfReady result (λ r. IfSome (begun_with rest.entry self.old.call.state) (λ begun.
             HasAnswered (left_of self.new) (λ new.
-            Answers H.words (A.event begun.1) A.read A.ended begun.0 new r))) }
+            Answers H.relations (A.event begun.1) A.read A.ended begun.0 new r))) }
         ensures stays { OnPending result (call_of self.new ≡ begun_with rest.entry self.old.call.state) }
         ensures over { is_none (begun_with rest.entry self.old.call.state) ≡ true
             → (result ≡ Poll.Ready A.finished)
@@ -99,7 +99,7 @@ impl<T: Drop, H: History<T>, M: Drop, A: Asks<T, M>> Future for PlainFuture<'_, 
         ensures kept { Keeps cx.old cx.new }
         ensures made { IfReady result (λ r. IfSome (call_of self.old) (λ call.
             HasAnswered (left_of self.new) (λ new.
-            Answers H.words (A.event call.1) A.read A.ended call.0 new r))) }
+            Answers H.relations (A.event call.1) A.read A.ended call.0 new r))) }
         ensures stays { OnPending result (call_of self.new ≡ call_of self.old) }
         ensures over { is_over self.old ≡ true → (result ≡ Poll.Ready A.finished)
             × (is_over self.new ≡ true) × (left_of self.new ≡ left_of self.old) }

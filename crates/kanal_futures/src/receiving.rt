@@ -12,7 +12,7 @@ ghost use Rattle.kanal_futures.specs.Answers.{Answers};
 ghost use Rattle.kanal_futures.specs.Futures.{call_begun};
 ghost use Rattle.kanal_futures.specs.Plain.{is_over};
 
-use crate::answer::Answered;
+use crate::answer::TaskAnswer;
 use crate::call::TaskCall;
 use crate::operation::Asks;
 use crate::plain::PlainFuture;
@@ -56,7 +56,7 @@ impl<T> Asks<T, ()> for OfReceive {
     where
         T: Drop,
         ensures made { IfOk result (λ answer.
-            Answers H.words Recv received_by received_after pass.old pass.new answer) }
+            Answers H.relations Recv received_by received_after pass.old pass.new answer) }
         ensures refused { IfErr result (λ back. (back ≡ _asked) × (pass.new ≡ pass.old)) }
         ensures quiet { IsQuiet locked.old → IsQuiet locked.new }
     {
@@ -93,9 +93,9 @@ impl<T> Asks<T, ()> for OfReceive {
 
 /// What a receive in a task came to: the answer, and the pass. Contracts see what the pass was at first, what
 /// was asked, which is nothing, the pass, and the answer.
-pub type Received<T, H> = Answered<T, H, (), OfReceive>;
+pub type ReceiveAnswer<T, H> = TaskAnswer<T, H, (), OfReceive>;
 
-impl<T: Drop, H: History<T>> Received<T, H> {
+impl<T: Drop, H: History<T>> ReceiveAnswer<T, H> {
     /// The pass, and the answer.
     ///
     /// # Examples
@@ -104,7 +104,7 @@ impl<T: Drop, H: History<T>> Received<T, H> {
     /// answer   is  Ok(7)   where 7 was sent
     /// ```
     pub fn into_parts(self) -> (H::Pass, Result<T, ReceiveError>)
-        ensures received { Receives H.words self.0 result.0 result.1 }
+        ensures received { Receives H.relations self.0 result.0 result.1 }
         ensures got { IfOk result.1 (λ message. H.exchanges self.0 result.0 [] (message ∷ [])) }
         ensures pass { result.0 ≡ self.2 }
         ensures answer { result.1 ≡ self.3 }

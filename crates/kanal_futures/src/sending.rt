@@ -12,7 +12,7 @@ ghost use Rattle.kanal_futures.specs.Answers.{Answers};
 ghost use Rattle.kanal_futures.specs.Futures.{call_begun};
 ghost use Rattle.kanal_futures.specs.Plain.{message_in};
 
-use crate::answer::Answered;
+use crate::answer::TaskAnswer;
 use crate::call::TaskCall;
 use crate::operation::Asks;
 use crate::plain::PlainFuture;
@@ -56,7 +56,7 @@ impl<T> Asks<T, T> for OfSend {
     where
         T: Drop,
         ensures made { IfOk result (λ answer.
-            Answers H.words (Send asked) sent_by sent_after pass.old pass.new answer) }
+            Answers H.relations (Send asked) sent_by sent_after pass.old pass.new answer) }
         ensures refused { IfErr result (λ back. (back ≡ asked) × (pass.new ≡ pass.old)) }
         ensures quiet { IsQuiet locked.old → IsQuiet locked.new }
     {
@@ -91,9 +91,9 @@ impl<T> Asks<T, T> for OfSend {
 
 /// What a send in a task came to: the answer, and the pass. Contracts see what the pass was at first, the
 /// message, the pass, and the answer.
-pub type Sent<T, H> = Answered<T, H, T, OfSend>;
+pub type SendAnswer<T, H> = TaskAnswer<T, H, T, OfSend>;
 
-impl<T: Drop, H: History<T>> Sent<T, H> {
+impl<T: Drop, H: History<T>> SendAnswer<T, H> {
     /// The pass, and the answer.
     ///
     /// # Examples
@@ -102,7 +102,7 @@ impl<T: Drop, H: History<T>> Sent<T, H> {
     /// answer   is  Ok(())   in a channel with a place
     /// ```
     pub fn into_parts(self) -> (H::Pass, Result<(), SendError>)
-        ensures sent { Sends H.words self.0 result.0 self.1 result.1 }
+        ensures sent { Sends H.relations self.0 result.0 self.1 result.1 }
         ensures put { IfOk result.1 (λ _. H.exchanges self.0 result.0 (self.1 ∷ []) []) }
         ensures pass { result.0 ≡ self.2 }
         ensures answer { result.1 ≡ self.3 }

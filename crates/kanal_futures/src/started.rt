@@ -12,7 +12,7 @@ ghost use Rattle.kanal_state.specs.Waits.{IsWaiting};
 ghost use Rattle.kanal_channel.specs.Locks.{IsQuiet};
 ghost use Rattle.kanal_futures.specs.Tasks.{opened, source_of};
 
-use crate::operation::{Asks, Opening};
+use crate::operation::{Asks, GhostStart};
 use crate::wakers::Wakers;
 use futures::task::{Context, Poll};
 use kanal_cell::signal::WaitEnd;
@@ -24,14 +24,14 @@ use std::marker::{Model, PhantomData};
 
 /// A call that was answered at once: what it began with, the pass, and the reply.
 pub(crate) type Replied<T, H, M> = (
-    Opening<<H as History<T>>::Pass, M>,
+    GhostStart<<H as History<T>>::Pass, M>,
     <H as History<T>>::Pass,
     Reply<T>,
 );
 
 /// A wait that was settled: what the call began with, the pass, and what became of the wait.
 pub(crate) type Settled<T, H, M> = (
-    Opening<<H as History<T>>::Pass, M>,
+    GhostStart<<H as History<T>>::Pass, M>,
     <H as History<T>>::Pass,
     Outcome<T>,
 );
@@ -39,7 +39,7 @@ pub(crate) type Settled<T, H, M> = (
 /// A wait that was started, with the pass whose call it is. Contracts see what the pass was at first, and what
 /// was asked. Only `look` and `leave` let it go.
 pub(crate) struct Started<T, H: History<T>, M, A: Asks<T, M>> {
-    opening: Opening<H::Pass, M>,
+    opening: GhostStart<H::Pass, M>,
     pass: H::Pass,
     counted: CountedWait,
     end: WaitEnd<WaitResult<T, H>>,
@@ -56,19 +56,19 @@ impl<T, H: History<T>, M, A: Asks<T, M>> Model for Started<T, H, M, A> {
     ghost view = { λ s. (s.opening.pass.value, s.opening.asked.value) };
 
     ghost invariant = { λ s. HasNotLeft (wait_view s.end)
-        × IsWaiting H.words s.opening.pass.value s.pass (A.event s.opening.asked.value) s.counted };
+        × IsWaiting H.relations s.opening.pass.value s.pass (A.event s.opening.asked.value) s.counted };
 }
 
 impl<T: Drop, H: History<T>, M: Drop, A: Asks<T, M>> Started<T, H, M, A> {
     /// The wait of a call that waits.
     fn new(
-        opening: Opening<H::Pass, M>,
+        opening: GhostStart<H::Pass, M>,
         pass: H::Pass,
         counted: CountedWait,
         end: WaitEnd<WaitResult<T, H>>,
     ) -> Self
         requires unspent { HasNotLeft (wait_view end) }
-        requires waits { IsWaiting H.words opening.pass.value pass (A.event opening.asked.value) counted }
+        requires waits { IsWaiting H.relations opening.pass.value pass (A.event opening.asked.value) counted }
         ensures { result ≡ opened opening }
     {
         Started {
@@ -96,7 +96,7 @@ impl<T: Drop, H: History<T>, M: Drop, A: Asks<T, M>> Started<T, H, M, A> {
     /// wait goes on.
     fn finish(self, log: &H::Log, delivered: WaitResult<T, H>) -> Result<Settled<T, H, M>, Self>
         ensures begun { IfOk result (λ r. opened r.0 ≡ self) }
-        ensures waited { IfOk result (λ r. HasWaited H.words self.0 r.1 (A.event self.1) r.2) }
+        ensures waited { IfOk result (λ r. HasWaited H.relations self.0 r.1 (A.event self.1) r.2) }
         ensures lost { IfErr result (λ started. started ≡ self) }
     {
         let Started {
@@ -130,7 +130,7 @@ impl<T: Drop, H: History<T>, M: Drop, A: Asks<T, M>> Started<T, H, M, A> {
         cx: &mut Context<'_>,
     ) -> Result<Settled<T, H, M>, Self>
         ensures begun { IfOk result (λ r. opened r.0 ≡ self) }
-        ensures waited { IfOk result (λ r. HasWaited H.words self.0 r.1 (A.event self.1) r.2) }
+        ensures waited { IfOk result (λ r. HasWaited H.relations self.0 r.1 (A.event self.1) r.2) }
         ensures goes_on { IfErr result (λ started. started ≡ self) }
         ensures registered { IfErr result (λ _. Covers cx.new (λ s. s ≡ source_of wakers.new)) }
         ensures kept { Keeps cx.old cx.new }
@@ -194,12 +194,12 @@ impl Wakers {
     ) -> Result<Replied<T, H, M>, Started<T, H, M, A>>
         requires quiet { IsQuiet locked }
         ensures begun { IfOk result (λ r. opened r.0 ≡ (pass, asked)) }
-        ensures replied { IfOk result (λ r. HasReplied H.words pass r.1 (A.event asked) r.2) }
+        ensures replied { IfOk result (λ r. HasReplied H.relations pass r.1 (A.event asked) r.2) }
         ensures waits { IfErr result (λ s. s ≡ (pass, asked)) }
         ensures registered { IfErr result (λ _. Covers cx.new (λ s. s ≡ source_of self.now)) }
         ensures kept { Keeps cx.old cx.new }
     {
-        let opening = Opening::of(&pass, &asked);
+        let opening = GhostStart::of(&pass, &asked);
         let mut pass = pass;
         match self.begin_held(shared, locked, &mut pass, A::into_event(asked), cx) {
             Ok((counted, end)) => Err(Started::new(opening, pass, counted, end)),
@@ -222,9 +222,9 @@ impl Wakers {
     ) -> Result<(CountedWait, WaitEnd<WaitResult<T, H>>), Reply<T>>
         requires waits { may_wait event ≡ true }
         requires quiet { IsQuiet locked }
-        ensures begun { IfOk result (λ begun. IsWaiting H.words pass.old pass.new event begun.0) }
+        ensures begun { IfOk result (λ begun. IsWaiting H.relations pass.old pass.new event begun.0) }
         ensures unspent { IfOk result (λ begun. HasNotLeft (wait_view begun.1)) }
-        ensures replied { IfErr result (HasReplied H.words pass.old pass.new event) }
+        ensures replied { IfErr result (HasReplied H.relations pass.old pass.new event) }
         ensures registered { IfOk result (λ _. Covers cx.new (λ s. s ≡ source_of self.now)) }
         ensures kept { Keeps cx.old cx.new }
     {

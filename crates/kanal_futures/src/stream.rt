@@ -9,14 +9,14 @@ ghost use Rattle.futures.specs.Runs.{After, Within};
 ghost use Rattle.kanal_state.specs.Handles.{AsksForTheEnd, Receives};
 ghost use Rattle.kanal_futures.specs.Futures.{call_begun};
 ghost use Rattle.kanal_futures.specs.Plain.{HasAnswered};
-ghost use Rattle.kanal_futures.specs.Streams.{HasEnded, HasReceived, stream_fault, stream_is_over, stream_pass, stream_source, stream_waits};
+ghost use Rattle.kanal_futures.specs.Streams.{StreamRefused, HasReceived, stream_fault, stream_is_over, stream_pass, stream_source, stream_waits};
 
-use crate::receiving::{Received, Receiving, recv_in_task};
+use crate::receiving::{ReceiveAnswer, Receiving, recv_in_task};
 use futures::task::{Context, Poll};
 use futures::{Future, Stream};
 use kanal_channel::Shared;
 use kanal_core::error::ReceiveError;
-use kanal_state::{Caller, History, NoHistory};
+use kanal_state::{CallContext, History, NoHistory};
 use std::fmt;
 
 /// The messages of a receiver, as `AsyncReceiver::stream` answers them.
@@ -80,11 +80,11 @@ impl<T: Drop, H: History<T>> ReceiveStream<'_, T, H> {
     }
 
     /// Takes an answer: the next receive begins by its pass, and a refusal ends the stream.
-    fn take(&mut self, received: Received<T, H>) -> Option<T>
+    fn take(&mut self, received: ReceiveAnswer<T, H>) -> Option<T>
         requires over { call_begun self.old.receiving ≡ None }
-        ensures received { IfSome result (λ m. Receives H.words received.0 received.2 (Ok m)) }
+        ensures received { IfSome result (λ m. Receives H.relations received.0 received.2 (Ok m)) }
         ensures refused { IfNone result (HasAnswered (stream_fault self.new) (λ error.
-            Receives H.words received.0 received.2 (Err error))) }
+            Receives H.relations received.0 received.2 (Err error))) }
         ensures pass { stream_pass self.new ≡ Some received.2 }
         ensures ends { IfNone result (stream_is_over self.new ≡ true) }
         ensures goes_on { IfSome result (λ _. stream_fault self.new ≡ stream_fault self.old) }
@@ -109,14 +109,14 @@ impl<T: Drop, H: History<T>> ReceiveStream<'_, T, H> {
     /// ```text
     /// stream.is_terminated(&rt)   answers  true   after `None`
     /// ```
-    pub fn is_terminated<R: Caller<H::Pass>>(&self, rt: R) -> bool
+    pub fn is_terminated<R: CallContext<H::Pass>>(&self, rt: R) -> bool
         ensures ended { stream_is_over self.now ≡ true → (result ≡ true) × (R.after rt ≡ R.before rt) }
         ensures waiting { stream_is_over self.now ≡ false → stream_waits self.now ≡ true
             → (result ≡ false) × (R.after rt ≡ R.before rt) }
         ensures asked { stream_is_over self.now ≡ false → stream_waits self.now ≡ false
-            → AsksForTheEnd H.words (R.before rt) (R.after rt) result }
+            → AsksForTheEnd H.relations (R.before rt) (R.after rt) result }
     {
-        let (rt, mut pass, end) = rt.begin();
+        let (rt, mut pass, end) = rt.enter();
         let answer = if self.fault.is_some() {
             true
         } else if self.receiving.is_waiting() {
@@ -124,7 +124,7 @@ impl<T: Drop, H: History<T>> ReceiveStream<'_, T, H> {
         } else {
             self.receiving.shared().is_terminated(&rt, &mut pass)
         };
-        R::end(end, pass);
+        R::exit(end, pass);
         answer
     }
 }
@@ -151,10 +151,10 @@ impl<T: Drop, H: History<T>> Stream for ReceiveStream<'_, T, H> {
         ensures registered { OnPending result (Covers cx.new (λ s. s ≡ stream_source self.new)) }
         ensures kept { Keeps cx.old cx.new }
         ensures received { IfReady result (λ o. IfSome o (λ m.
-            HasReceived H.words (stream_pass self.old) (stream_pass self.new) (Ok m))) }
+            HasReceived H.relations (stream_pass self.old) (stream_pass self.new) (Ok m))) }
         ensures refused { IfReady result (λ o. IfNone o (IsSome (stream_pass self.old)
             → stream_is_over self.old ≡ false
-            → HasEnded H.words (stream_pass self.old) (stream_pass self.new) (stream_fault self.new))) }
+            → StreamRefused H.relations (stream_pass self.old) (stream_pass self.new) (stream_fault self.new))) }
         ensures over { stream_is_over self.old ≡ true → (result ≡ Poll.Ready None)
             × (stream_fault self.new ≡ stream_fault self.old) × (stream_pass self.new ≡ stream_pass self.old) }
         ensures ends { IfReady result (λ o. IfNone o (stream_is_over self.new ≡ true)) }

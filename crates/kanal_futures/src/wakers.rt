@@ -78,12 +78,12 @@ impl Wakers {
     fn swap<T: Drop, H: History<T>>(&mut self, shared: &Shared<T, H>, ticket: Ticket) -> bool
         ensures source { self.new.source.id ≡ self.old.source.id }
     {
-        let Some((mut locked, left)) = shared.try_lock() else {
+        let Some((mut locked, pending)) = shared.try_lock() else {
             return false;
         };
         let waits = locked.state.renew(ticket, &mut self.spare);
         let released = locked.unlock();
-        shared.tell_left(left, &released);
+        shared.tell_pending(pending, &released);
         shared.drain_notices();
         waits
     }

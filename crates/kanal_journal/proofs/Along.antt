@@ -4,7 +4,7 @@ use Rattle.std.proofs.lemmas.Bool.{cases_lt, false≢true, lt-ltb}
 use Rattle.std.proofs.lemmas.List.{take_all, take-take}
 use Rattle.std.proofs.Math.ListN.{length-take}
 use Rattle.std.proofs.Math.Seq.{take-append_seam, drop-append_seam}
-use Rattle.kanal_core.specs.Line.{Line, Entry, messages}
+use Rattle.kanal_core.specs.Line.{Line, LineEntry, messages}
 use Rattle.kanal_events.specs.declared.event.Event.{Event}
 use Rattle.kanal_events.specs.declared.event.Reply.{Reply}
 use Rattle.kanal_journal.specs.declared.journal.report.Settlement.{Settlement}
@@ -177,7 +177,7 @@ module _ {T : Type 0} where
   drop-beyond (suc n) [] h = refl
   drop-beyond (suc n) (x ∷ xs) h = drop-beyond n xs (omega arith)
 
-  rest-is : (served : List T) (line : List (Entry T)) (ds : List ℕ) → (line ≡ []) ⊎ (ds ≡ []) → messages line ≡ drop (length served + length ds) (served ++ messages line)
+  rest-is : (served : List T) (line : List (LineEntry T)) (ds : List ℕ) → (line ≡ []) ⊎ (ds ≡ []) → messages line ≡ drop (length served + length ds) (served ++ messages line)
   rest-is served line ds (inl empty) =
       let short : length (served ++ messages {T = T} []) ≤ length served + length ds = omega (arith, length-append served (messages {T = T} [])) in
       rw empty (sym (drop-beyond (length served + length ds) (served ++ []) short))

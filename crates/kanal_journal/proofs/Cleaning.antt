@@ -2,7 +2,7 @@
 use Rattle.std.proofs.Common.{◌≡◌, ℕ, ◌≤◌, ◌<◌, ◌⊎◌, Bool, true, false, not, ◌==◌, ◌||◌, List, [], ◌∷◌, ◌++◌, length, filter, Option, Some, None, refl, sym, ap, ◌∙◌, subst, inl, inr, arith, append-nil, append_assoc}
 use Rattle.std.proofs.lemmas.Bool.{cases_Bool, false≢true, eqb-true}
 use Rattle.kanal_core.specs.declared.internal.outcome.Outcome.TheVariants.{Given}
-use Rattle.kanal_core.specs.Line.{Entry, Line, bare, waiting, tickets, has, under, over, is_below, holds_ticket}
+use Rattle.kanal_core.specs.Line.{LineEntry, Line, bare, waiting, tickets, has, under, over, is_below, holds_ticket}
 use Rattle.kanal_core.specs.Moves.{seated, wait_send, wait_recv, without_entry, without_demand}
 use Rattle.kanal_events.specs.declared.event.Event.{Event}
 use Rattle.kanal_events.specs.declared.event.Event.TheVariants.{Withdraw}
@@ -124,7 +124,7 @@ module _ {T : Type 0} (l : Line T) (e : Event T) (r : Reply T) (one : (l.line �
             | inr y ↦ absurd (let k = rw (none, y) at h in false≢true k)
           ]
 
-  pub clean_take : (n : ℕ) (x : Entry T) (xs : List (Entry T)) → nexts (asked e r) ≡ 0 → l.line ≡ x ∷ xs → l.demands ≡ [] → Clean l e r (takes T n (tickets (x ∷ under l.capacity xs))) [] (record l { line = seated l.capacity xs })
+  pub clean_take : (n : ℕ) (x : LineEntry T) (xs : List (LineEntry T)) → nexts (asked e r) ≡ 0 → l.line ≡ x ∷ xs → l.demands ≡ [] → Clean l e r (takes T n (tickets (x ∷ under l.capacity xs))) [] (record l { line = seated l.capacity xs })
   clean_take n x xs a is d =
       let gone = x ∷ under l.capacity xs in
       let left = over l.capacity xs in

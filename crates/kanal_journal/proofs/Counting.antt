@@ -9,7 +9,7 @@ use Rattle.kanal_core.specs.declared.internal.outcome.Reason.{Reason}
 use Rattle.kanal_core.specs.declared.internal.outcome.Reason.TheVariants.{Closed as ByClose, SendClosed as NoSendersLeft, ReceiveClosed as NoReceiversLeft}
 use Rattle.kanal_core.specs.declared.internal.outcome.Outcome.{Outcome}
 use Rattle.kanal_core.specs.declared.internal.outcome.Outcome.TheVariants.{Taken, Ended}
-use Rattle.kanal_core.specs.Line.{Entry, Line, last_word, bare, waiting, tickets, has, under, over, messages, has_place, holds_ticket, found}
+use Rattle.kanal_core.specs.Line.{LineEntry, Line, last_word, bare, waiting, tickets, has, under, over, messages, has_place, holds_ticket, found}
 use Rattle.kanal_core.specs.Moves.{last_count, serve, enter, leave, drain, seated, ended, ended_entry, end_all, close, cleared, wait_send, wait_recv, without_demand, add_sender, add_receiver, seal}
 use Rattle.kanal_journal.specs.declared.journal.handles.Handles.{Handles}
 use Rattle.kanal_events.specs.declared.event.Event.{Event}
@@ -75,12 +75,12 @@ upto-ones zero = refl
 upto-ones (suc n) = omega (arith, upto-ones n)
 
 module _ {T : Type 0} where
-  fewer : (p : Entry T → Bool) (xs : List (Entry T)) → length (filter p xs) ≤ length xs
+  fewer : (p : LineEntry T → Bool) (xs : List (LineEntry T)) → length (filter p xs) ≤ length xs
   fewer p [] = omega arith
   fewer p (x ∷ xs) = elim (cases_Bool (p x)) [ inl e ↦ rw e (omega (arith, fewer p xs)) | inr e ↦ rw e (omega (arith, fewer p xs)) ]
 
   -- what ends has the tickets of the entries that wait
-  ended-entries : (reason : Reason) (xs : List (Entry T)) → tickets_of (filter_map (ended_entry reason) xs) ≡ tickets xs
+  ended-entries : (reason : Reason) (xs : List (LineEntry T)) → tickets_of (filter_map (ended_entry reason) xs) ≡ tickets xs
   ended-entries reason [] = refl
   ended-entries reason (x ∷ xs) = one x.ticket x.message (filter_map (ended_entry reason) xs) (tickets xs) (ended-entries reason xs)
     where
@@ -92,28 +92,28 @@ module _ {T : Type 0} where
   pub ended-tickets : (reason : Reason) (l : Line T) → tickets_of (ended reason l) ≡ waits l
   ended-tickets reason l = map-append (λ (s : ℕ × Outcome T). s.0) (filter_map (ended_entry reason) l.line) (map (λ t. (t, Ended reason None)) l.demands) ∙ rw (ended-entries reason l.line, ended-receives T reason l.demands) refl
 
-  serve-next : (old : Line T) (line : List (Entry T)) (ds : List ℕ) → (serve old line ds).line.next ≡ old.next
+  serve-next : (old : Line T) (line : List (LineEntry T)) (ds : List ℕ) → (serve old line ds).line.next ≡ old.next
   serve-next old line [] = refl
   serve-next old [] (d ∷ ds) = refl
   serve-next old (e ∷ es) (d ∷ ds) = serve-next old es ds
 
-  serve-long : (old : Line T) (line : List (Entry T)) (ds : List ℕ) → length (serve old line ds).line.line ≤ length line
+  serve-long : (old : Line T) (line : List (LineEntry T)) (ds : List ℕ) → length (serve old line ds).line.line ≤ length line
   serve-long old line [] = omega arith
   serve-long old [] (d ∷ ds) = omega arith
   serve-long old (e ∷ es) (d ∷ ds) = omega (arith, serve-long old es ds)
 
-  seated-long : (c : Option ℕ) (xs : List (Entry T)) → length (seated c xs) ≡ length xs
-  seated-long c xs = omega (arith, length-append (map (λ (e : Entry T). bare e.message) (under c xs)) (over c xs), length-map (under c xs) (λ (e : Entry T). bare e.message), length-append (under c xs) (over c xs), ap length (under-over c xs))
+  seated-long : (c : Option ℕ) (xs : List (LineEntry T)) → length (seated c xs) ≡ length xs
+  seated-long c xs = omega (arith, length-append (map (λ (e : LineEntry T). bare e.message) (under c xs)) (over c xs), length-map (under c xs) (λ (e : LineEntry T). bare e.message), length-append (under c xs) (over c xs), ap length (under-over c xs))
 
-  under-long : (c : Option ℕ) (xs : List (Entry T)) → length (under c xs) ≤ length xs
+  under-long : (c : Option ℕ) (xs : List (LineEntry T)) → length (under c xs) ≤ length xs
   under-long c xs = omega (arith, length-append (under c xs) (over c xs), ap length (under-over c xs))
 
   module _ (g : ℕ → ℕ) where
-    ticket-cons : (o : Option ℕ) (m : T) (xs : List (Entry T)) → weigh g (tickets xs) ≤ weigh g (tickets (record { message = m; ticket = o } ∷ xs))
+    ticket-cons : (o : Option ℕ) (m : T) (xs : List (LineEntry T)) → weigh g (tickets xs) ≤ weigh g (tickets (record { message = m; ticket = o } ∷ xs))
     ticket-cons None m xs = omega arith
     ticket-cons (Some t) m xs = omega arith
 
-    serve-weighs : (old : Line T) (line : List (Entry T)) (ds : List ℕ) → weigh g (tickets_of (serve old line ds).settled) + (weigh g (tickets (serve old line ds).line.line) + weigh g (serve old line ds).line.demands) ≤ weigh g (tickets line) + weigh g ds
+    serve-weighs : (old : Line T) (line : List (LineEntry T)) (ds : List ℕ) → weigh g (tickets_of (serve old line ds).settled) + (weigh g (tickets (serve old line ds).line.line) + weigh g (serve old line ds).line.demands) ≤ weigh g (tickets line) + weigh g ds
     serve-weighs old line [] = omega arith
     serve-weighs old [] (d ∷ ds) = omega arith
     serve-weighs old (e ∷ es) (d ∷ ds) = omega (arith, serve-weighs old es ds, ticket-cons e.ticket e.message es)
@@ -171,7 +171,7 @@ module _ {T : Type 0} where
                 ]
           ]
 
-      front : (e : Event T) (x : Entry T) (xs : List (Entry T)) (r : Reply T) → withdrawn e r ≡ [] → l.line ≡ x ∷ xs → Counts l e (moving (leave l (x ∷ []) xs) r)
+      front : (e : Event T) (x : LineEntry T) (xs : List (LineEntry T)) (r : Reply T) → withdrawn e r ≡ [] → l.line ≡ x ∷ xs → Counts l e (moving (leave l (x ∷ []) xs) r)
       front e x xs r w is =
           let c = l.capacity in
           let gone = (x ∷ []) ++ under c xs in
@@ -198,7 +198,7 @@ module _ {T : Type 0} where
             | inr x ↦ to e (take_told l otherwise) (take_front l l.line otherwise) (rw x refl) (go l.line refl)
           ]
         where
-          go : (xs : List (Entry T)) → l.line ≡ xs → Counts l e (take_front l xs otherwise)
+          go : (xs : List (LineEntry T)) → l.line ≡ xs → Counts l e (take_front l xs otherwise)
           go [] is = k
           go (x ∷ xs) is = front e x xs (Got x.message) (w (Got x.message)) is
 

@@ -2,7 +2,7 @@
 use Rattle.std.proofs.Common.{◌≡◌, ℕ, zero, suc, List, [], ◌∷◌, ◌++◌, length, map, filter, replicate, refl, sym, ap, ◌∙◌, inl, arith, append-nil}
 use Rattle.std.specs.List.{sum_by}
 use Rattle.std.proofs.Math.ListN.{length-map}
-use Rattle.kanal_core.specs.Line.{Entry, Line, bare, messages, tickets}
+use Rattle.kanal_core.specs.Line.{LineEntry, Line, bare, messages, tickets}
 use Rattle.kanal_events.specs.declared.event.Event.TheVariants.{Drain}
 use Rattle.kanal_events.specs.declared.event.Reply.{Reply}
 use Rattle.kanal_events.specs.declared.event.Reply.TheVariants.{Drained}
@@ -31,7 +31,7 @@ module _ {T : Type 0} where
   next-stays h (suc k) = ap (λ ys. Next ∷ ys) (next-stays h k)
 
   -- all entries are served
-  drained_move : (n : ℕ) (r : Reply T) (xs : List (Entry T)) → map (later (takes T n (tickets xs))) (filter (λ x. ticket_stays Drain r (takes T n (tickets xs)) x.ticket) xs) ≡ map bare (messages xs)
+  drained_move : (n : ℕ) (r : Reply T) (xs : List (LineEntry T)) → map (later (takes T n (tickets xs))) (filter (λ x. ticket_stays Drain r (takes T n (tickets xs)) x.ticket) xs) ≡ map bare (messages xs)
   drained_move n r xs = rw (all_stay T n Drain r refl (tickets xs) xs) (later_taken T n (tickets xs) xs (λ t g. g) ∙ sym (seated_all xs))
 
   module _ (h : History T) (l : Line T) (now : Holds h l) (n : ℕ) (none : l.demands ≡ []) where

@@ -7,7 +7,7 @@ use Rattle.kanal_core.specs.declared.internal.outcome.Outcome.TheVariants.{Given
 use Rattle.kanal_events.specs.declared.event.Reply.{Reply}
 use Rattle.kanal_events.specs.declared.event.Reply.TheVariants.{Waits, Withdrawn}
 use Rattle.kanal_journal.specs.declared.journal.report.Settlement.{Settlement}
-use Rattle.kanal_core.specs.Line.{Entry, Line, bare, waiting, tickets, has, under, holds_ticket}
+use Rattle.kanal_core.specs.Line.{LineEntry, Line, bare, waiting, tickets, has, under, holds_ticket}
 use Rattle.kanal_core.specs.Moves.{seated, taken}
 use Rattle.kanal_journal.specs.Runs.{numbered}
 use Rattle.kanal_journal.specs.Paired.{History, Demand, AtOnce, Later, sent, asked, withdrawn, given, is_gone}
@@ -44,7 +44,7 @@ module _ {T : Type 0} (h : History T) (l : Line T) (same : length h.events ≡ l
       }
 
   -- the front is taken
-  pub moves_take : (e : Event T) (r : Reply T) (n : ℕ) (x : Entry T) (xs : List (Entry T)) → sent e r ≡ [] → asked e r ≡ AtOnce x.message ∷ [] → withdrawn e r ≡ [] → l.line ≡ x ∷ xs → l.demands ≡ [] → AreApart (tickets l.line)
+  pub moves_take : (e : Event T) (r : Reply T) (n : ℕ) (x : LineEntry T) (xs : List (LineEntry T)) → sent e r ≡ [] → asked e r ≡ AtOnce x.message ∷ [] → withdrawn e r ≡ [] → l.line ≡ x ∷ xs → l.demands ≡ [] → AreApart (tickets l.line)
       → Moves h l e r (takes T n (tickets (x ∷ under l.capacity xs))) [] (record l { line = seated l.capacity xs })
   moves_take e r n x xs s a w is d apart =
       let parts : AreApart (tickets ((x ∷ []) ++ xs)) = rw is at apart in

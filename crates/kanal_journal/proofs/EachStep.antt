@@ -6,7 +6,7 @@ use Rattle.std.proofs.lemmas.Bool.{cases_Bool, false≢true, eqb-false, eqb-true
 use Rattle.std.proofs.lemmas.Bool.Decides.{nat_tests}
 use Rattle.kanal_core.specs.declared.internal.outcome.Reason.TheVariants.{SendClosed as NoSendersLeft, ReceiveClosed as NoReceiversLeft}
 use Rattle.kanal_core.specs.declared.internal.outcome.Outcome.TheVariants.{Given}
-use Rattle.kanal_core.specs.Line.{Entry, Line, last_word, bare, messages, tickets, has, is_below, has_place, found}
+use Rattle.kanal_core.specs.Line.{LineEntry, Line, last_word, bare, messages, tickets, has, is_below, has_place, found}
 use Rattle.kanal_core.specs.Moves.{Moved, last_count, raised, enter, leave, drain, end_all, close, cleared, wait_send, wait_recv, without_entry, without_demand}
 use Rattle.kanal_core.proofs.Sided.{serve-nothing}
 use Rattle.kanal_core.proofs.Within.{under-nothing}
@@ -102,7 +102,7 @@ module _ {T : Type 0} (h : History T) (l : Line T) (now : Holds h l) (n : ℕ) w
       ]
 
   -- the front is taken
-  takes_front : (e : Event T) (x : Entry T) (xs : List (Entry T)) → sent e (Got x.message) ≡ [] → asked e (Got x.message) ≡ AtOnce x.message ∷ [] → withdrawn e (Got x.message) ≡ [] → (l.receivers ≡ 0 → ⊥) → l.line ≡ x ∷ xs → After e (moving (leave l (x ∷ []) xs) (Got x.message))
+  takes_front : (e : Event T) (x : LineEntry T) (xs : List (LineEntry T)) → sent e (Got x.message) ≡ [] → asked e (Got x.message) ≡ AtOnce x.message ∷ [] → withdrawn e (Got x.message) ≡ [] → (l.receivers ≡ 0 → ⊥) → l.line ≡ x ∷ xs → After e (moving (leave l (x ∷ []) xs) (Got x.message))
   takes_front e x xs s a w some_receiver is =
       let none : l.demands ≡ [] = elim now.one [ inl k ↦ absurd (cc) | inr k ↦ k ] in
       let apart : AreApart (tickets l.line) = apart-prefix (tickets l.line) l.demands now.apart in
@@ -119,7 +119,7 @@ module _ {T : Type 0} (h : History T) (l : Line T) (now : Holds h l) (n : ℕ) w
         | inr x ↦ to e (take l otherwise) (take_front l l.line otherwise) (rw x refl) (go l.line refl (eqb-false l.receivers 0 x))
       ]
     where
-      go : (xs : List (Entry T)) → l.line ≡ xs → (l.receivers ≡ 0 → ⊥) → After e (take_front l xs otherwise)
+      go : (xs : List (LineEntry T)) → l.line ≡ xs → (l.receivers ≡ 0 → ⊥) → After e (take_front l xs otherwise)
       go [] is some_receiver = empty some_receiver is
       go (x ∷ xs) is some_receiver = takes_front e x xs (s x.message) (a x.message) (w x.message) some_receiver is
 
@@ -227,14 +227,14 @@ module _ {T : Type 0} (h : History T) (l : Line T) (now : Holds h l) (n : ℕ) w
             (holds_close h l now n (elim now.shut [ inl z ↦ z | inr z ↦ absurd (grind (arith, nat_tests, z.0, z.1)) ]))
       ]
 
-  drains : (xs : List (Entry T)) → l.line ≡ xs → After Drain (take_line l)
+  drains : (xs : List (LineEntry T)) → l.line ≡ xs → After Drain (take_line l)
   drains xs is =
       elim (cases_Bool (eqb l.receivers 0)) [
         | inl x ↦ to Drain (take_line l) (only l (Refused ByClosed None)) (rw x refl) (holds_quiet h l now n Drain (Refused ByClosed None) refl refl refl refl)
         | inr x ↦ to Drain (take_line l) (record (moving (drain l) (Drained (length l.line))) { drained = messages l.line }) (rw x refl) (all xs is (eqb-false l.receivers 0 x))
       ]
     where
-      all : (xs : List (Entry T)) → l.line ≡ xs → (l.receivers ≡ 0 → ⊥) → After Drain (record (moving (drain l) (Drained (length l.line))) { drained = messages l.line })
+      all : (xs : List (LineEntry T)) → l.line ≡ xs → (l.receivers ≡ 0 → ⊥) → After Drain (record (moving (drain l) (Drained (length l.line))) { drained = messages l.line })
       all [] is some_receiver =
           to Drain (record (moving (drain l) (Drained (length l.line))) { drained = messages l.line }) (only l (Drained 0)) (rw is refl)
           (holds_quiet h l now n Drain (Drained 0) refl refl refl refl)

@@ -11,7 +11,7 @@ use Rattle.kanal_core.specs.declared.internal.outcome.Reason.{Reason}
 use Rattle.kanal_core.specs.declared.internal.outcome.Reason.TheVariants.{Closed as ByClose}
 use Rattle.kanal_core.specs.declared.internal.outcome.Outcome.{Outcome}
 use Rattle.kanal_core.specs.declared.internal.outcome.Outcome.TheVariants.{Ended}
-use Rattle.kanal_core.specs.Line.{Entry, Line, bare, tickets, has, under}
+use Rattle.kanal_core.specs.Line.{LineEntry, Line, bare, tickets, has, under}
 use Rattle.kanal_core.specs.Moves.{ended, ended_entry, close, cleared}
 use Rattle.kanal_events.specs.declared.event.Event.{Event}
 use Rattle.kanal_events.specs.declared.event.Event.TheVariants.{Close}
@@ -55,7 +55,7 @@ drop-taken (suc k) [] = refl
 drop-taken (suc k) (x ∷ xs) = drop-taken k xs
 
 -- the places below the capacity are seated by themselves
-seats-under : (T : Type 0) (c : Option ℕ) (xs : List (Entry T)) → AllBare (under c xs) → IsSeated c (under c xs)
+seats-under : (T : Type 0) (c : Option ℕ) (xs : List (LineEntry T)) → AllBare (under c xs) → IsSeated c (under c xs)
 seats-under T None xs a = (a, tt)
 seats-under T (Some k) xs a = (rw (take-take k k xs (omega arith)) a, rw (drop-taken k xs) tt)
 
@@ -65,7 +65,7 @@ module _ {T : Type 0} where
   none-left e r ss (u ∷ ts) g = rw (g u (has_self u ts)) (none-left e r ss ts (λ t k. g t (has_tail t u ts k)))
 
   -- what ends is neither taken nor given
-  ends-told : (reason : Reason) (n t : ℕ) (xs : List (Entry T)) (ts : List ℕ) → is_told (numbered n (filter_map (ended_entry reason) xs ++ map (λ u. (u, Ended reason None)) ts)) t ≡ false
+  ends-told : (reason : Reason) (n t : ℕ) (xs : List (LineEntry T)) (ts : List ℕ) → is_told (numbered n (filter_map (ended_entry reason) xs ++ map (λ u. (u, Ended reason None)) ts)) t ≡ false
   ends-told reason n t [] ts = ends-demands T reason n t ts
   ends-told reason n t (x ∷ xs) ts = end-more n t x.ticket x.message (filter_map (ended_entry reason) xs) (map (λ u. (u, Ended reason None)) ts) (ends-told reason n t xs ts)
     where

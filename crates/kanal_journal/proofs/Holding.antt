@@ -8,7 +8,7 @@ use mathlib.Core.List.{map-append}
 use Rattle.kanal_events.specs.declared.event.Event.{Event}
 use Rattle.kanal_events.specs.declared.event.Reply.{Reply}
 use Rattle.kanal_journal.specs.declared.journal.report.Settlement.{Settlement}
-use Rattle.kanal_core.specs.Line.{Entry, Line, bare, messages, tickets, has}
+use Rattle.kanal_core.specs.Line.{LineEntry, Line, bare, messages, tickets, has}
 use Rattle.kanal_journal.specs.Paired.{History, Demand, AtOnce, Later, Next, along, sent, is_gone, given, send_stays, demands, cleared_by, without_last, kept, receipts, ArePaired, Paired}
 use Rattle.std.proofs.lemmas.List.Sums.{sum_by-append}
 use Rattle.std.proofs.lemmas.List.{take_all}
@@ -103,7 +103,7 @@ module _ {T : Type 0} where
     pub counts : length l.line + length (demands h) ≡ length (kept h) + length l.demands
     counts = rw kept_is (omega (arith, demands_count, length-append now.served (messages l.line), length-map l.line (λ e. e.message)))
 
-  served_still : (e : Event T) (r : Reply T) (ss : List (Settlement T)) (ms : List T) (xs : List (Entry T)) → map (later ss) (filter (λ x. ticket_stays e r ss x.ticket) (map bare ms ++ xs)) ≡ map bare ms ++ map (later ss) (filter (λ x. ticket_stays e r ss x.ticket) xs)
+  served_still : (e : Event T) (r : Reply T) (ss : List (Settlement T)) (ms : List T) (xs : List (LineEntry T)) → map (later ss) (filter (λ x. ticket_stays e r ss x.ticket) (map bare ms ++ xs)) ≡ map bare ms ++ map (later ss) (filter (λ x. ticket_stays e r ss x.ticket) xs)
   served_still e r ss [] xs = refl
   served_still e r ss (m ∷ ms) xs = ap (λ ys. bare m ∷ ys) (served_still e r ss ms xs)
 

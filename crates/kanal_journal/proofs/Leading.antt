@@ -1,8 +1,8 @@
 -- A list of events goes on by one.
 use Rattle.std.proofs.Common.{List, [], ◌∷◌, ◌++◌, refl, subst}
 use Rattle.kanal_events.specs.declared.event.Event.{Event}
-use Rattle.kanal_journal.specs.Runs.{Account, IsTold, Leads}
+use Rattle.kanal_journal.specs.Runs.{Account, AccountStep, Leads}
 
-pub Leads-last : {T : Type 0} (a b c : Account T) (events : List (Event T)) (event : Event T) → Leads a events b → IsTold b event c → Leads a (events ++ event ∷ []) c
-Leads-last {T} a b c [] event h k = let P : Account T → Type 0 = λ x. IsTold x event c in (c, subst P h k, refl)
+pub Leads-last : {T : Type 0} (a b c : Account T) (events : List (Event T)) (event : Event T) → Leads a events b → AccountStep b event c → Leads a (events ++ event ∷ []) c
+Leads-last {T} a b c [] event h k = let P : Account T → Type 0 = λ x. AccountStep x event c in (c, subst P h k, refl)
 Leads-last a b c (e ∷ es) event h k = (h.0, h.1, Leads-last h.0 b c es event h.2 k)

@@ -3,7 +3,7 @@ use Rattle.std.proofs.Common.{◌≡◌, ℕ, ◌+◌, ◌≤◌, zero, suc, Lis
 use Rattle.std.proofs.lemmas.Bool.{cases_Bool}
 use Rattle.std.proofs.lemmas.List.{length-map}
 use Rattle.kanal_core.specs.declared.internal.outcome.Outcome.{Outcome}
-use Rattle.kanal_core.specs.Line.{Entry, Line, bare, tickets, under}
+use Rattle.kanal_core.specs.Line.{LineEntry, Line, bare, tickets, under}
 use Rattle.kanal_core.specs.declared.internal.outcome.Ticket.{Ticket}
 use Rattle.kanal_core.specs.Channel.{Channel, line_of}
 use Rattle.kanal_journal.specs.declared.journal.handles.Handles.{Handles}
@@ -12,12 +12,12 @@ use Rattle.kanal_events.specs.declared.event.Event.TheVariants.{CloneTx, CloneRx
 use Rattle.kanal_events.specs.declared.event.Reply.{Reply}
 use Rattle.kanal_journal.specs.declared.journal.report.Settlement.{Settlement}
 use Rattle.kanal_journal.specs.declared.journal.running.Running.{Running}
-use Rattle.kanal_journal.specs.Runs.{Account, IsTold, added, numbered as with_number, handles_after, opening, opening_line}
+use Rattle.kanal_journal.specs.Runs.{Account, AccountStep, added, numbered as with_number, handles_after, opening, opening_line}
 use Rattle.kanal_journal.specs.Given.{AreGiven, waiting_count}
 use Rattle.kanal_events.specs.Steps.{is_done}
 use Rattle.kanal_events.specs.StepResult.{told_of, reply_of, settled_of, drained_of, cleared_of}
-use Rattle.kanal_journal.specs.StepResult.{StepResult, IsAnswered}
-use Rattle.kanal_journal.specs.Running.{IsNoted, IsOpened, IsWithinEvents, IsSame, account_of}
+use Rattle.kanal_journal.specs.StepResult.{StepResult, ServedPost}
+use Rattle.kanal_journal.specs.Running.{RunningStep, IsOpened, IsWithinEvents, IsSame, account_of}
 use Rattle.kanal_journal.proofs.Counting.{told-counts, told-count}
 use Rattle.kanal_journal.proofs.Numbering.{numbered-more}
 
@@ -27,7 +27,7 @@ module _ {T : Type 0} where
       → ◌≡◌ {A = Account T} (record { line = l; handles = hs; replies = rs; settled = ss; drained = ds; cleared = cs }) (record { line = l'; handles = hs'; replies = rs'; settled = ss'; drained = ds'; cleared = cs' })
   same-account l l' hs hs' rs rs' ss ss' ds ds' cs cs' line handles replies settled drained cleared = cc
 
-  module _ (replies : List (Reply T)) (old new : Running T) (e : Event T) (reply : Reply T) (noted : IsNoted (length replies) old e reply new) where
+  module _ (replies : List (Reply T)) (old new : Running T) (e : Event T) (reply : Reply T) (noted : RunningStep (length replies) old e reply new) where
     -- what the event told was added, and its reply to the replies
     pub noted-all : account_of (replies ++ reply ∷ []) new ≡ added (account_of replies old) e noted.told
     noted-all =
@@ -43,7 +43,7 @@ module _ {T : Type 0} where
         noted.line noted.handles refl noted.settled noted.drained noted.cleared
 
     -- so the account goes on by what the event tells
-    pub noted-told : IsTold (account_of replies old) e (account_of (replies ++ reply ∷ []) new)
+    pub noted-told : AccountStep (account_of replies old) e (account_of (replies ++ reply ∷ []) new)
     noted-told = (noted.told, noted.answers, noted-all)
 
   -- as many settlements are noted as there were
@@ -58,12 +58,12 @@ module _ {T : Type 0} where
   bare-under (Some (suc k)) [] = refl
   bare-under (Some (suc k)) (m ∷ ms) = bare-under (Some k) ms
 
-  bare-first : (ms : List T) (xs : List (Entry T)) → tickets (take (length ms) (map bare ms ++ xs)) ≡ []
+  bare-first : (ms : List T) (xs : List (LineEntry T)) → tickets (take (length ms) (map bare ms ++ xs)) ≡ []
   bare-first [] xs = refl
   bare-first (m ∷ ms) xs = bare-first ms xs
 
   -- nobody waits below the capacity, where the buffer stands first in the line and is full or all of it
-  pub nobody-below : (c : Option ℕ) (line : List (Entry T)) (ms : List T) (xs : List (Entry T)) → line ≡ map bare ms ++ xs → (line ≡ map bare ms) ⊎ (c ≡ Some (length ms)) → tickets (under c line) ≡ []
+  pub nobody-below : (c : Option ℕ) (line : List (LineEntry T)) (ms : List T) (xs : List (LineEntry T)) → line ≡ map bare ms ++ xs → (line ≡ map bare ms) ⊎ (c ≡ Some (length ms)) → tickets (under c line) ≡ []
   nobody-below c line ms xs is (inl all) = rw all (bare-under c ms)
   nobody-below c line ms xs is (inr full) = rw (full, is) (bare-first ms xs)
 
@@ -76,7 +76,7 @@ module _ {T : Type 0} where
   few-more handles e r = (omega arith, omega arith)
 
   -- what an answered event settles, drains and clears is within what waited and what the line held
-  pub answered-counts : (handles : Handles) (old new : Line T) (e : Event T) (before after : List T) (made : StepResult T) → tickets (under old.capacity old.line) ≡ [] → IsAnswered handles old e new before after made
+  pub answered-counts : (handles : Handles) (old new : Line T) (e : Event T) (before after : List T) (made : StepResult T) → tickets (under old.capacity old.line) ≡ [] → ServedPost handles old e new before after made
       → (length (settled_of made) + waiting_count new + old.next ≤ waiting_count old + new.next) × (length after + length new.line ≤ length before + length old.line + 1) × (length (cleared_of made) + length new.line ≤ length old.line + 1)
   answered-counts handles old new e before after made below is =
       let k = told-counts (λ x. 1) old below handles e (told_of new made) is.told in
@@ -116,7 +116,7 @@ module _ {T : Type 0} where
 
   -- one event more brings no more than one event can
   pub within-next : (n : ℕ) (old new : Running T) (e : Event T) (made : StepResult T) → tickets (under old.core.capacity (line_of old.core).line) ≡ [] → IsWithinEvents n old
-      → IsAnswered old.handles (line_of old.core) e (line_of new.core) old.drained.items new.drained.items made → new.handles ≡ handles_after old.handles e (reply_of made)
+      → ServedPost old.handles (line_of old.core) e (line_of new.core) old.drained.items new.drained.items made → new.handles ≡ handles_after old.handles e (reply_of made)
       → AreGiven new.tickets.items new.core → length new.tickets.items ≤ length old.tickets.items + 1
       → new.settled.items ≡ old.settled.items ++ with_number n (settled_of made) → new.cleared.items ≡ old.cleared.items ++ cleared_of made → IsWithinEvents (n + 1) new
   within-next n old new e made below within answered handles given one settled cleared =

@@ -2,7 +2,7 @@
 use Rattle.std.proofs.Common.{◌≡◌, ℕ, ◌⊎◌, ◌-◌, ◌==◌, true, false, cond, eqb, ◌&&◌, List, [], ◌∷◌, ◌++◌, Option, Some, None, refl, sym, ap, ◌∙◌, subst, inl, inr, append_assoc, append-nil, length}
 use Rattle.std.proofs.lemmas.Bool.{cases_Bool, false≢true, eqb-true, eqb-false}
 use Rattle.kanal_core.specs.declared.internal.outcome.Reason.TheVariants.{SendClosed as NoSendersLeft, ReceiveClosed as NoReceiversLeft}
-use Rattle.kanal_core.specs.Line.{Entry, Line, last_word, messages, under, has}
+use Rattle.kanal_core.specs.Line.{LineEntry, Line, last_word, messages, under, has}
 use Rattle.kanal_core.specs.Moves.{last_count, add_sender, add_receiver, end_all, drain, close, cleared, wait_send, wait_recv, without_demand, seal}
 use Rattle.kanal_journal.specs.declared.journal.handles.Handles.{Handles}
 use Rattle.kanal_events.specs.declared.event.Side.TheVariants.{Rx}
@@ -12,7 +12,7 @@ use Rattle.kanal_events.specs.declared.event.Refusal.TheVariants.{Closed as ByCl
 use Rattle.kanal_events.specs.declared.event.Reply.{Reply}
 use Rattle.kanal_events.specs.declared.event.Reply.TheVariants.{Sent, Waits, Yes, No, Got, Nothing, Drained, Withdrawn, Done, Cleared, Number, Flag, Refused}
 use Rattle.kanal_events.specs.Steps.{Told, IsWait, only, moving, offer, take as take_told, take_front, nothing_there, wait, withdraw, take_line, seal_line, shut, step, refused}
-use Rattle.kanal_journal.specs.Runs.{Account, Answers, Leads, IsTold, opening, has_handle, has_side}
+use Rattle.kanal_journal.specs.Runs.{Account, Answers, Leads, AccountStep, opening, has_handle, has_side}
 use Rattle.kanal_journal.specs.Laws.{is_receive, tells_end, tells_end_or_no_handle, AreOver, StaysOver}
 use Rattle.kanal_core.proofs.Within.{under-nothing}
 use Rattle.kanal_journal.proofs.Standing.{told-zero}
@@ -89,7 +89,7 @@ module _ {T : Type 0} where
           | inr x ↦ go l.line refl (eqb-false l.receivers 0 x) (rw x at end)
         ]
       where
-        go : (xs : List (Entry T)) → l.line ≡ xs → (l.receivers ≡ 0 → ⊥) → tells_end (take_front l xs (nothing_there l otherwise)).reply ≡ true → IsOver l
+        go : (xs : List (LineEntry T)) → l.line ≡ xs → (l.receivers ≡ 0 → ⊥) → tells_end (take_front l xs (nothing_there l otherwise)).reply ≡ true → IsOver l
         go (x ∷ xs) is some_receiver k = absurd (false≢true k)
         go [] is some_receiver k =
             elim (cases_Bool (eqb l.senders 0)) [
@@ -192,7 +192,7 @@ module _ {T : Type 0} where
     is : b.replies ≡ a.replies ++ replies
     over : AreOver events replies
 
-  more-replies : (a b : Account T) (e : Event T) (t : IsTold a e b) (rs all : List (Reply T)) → all ≡ b.replies ++ rs → all ≡ a.replies ++ (t.0.reply ∷ rs)
+  more-replies : (a b : Account T) (e : Event T) (t : AccountStep a e b) (rs all : List (Reply T)) → all ≡ b.replies ++ rs → all ≡ a.replies ++ (t.0.reply ∷ rs)
   more-replies a b e t rs all is = is ∙ (ap (λ x. x.replies ++ rs) t.2 ∙ append_assoc a.replies (t.0.reply ∷ []) rs)
 
   over-along : (a b : Account T) (events : List (Event T)) → IsOver a.line → Leads a events b → Told_over a b events

@@ -1,7 +1,7 @@
 -- What every step of the line has in common.
 use Rattle.std.proofs.Common.{◌≡◌, ℕ, ◌+◌, ◌-◌, ◌≤◌, length, false, cond, eqb, ◌==◌, ◌&&◌, List, [], ◌∷◌, ◌++◌, Option, Some, None, refl, sym, ◌∙◌, subst, inl, inr, arith}
 use Rattle.std.proofs.lemmas.Bool.{cases_Bool}
-use Rattle.kanal_core.specs.Line.{Entry, Line, last_word, bare, has, has_place, found, messages}
+use Rattle.kanal_core.specs.Line.{LineEntry, Line, last_word, bare, has, has_place, found, messages}
 use Rattle.kanal_core.specs.Moves.{Moved, last_count, serve, enter, leave, drain, end_all, close, cleared, wait_send, wait_recv, without_demand, without_entry, add_sender, add_receiver, seal}
 use Rattle.kanal_core.specs.declared.internal.outcome.Reason.TheVariants.{SendClosed as NoSendersLeft, ReceiveClosed as NoReceiversLeft}
 use Rattle.kanal_journal.specs.declared.journal.handles.Handles.{Handles}
@@ -23,12 +23,12 @@ module _ {T : Type 0} where
     pub next : t.line.next ≤ l.next + 1
     pub memory : is_no_memory t.reply ≡ false
 
-  serve-capacity : (old : Line T) (line : List (Entry T)) (ds : List ℕ) → (serve old line ds).line.capacity ≡ old.capacity
+  serve-capacity : (old : Line T) (line : List (LineEntry T)) (ds : List ℕ) → (serve old line ds).line.capacity ≡ old.capacity
   serve-capacity old line [] = refl
   serve-capacity old [] (d ∷ ds) = refl
   serve-capacity old (e ∷ es) (d ∷ ds) = serve-capacity old es ds
 
-  serve-next : (old : Line T) (line : List (Entry T)) (ds : List ℕ) → (serve old line ds).line.next ≡ old.next
+  serve-next : (old : Line T) (line : List (LineEntry T)) (ds : List ℕ) → (serve old line ds).line.next ≡ old.next
   serve-next old line [] = refl
   serve-next old [] (d ∷ ds) = refl
   serve-next old (e ∷ es) (d ∷ ds) = serve-next old es ds
@@ -61,7 +61,7 @@ module _ {T : Type 0} where
               ]
         ]
 
-    fronts : (otherwise : Told T) (xs : List (Entry T)) → Regular l otherwise → Regular l (take_front l xs otherwise)
+    fronts : (otherwise : Told T) (xs : List (LineEntry T)) → Regular l otherwise → Regular l (take_front l xs otherwise)
     fronts otherwise [] k = k
     fronts otherwise (x ∷ xs) k = leaves (moving (leave l (x ∷ []) xs) (Got x.message)) refl refl refl
 

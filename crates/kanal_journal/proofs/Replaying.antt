@@ -17,8 +17,8 @@ use Rattle.kanal_events.specs.Steps.{Told, message_of, refused, no_memory, is_no
 use Rattle.kanal_journal.specs.Runs.{Account, Leads, added, made, opening, handles_after}
 use Rattle.kanal_journal.specs.Paired.{Paired, until, rest}
 use Rattle.kanal_journal.specs.Replays.{Recording, Replays, Records, events_of, replies_of, next, played, history_of, longer}
-use Rattle.kanal_journal.specs.Running.{IsNoted, IsWithinEvents, IsSame, account_of}
-use Rattle.kanal_journal.specs.Recorders.{IsSound, journal_of, recording_of}
+use Rattle.kanal_journal.specs.Running.{RunningStep, IsWithinEvents, IsSame, account_of}
+use Rattle.kanal_journal.specs.Recorders.{RecorderIsSound, journal_of, recording_of}
 use Rattle.kanal_journal.specs.declared.journal.recorder.Recorder.{Recorder}
 use Rattle.kanal_journal.specs.declared.journal.running.Running.{Running}
 use Rattle.kanal_journal.proofs.Along.{told_history, holds-opening, holds-along, paired-at, rest-left}
@@ -67,7 +67,7 @@ module _ {T : Type 0} where
   refused-same : (a : Account T) (e : Event T) → record (added a e (refused a.line NoMemory e)) { replies = a.replies } ≡ a
   refused-same a e = rw (refused-handles a.handles e NoMemory (message_of e), append-nil a.settled, append-nil a.drained, append-nil a.cleared) refl
 
-  module _ (replies : List (Reply T)) (old new : Running T) (e : Event T) (reply : Reply T) (noted : IsNoted (length replies) old e reply new) where
+  module _ (replies : List (Reply T)) (old new : Running T) (e : Event T) (reply : Reply T) (noted : RunningStep (length replies) old e reply new) where
     -- where there was no memory nothing changed
     noted-nothing : is_no_memory reply ≡ true → (reply ≡ no_memory e) × (account_of replies new ≡ account_of replies old)
     noted-nothing w =
@@ -96,16 +96,16 @@ module _ {T : Type 0} where
       let f : Account T → Recording T = λ a. record { capacity = a.line.capacity; entries = entries; account = a } in
       ap f (same-told (replies_of entries) old new same)
 
-  module _ (old : Recorder T) (sound : IsSound old) (start : Running T) (entries : List (Entry T)) (same : IsSame old.running start) (kept : entries ≡ old.entries.items) where
+  module _ (old : Recorder T) (sound : RecorderIsSound old) (start : Running T) (entries : List (Entry T)) (same : IsSame old.running start) (kept : entries ≡ old.entries.items) where
     start-journal : journal_of entries start ≡ recording_of old
     start-journal = ap (λ es. journal_of es start) kept ∙ same-journal old.entries.items old.running start same
 
     start-replays : Replays start.core.capacity entries (account_of (replies_of entries) start)
     start-replays = let P : Recording T → Type 0 = λ r. Replays r.capacity r.entries r.account in subst P (sym start-journal) sound.replays
 
-    module _ (n : ℕ) (count : n ≡ length entries) (mid : Running T) (party : ℕ) (e : Event T) (reply : Reply T) (noted : IsNoted n start e reply mid) (within : IsWithinEvents (n + 1) mid) where
-      counted : IsNoted (length (replies_of entries)) start e reply mid
-      counted = let P : ℕ → Type 0 = λ k. IsNoted k start e reply mid in subst P (count ∙ sym (length-map entries (λ (x : Entry T). x.reply))) noted
+    module _ (n : ℕ) (count : n ≡ length entries) (mid : Running T) (party : ℕ) (e : Event T) (reply : Reply T) (noted : RunningStep n start e reply mid) (within : IsWithinEvents (n + 1) mid) where
+      counted : RunningStep (length (replies_of entries)) start e reply mid
+      counted = let P : ℕ → Type 0 = λ k. RunningStep k start e reply mid in subst P (count ∙ sym (length-map entries (λ (x : Entry T). x.reply))) noted
 
       -- the journal after a step that found memory: one entry more
       entered : (more : List (Entry T)) → is_no_memory reply ≡ false → more ≡ entries ++ record { party = party; event = e; reply = reply } ∷ [] → journal_of more mid ≡ longer (journal_of entries start) party e reply
@@ -118,7 +118,7 @@ module _ {T : Type 0} where
 
       -- a step of the recorder that found memory, and entered its call
       pub step-made : (more : Vec (Entry T)) → is_no_memory reply ≡ false → more.items ≡ entries ++ record { party = party; event = e; reply = reply } ∷ []
-          → IsSound (record { running = mid; entries = more }) × Records (recording_of old) party e reply (journal_of more.items mid)
+          → RecorderIsSound (record { running = mid; entries = more }) × Records (recording_of old) party e reply (journal_of more.items mid)
       step-made more said is =
           let m = noted-made (replies_of entries) start mid e reply counted said in
           let all = entered more.items said is in
@@ -134,7 +134,7 @@ module _ {T : Type 0} where
           )
 
       -- a step of the recorder that found no memory
-      pub step-still : (still : Vec (Entry T)) → is_no_memory reply ≡ true → still.items ≡ entries → IsSound (record { running = mid; entries = still }) × Records (recording_of old) party e reply (journal_of still.items mid)
+      pub step-still : (still : Vec (Entry T)) → is_no_memory reply ≡ true → still.items ≡ entries → RecorderIsSound (record { running = mid; entries = still }) × Records (recording_of old) party e reply (journal_of still.items mid)
       step-still still said is =
           let m = noted-nothing (replies_of entries) start mid e reply counted said in
           let f : Account T → Recording T = λ a. record { capacity = a.line.capacity; entries = entries; account = a } in

@@ -6,7 +6,7 @@ use mathlib.Core.List.{map-append}
 use Rattle.kanal_core.specs.declared.internal.outcome.Outcome.{Outcome}
 use Rattle.kanal_core.specs.declared.internal.outcome.Reason.{Reason}
 use Rattle.kanal_core.specs.declared.internal.outcome.Reason.TheVariants.{Closed as ByClose, SendClosed as NoSendersLeft, ReceiveClosed as NoReceiversLeft}
-use Rattle.kanal_core.specs.Line.{Entry, Line, IsWithin, last_word, bare, waiting, tickets, has, under, over, messages, has_place, is_below, is_empty, found}
+use Rattle.kanal_core.specs.Line.{LineEntry, Line, IsWithin, last_word, bare, waiting, tickets, has, under, over, messages, has_place, is_below, is_empty, found}
 use Rattle.kanal_core.specs.Moves.{last_count, serve, enter, leave, drain, end_all, close, cleared, wait_send, wait_recv, without_demand, add_sender, add_receiver, seal}
 use Rattle.kanal_journal.specs.declared.journal.handles.Handles.{Handles}
 use Rattle.kanal_events.specs.declared.event.Event.{Event}
@@ -78,11 +78,11 @@ module _ {T : Type 0} where
     pub grows : l.next ≤ t.line.next
 
   -- the tickets of the entries are those below the capacity and then the others
-  parts : (c : Option ℕ) (xs : List (Entry T)) → tickets xs ≡ tickets (under c xs) ++ tickets (over c xs)
+  parts : (c : Option ℕ) (xs : List (LineEntry T)) → tickets xs ≡ tickets (under c xs) ++ tickets (over c xs)
   parts c xs = ap tickets (sym (under-over c xs)) ∙ tickets-append (under c xs) (over c xs)
 
   -- a message that enters leaves the tickets as they are, or the first demand is settled
-  serve-order : (l : Line T) (m : T) (line : List (Entry T)) (ds : List ℕ) → (line ≡ []) ⊎ (ds ≡ []) → AreRising 0 (tickets line ++ ds) l.next → (r : Reply T) → KeepsOrder l (moving (serve l (line ++ bare m ∷ []) ds) r)
+  serve-order : (l : Line T) (m : T) (line : List (LineEntry T)) (ds : List ℕ) → (line ≡ []) ⊎ (ds ≡ []) → AreRising 0 (tickets line ++ ds) l.next → (r : Reply T) → KeepsOrder l (moving (serve l (line ++ bare m ∷ []) ds) r)
   serve-order l m line [] one now r =
       let same : tickets (line ++ bare m ∷ []) ≡ tickets line = tickets-append line (bare m ∷ []) ∙ append-nil (tickets line) in
       let P : List ℕ → Type 0 = λ ts. AreRising 0 (ts ++ []) l.next in
@@ -121,7 +121,7 @@ module _ {T : Type 0} where
               ]
         ]
 
-    front : (x : Entry T) (xs : List (Entry T)) (r : Reply T) → l.line ≡ x ∷ xs → KeepsOrder l (moving (leave l (x ∷ []) xs) r)
+    front : (x : LineEntry T) (xs : List (LineEntry T)) (r : Reply T) → l.line ≡ x ∷ xs → KeepsOrder l (moving (leave l (x ∷ []) xs) r)
     front x xs r is =
         let c = l.capacity in
         let gone : List ℕ = tickets ((x ∷ []) ++ under c xs) in
@@ -142,7 +142,7 @@ module _ {T : Type 0} where
           | inr x ↦ to (take_told l otherwise) (take_front l l.line otherwise) (rw x refl) (go l.line refl)
         ]
       where
-        go : (xs : List (Entry T)) → l.line ≡ xs → KeepsOrder l (take_front l xs otherwise)
+        go : (xs : List (LineEntry T)) → l.line ≡ xs → KeepsOrder l (take_front l xs otherwise)
         go [] is = k
         go (x ∷ xs) is = front x xs (Got x.message) is
 
@@ -165,7 +165,7 @@ module _ {T : Type 0} where
         let P : List ℕ → Type 0 = λ ts. AreRising 0 ts l.next in
         let Q : List ℕ → Type 0 = λ ts. AreRising 0 ts (l.next + 1) in
         let bare_line : P (tickets l.line) = subst P (ap (λ ds. tickets l.line ++ ds) none ∙ append-nil (tickets l.line)) now in
-        let longer : List (Entry T) = l.line ++ waiting m l.next ∷ [] in
+        let longer : List (LineEntry T) = l.line ++ waiting m l.next ∷ [] in
         let is : tickets longer ++ l.demands ≡ tickets l.line ++ l.next ∷ [] = ap (λ ds. tickets longer ++ ds) none ∙ (append-nil (tickets longer) ∙ tickets-append l.line (waiting m l.next ∷ [])) in
         subst Q (sym is) (rise-one 0 (tickets l.line) l.next bare_line)
 
@@ -341,34 +341,34 @@ module _ {T : Type 0} where
   ordered capacity events a l = order-along [] (opening capacity) a events (holds-opening capacity) (record { waits = omega arith; before = tt; settled = λ n. omega arith }) l
 
   -- behind the capacity each entry waits
-  all-wait : (c place : ℕ) (xs : List (Entry T)) → c ≤ place → AllWait xs → WaitByPlace (Some c) place xs
+  all-wait : (c place : ℕ) (xs : List (LineEntry T)) → c ≤ place → AllWait xs → WaitByPlace (Some c) place xs
   all-wait c place [] h w = tt
   all-wait c place (x ∷ xs) h w = (rw (w.1, le-ltb place c h) refl, all-wait c (place + 1) xs (omega (arith, h)) w.2)
 
-  seats-places : (c place k : ℕ) (xs : List (Entry T)) → c ≡ place + k → AllBare (take k xs) → AllWait (drop k xs) → WaitByPlace (Some c) place xs
+  seats-places : (c place k : ℕ) (xs : List (LineEntry T)) → c ≡ place + k → AllBare (take k xs) → AllWait (drop k xs) → WaitByPlace (Some c) place xs
   seats-places c place zero xs h b w = all-wait c place xs (omega (arith, h)) w
   seats-places c place (suc k) [] h b w = tt
   seats-places c place (suc k) (x ∷ xs) h b w = (rw (b.0, lt-ltb place c (omega (arith, h))) refl, seats-places c (place + 1) k xs (omega (arith, h)) b.1 w)
 
-  all-bare : (place : ℕ) (xs : List (Entry T)) → AllBare xs → WaitByPlace None place xs
+  all-bare : (place : ℕ) (xs : List (LineEntry T)) → AllBare xs → WaitByPlace None place xs
   all-bare place [] b = tt
   all-bare place (x ∷ xs) b = (rw b.0 refl, all-bare (place + 1) xs b.1)
 
   -- the entries wait by their places
-  pub waits-by-place : (c : Option ℕ) (xs : List (Entry T)) → IsSeated c xs → WaitByPlace c 0 xs
+  pub waits-by-place : (c : Option ℕ) (xs : List (LineEntry T)) → IsSeated c xs → WaitByPlace c 0 xs
   waits-by-place None xs s = all-bare 0 xs s.0
   waits-by-place (Some c) xs s = seats-places c 0 c xs (omega arith) s.0 s.1
 
-  none-bare : (xs : List (Entry T)) → AllWait xs → without_ticket xs ≡ []
+  none-bare : (xs : List (LineEntry T)) → AllWait xs → without_ticket xs ≡ []
   none-bare [] w = refl
   none-bare (x ∷ xs) w = rw w.1 (none-bare xs w.2)
 
-  few-bare : (c : ℕ) (xs : List (Entry T)) → AllBare (take c xs) → AllWait (drop c xs) → length (without_ticket xs) ≤ c
+  few-bare : (c : ℕ) (xs : List (LineEntry T)) → AllBare (take c xs) → AllWait (drop c xs) → length (without_ticket xs) ≤ c
   few-bare zero xs b w = omega (arith, ap length (none-bare xs w))
   few-bare (suc c) [] b w = omega arith
   few-bare (suc c) (x ∷ xs) b w = rw b.0 (omega (arith, few-bare c xs b.1 w))
 
   -- those without a ticket are at most the capacity
-  pub bare-within : (c : Option ℕ) (xs : List (Entry T)) → IsSeated c xs → IsWithin (length (without_ticket xs)) c
+  pub bare-within : (c : Option ℕ) (xs : List (LineEntry T)) → IsSeated c xs → IsWithin (length (without_ticket xs)) c
   bare-within None xs s = tt
   bare-within (Some c) xs s = few-bare c xs s.0 s.1

@@ -8,7 +8,7 @@ use Rattle.kanal_events.specs.declared.event.Reply.{Reply}
 use Rattle.kanal_core.specs.declared.internal.outcome.Outcome.{Outcome}
 use Rattle.kanal_core.specs.declared.internal.outcome.Outcome.TheVariants.{Taken}
 use Rattle.kanal_journal.specs.declared.journal.report.Settlement.{Settlement}
-use Rattle.kanal_core.specs.Line.{Entry, bare}
+use Rattle.kanal_core.specs.Line.{LineEntry, bare}
 use Rattle.kanal_journal.specs.Paired.{History, along, sent, withdrawn, is_ended, is_gone, send_stays}
 
 pub along-last : {E R X : Type 0} (f : E → R → List X) (es : List E) (rs : List R) (e : E) (r : R) → length es ≡ length rs → along f (es ++ e ∷ []) (rs ++ r ∷ []) ≡ along f es rs ++ f e r
@@ -44,10 +44,10 @@ module _ {T : Type 0} where
   ticket_at ss None = None
   ticket_at ss (Some t) = cond (was_taken ss t) None (Some t)
 
-  abbrev pub entry_at : List (Settlement T) → T × Option ℕ → Entry T
+  abbrev pub entry_at : List (Settlement T) → T × Option ℕ → LineEntry T
   entry_at ss s = record { message = s.0; ticket = ticket_at ss s.1 }
 
-  abbrev pub entries : History T → List (Entry T)
+  abbrev pub entries : History T → List (LineEntry T)
   entries h = map (entry_at h.settled) (filter (send_stays h) (along sent h.events h.replies))
 
   -- one step's effect on an entry
@@ -55,10 +55,10 @@ module _ {T : Type 0} where
   ticket_stays e r ss None = true
   ticket_stays e r ss (Some t) = not (goes e r ss t)
 
-  abbrev pub later : List (Settlement T) → Entry T → Entry T
+  abbrev pub later : List (Settlement T) → LineEntry T → LineEntry T
   later ss e = record { message = e.message; ticket = ticket_at ss e.ticket }
 
-  abbrev pub fresh : T × Option ℕ → Entry T
+  abbrev pub fresh : T × Option ℕ → LineEntry T
   fresh s = record { message = s.0; ticket = s.1 }
 
   module _ (h : History T) (e : Event T) (r : Reply T) (ss : List (Settlement T)) (ms : List T) (same : length h.events ≡ length h.replies) where

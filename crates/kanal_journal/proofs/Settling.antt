@@ -15,7 +15,7 @@ use Rattle.kanal_core.specs.declared.internal.outcome.Reason.{Reason}
 use Rattle.kanal_core.specs.declared.internal.outcome.Outcome.{Outcome}
 use Rattle.kanal_core.specs.declared.internal.outcome.Outcome.TheVariants.{Taken, Given, Ended}
 use Rattle.kanal_journal.specs.declared.journal.report.Settlement.{Settlement}
-use Rattle.kanal_core.specs.Line.{Entry, bare, messages, tickets, has, under, over, holds_ticket, is_ticket}
+use Rattle.kanal_core.specs.Line.{LineEntry, bare, messages, tickets, has, under, over, holds_ticket, is_ticket}
 use Rattle.kanal_core.specs.Moves.{seated, ended_entry}
 use Rattle.kanal_journal.specs.Runs.{numbered}
 use Rattle.kanal_journal.specs.Paired.{Later, withdrawn, is_ended}
@@ -81,7 +81,7 @@ eqb_swap a b =
     ]
 
 module _ {T : Type 0} where
-  pub seated_all : (xs : List (Entry T)) → map bare (messages xs) ≡ map (λ x. bare x.message) xs
+  pub seated_all : (xs : List (LineEntry T)) → map bare (messages xs) ≡ map (λ x. bare x.message) xs
   seated_all [] = refl
   seated_all (x ∷ xs) = ap (λ ys. bare x.message ∷ ys) (seated_all xs)
 
@@ -94,7 +94,7 @@ module _ {T : Type 0} where
     stays_none None = refl
     stays_none (Some t) = rw (goes_none t)
 
-    pub entries_still : (xs : List (Entry T)) → map (later []) (filter (λ x. ticket_stays e r [] x.ticket) xs) ≡ xs
+    pub entries_still : (xs : List (LineEntry T)) → map (later []) (filter (λ x. ticket_stays e r [] x.ticket) xs) ≡ xs
     entries_still [] = refl
     entries_still (x ∷ xs) = rw (stays_none x.ticket, ticket_still T x.ticket) (ap (λ ys. x ∷ ys) (entries_still xs))
 
@@ -120,7 +120,7 @@ module _ (T : Type 0) (n : ℕ) where
     stays_takes None = refl
     stays_takes (Some t) = rw (none, none_ends ts t)
 
-    pub all_stay : (xs : List (Entry T)) → filter (λ x. ticket_stays e r (takes ts) x.ticket) xs ≡ xs
+    pub all_stay : (xs : List (LineEntry T)) → filter (λ x. ticket_stays e r (takes ts) x.ticket) xs ≡ xs
     all_stay [] = refl
     all_stay (x ∷ xs) = rw (stays_takes x.ticket) (ap (λ ys. x ∷ ys) (all_stay xs))
 
@@ -133,31 +133,31 @@ module _ (T : Type 0) (n : ℕ) where
   ticket_left ts (Some u) us h = rw (taken_has ts u, h u (has_self u us))
 
   -- the entries whose tickets are taken wait no more, the others stay as they are
-  pub later_taken : (ts : List ℕ) (xs : List (Entry T)) → ((t : ℕ) → has t (tickets xs) ≡ true → has t ts ≡ true) → map (later (takes ts)) xs ≡ map (λ x. bare x.message) xs
+  pub later_taken : (ts : List ℕ) (xs : List (LineEntry T)) → ((t : ℕ) → has t (tickets xs) ≡ true → has t ts ≡ true) → map (later (takes ts)) xs ≡ map (λ x. bare x.message) xs
   later_taken ts [] h = refl
   later_taken ts (x ∷ xs) h = rw (ticket_taken ts x.ticket (tickets xs) h) (ap (λ ys. bare x.message ∷ ys) (later_taken ts xs (λ t g. h t (has_option t x.ticket (tickets xs) g))))
 
-  pub later_left : (ts : List ℕ) (xs : List (Entry T)) → ((t : ℕ) → has t (tickets xs) ≡ true → has t ts ≡ false) → map (later (takes ts)) xs ≡ xs
+  pub later_left : (ts : List ℕ) (xs : List (LineEntry T)) → ((t : ℕ) → has t (tickets xs) ≡ true → has t ts ≡ false) → map (later (takes ts)) xs ≡ xs
   later_left ts [] h = refl
   later_left ts (x ∷ xs) h = rw (ticket_left ts x.ticket (tickets xs) h) (ap (λ ys. x ∷ ys) (later_left ts xs (λ t g. h t (has_option t x.ticket (tickets xs) g))))
 
   -- those that leave, and those whose place falls below the capacity, are served or seated; the others wait on
-  pub taken_move : (e : Event T) (r : Reply T) → withdrawn e r ≡ [] → (gone rest : List (Entry T)) (c : Option ℕ) → AreApart (tickets (gone ++ rest))
+  pub taken_move : (e : Event T) (r : Reply T) → withdrawn e r ≡ [] → (gone rest : List (LineEntry T)) (c : Option ℕ) → AreApart (tickets (gone ++ rest))
       → map (later (takes (tickets (gone ++ under c rest)))) (filter (λ x. ticket_stays e r (takes (tickets (gone ++ under c rest))) x.ticket) (gone ++ rest)) ≡ map bare (messages gone) ++ seated c rest
   taken_move e r none gone rest c apart =
-      let a : List (Entry T) = gone ++ under c rest in
-      let b : List (Entry T) = over c rest in
+      let a : List (LineEntry T) = gone ++ under c rest in
+      let b : List (LineEntry T) = over c rest in
       let whole : a ++ b ≡ gone ++ rest = append_assoc gone (under c rest) b ∙ ap (λ xs. gone ++ xs) (under-over c rest) in
-      let parts : AreApart (tickets a ++ tickets b) = subst AreApart (ap tickets (sym whole) ∙ filter_map-append (λ (x : Entry T). x.ticket) a b) apart in
+      let parts : AreApart (tickets a ++ tickets b) = subst AreApart (ap tickets (sym whole) ∙ filter_map-append (λ (x : LineEntry T). x.ticket) a b) apart in
       let one : map (later (takes (tickets a))) a ≡ map (λ x. bare x.message) a = later_taken (tickets a) a (λ t g. g) in
       let two : map (later (takes (tickets a))) b ≡ b = later_left (tickets a) b (apart_has (tickets a) (tickets b) parts) in
-      let three : map (λ (x : Entry T). bare x.message) a ≡ map bare (messages gone) ++ map (λ x. bare x.message) (under c rest) = map-append _ gone (under c rest) ∙ ap (λ xs. xs ++ map (λ x. bare x.message) (under c rest)) (sym (seated_all gone)) in
+      let three : map (λ (x : LineEntry T). bare x.message) a ≡ map bare (messages gone) ++ map (λ x. bare x.message) (under c rest) = map-append _ gone (under c rest) ∙ ap (λ xs. xs ++ map (λ x. bare x.message) (under c rest)) (sym (seated_all gone)) in
       rw (all_stay e r none (tickets a) (gone ++ rest), ← whole, map-append, one, two, three) (append_assoc (map bare (messages gone)) (map (λ x. bare x.message) (under c rest)) b)
 
 -- settlements of a step that ends all waits
 module _ (T : Type 0) (n : ℕ) (reason : Reason) where
   -- the tickets that the line and the demands hold are all that ends
-  pub ends_has : (line : List (Entry T)) (ts : List ℕ) (t : ℕ) → list_any (λ s. (s.ticket == t) && is_ended s.outcome) (numbered n (filter_map (ended_entry reason) line ++ map (λ u. (u, Ended reason None)) ts)) ≡ has t (tickets line ++ ts)
+  pub ends_has : (line : List (LineEntry T)) (ts : List ℕ) (t : ℕ) → list_any (λ s. (s.ticket == t) && is_ended s.outcome) (numbered n (filter_map (ended_entry reason) line ++ map (λ u. (u, Ended reason None)) ts)) ≡ has t (tickets line ++ ts)
   ends_has [] [] t = refl
   ends_has [] (u ∷ ts) t = rw (and_true (u == t), ends_has [] ts t)
   ends_has (x ∷ xs) ts t = ends_one x.ticket x.message (filter_map (ended_entry reason) xs) (map (λ u. (u, Ended reason None)) ts) (tickets xs) ts t (ends_has xs ts t)
@@ -169,39 +169,39 @@ module _ (T : Type 0) (n : ℕ) (reason : Reason) where
 
 -- no entry of the list waits; each entry of it waits
 module _ {T : Type 0} where
-  abbrev pub AllBare : List (Entry T) → Type 0
+  abbrev pub AllBare : List (LineEntry T) → Type 0
   AllBare [] = Unit {0}
   AllBare (x ∷ xs) = (x.ticket ≡ None) × AllBare xs
 
-  abbrev pub AllWait : List (Entry T) → Type 0
+  abbrev pub AllWait : List (LineEntry T) → Type 0
   AllWait [] = Unit {0}
   AllWait (x ∷ xs) = (t : ℕ) × (x.ticket ≡ Some t) × AllWait xs
 
-  abbrev pub IsSeated : Option ℕ → List (Entry T) → Type 0
+  abbrev pub IsSeated : Option ℕ → List (LineEntry T) → Type 0
   IsSeated c xs = AllBare (under c xs) × AllWait (over c xs)
 
-  pub bare_stay : (e : Event T) (r : Reply T) (ss : List (Settlement T)) (xs : List (Entry T)) → AllBare xs → filter (λ x. ticket_stays e r ss x.ticket) xs ≡ xs
+  pub bare_stay : (e : Event T) (r : Reply T) (ss : List (Settlement T)) (xs : List (LineEntry T)) → AllBare xs → filter (λ x. ticket_stays e r ss x.ticket) xs ≡ xs
   bare_stay e r ss [] h = refl
   bare_stay e r ss (x ∷ xs) h = rw h.0 (ap (λ ys. bare x.message ∷ ys) (bare_stay e r ss xs h.1))
 
-  pub waiting_go : (e : Event T) (r : Reply T) (ss : List (Settlement T)) (xs : List (Entry T)) → AllWait xs → ((t : ℕ) → has t (tickets xs) ≡ true → goes e r ss t ≡ true) → filter (λ x. ticket_stays e r ss x.ticket) xs ≡ []
+  pub waiting_go : (e : Event T) (r : Reply T) (ss : List (Settlement T)) (xs : List (LineEntry T)) → AllWait xs → ((t : ℕ) → has t (tickets xs) ≡ true → goes e r ss t ≡ true) → filter (λ x. ticket_stays e r ss x.ticket) xs ≡ []
   waiting_go e r ss [] h g = refl
   waiting_go e r ss (x ∷ xs) h g =
       let first : goes e r ss h.0 ≡ true = g h.0 (rw h.1 (has_self h.0 (tickets xs))) in
       rw (h.1, first) (waiting_go e r ss xs h.2 (λ t k. g t (has_option t x.ticket (tickets xs) k)))
 
-  pub bare_later : (ss : List (Settlement T)) (xs : List (Entry T)) → AllBare xs → map (later ss) xs ≡ xs
+  pub bare_later : (ss : List (Settlement T)) (xs : List (LineEntry T)) → AllBare xs → map (later ss) xs ≡ xs
   bare_later ss [] h = refl
   bare_later ss (x ∷ xs) h = rw h.0 (ap (λ ys. bare x.message ∷ ys) (bare_later ss xs h.1))
 
   -- all that waits goes, the places below the capacity stay
-  pub ended_move : (e : Event T) (r : Reply T) (ss : List (Settlement T)) (c : Option ℕ) (line : List (Entry T)) → IsSeated c line → ((t : ℕ) → has t (tickets line) ≡ true → goes e r ss t ≡ true)
+  pub ended_move : (e : Event T) (r : Reply T) (ss : List (Settlement T)) (c : Option ℕ) (line : List (LineEntry T)) → IsSeated c line → ((t : ℕ) → has t (tickets line) ≡ true → goes e r ss t ≡ true)
       → map (later ss) (filter (λ x. ticket_stays e r ss x.ticket) line) ≡ under c line
   ended_move e r ss c line seated g =
       let split = under-over c line in
-      let all : (t : ℕ) → has t (tickets (over c line)) ≡ true → goes e r ss t ≡ true = λ t h. g t (rw (← split, filter_map-append (λ (x : Entry T). x.ticket) (under c line) (over c line), list_any-append, h, or_true)) in
-      let kept : filter (λ (x : Entry T). ticket_stays e r ss x.ticket) line ≡ under c line =
-      ap (λ xs. filter (λ (x : Entry T). ticket_stays e r ss x.ticket) xs) (sym split)
+      let all : (t : ℕ) → has t (tickets (over c line)) ≡ true → goes e r ss t ≡ true = λ t h. g t (rw (← split, filter_map-append (λ (x : LineEntry T). x.ticket) (under c line) (over c line), list_any-append, h, or_true)) in
+      let kept : filter (λ (x : LineEntry T). ticket_stays e r ss x.ticket) line ≡ under c line =
+      ap (λ xs. filter (λ (x : LineEntry T). ticket_stays e r ss x.ticket) xs) (sym split)
       ∙ (filter-append _ (under c line) (over c line) ∙ rw (bare_stay e r ss (under c line) seated.0, waiting_go e r ss (over c line) seated.1 all) (append-nil _)) in
       rw kept (bare_later ss (under c line) seated.0)
 
@@ -219,7 +219,7 @@ module _ {T : Type 0} where
   same_test t w (Some u) = rw (eqb_swap t u) (ap not (or_off (eqb u t)))
 
   -- the withdrawn ticket's entry goes, the others stay
-  pub withdrawn_move : (t : ℕ) (w : Option T) (xs : List (Entry T)) → map (later []) (filter (λ x. ticket_stays (Withdraw t) (Withdrawn w) [] x.ticket) xs) ≡ filter (λ x. not (holds_ticket t x)) xs
+  pub withdrawn_move : (t : ℕ) (w : Option T) (xs : List (LineEntry T)) → map (later []) (filter (λ x. ticket_stays (Withdraw t) (Withdrawn w) [] x.ticket) xs) ≡ filter (λ x. not (holds_ticket t x)) xs
   withdrawn_move t w [] = refl
   withdrawn_move t w (x ∷ xs) =
       let rec = withdrawn_move t w xs in

@@ -2,7 +2,7 @@
 use Rattle.std.proofs.Common.{◌≡◌, ℕ, ◌-◌, Bool, true, false, cond, eqb, ◌==◌, ◌&&◌, List, [], ◌∷◌, ◌++◌, length, Option, Some, None, refl, sym, ap, ◌∙◌, subst, inl, inr}
 use Rattle.std.proofs.lemmas.Bool.{cases_Bool, false≢true}
 use Rattle.kanal_core.specs.declared.internal.outcome.Reason.TheVariants.{SendClosed as NoSendersLeft, ReceiveClosed as NoReceiversLeft}
-use Rattle.kanal_core.specs.Line.{Entry, Line, last_word, bare, messages, has, has_place, found}
+use Rattle.kanal_core.specs.Line.{LineEntry, Line, last_word, bare, messages, has, has_place, found}
 use Rattle.kanal_core.specs.Moves.{last_count, raised, serve, enter, drain, end_all, close, cleared, wait_send, wait_recv, without_demand, seal}
 use Rattle.kanal_journal.specs.declared.journal.handles.Handles.{Handles}
 use Rattle.kanal_events.specs.declared.event.Event.{Event}
@@ -37,12 +37,12 @@ module _ {T : Type 0} where
     pub senders : t.line.senders ≡ l.senders
     pub receivers : t.line.receivers ≡ l.receivers
 
-  serve-senders : (old : Line T) (line : List (Entry T)) (ds : List ℕ) → (serve old line ds).line.senders ≡ old.senders
+  serve-senders : (old : Line T) (line : List (LineEntry T)) (ds : List ℕ) → (serve old line ds).line.senders ≡ old.senders
   serve-senders old line [] = refl
   serve-senders old [] (d ∷ ds) = refl
   serve-senders old (e ∷ es) (d ∷ ds) = serve-senders old es ds
 
-  serve-receivers : (old : Line T) (line : List (Entry T)) (ds : List ℕ) → (serve old line ds).line.receivers ≡ old.receivers
+  serve-receivers : (old : Line T) (line : List (LineEntry T)) (ds : List ℕ) → (serve old line ds).line.receivers ≡ old.receivers
   serve-receivers old line [] = refl
   serve-receivers old [] (d ∷ ds) = refl
   serve-receivers old (e ∷ es) (d ∷ ds) = serve-receivers old es ds
@@ -79,7 +79,7 @@ module _ {T : Type 0} where
           | inr x ↦ to (take_told l otherwise) (take_front l l.line otherwise) (rw x refl) (go l.line)
         ]
       where
-        go : (xs : List (Entry T)) → IsSteady l (take_front l xs otherwise)
+        go : (xs : List (LineEntry T)) → IsSteady l (take_front l xs otherwise)
         go [] = k
         go (x ∷ xs) = record { senders = refl; receivers = refl }
 

@@ -4,7 +4,7 @@ use Rattle.std.specs.List.{cons_option}
 use Rattle.std.proofs.lemmas.Bool.{cases_Bool, or_cases, false≢true, eq-eqb, eqb-true, ne_eqb}
 use Rattle.std.proofs.lemmas.List.Elements.{filter_map-append}
 use Rattle.std.proofs.lemmas.List.Folds.{list_any-append}
-use Rattle.kanal_core.specs.Line.{Entry, messages, tickets, has, under, over, holds_ticket, is_ticket, found}
+use Rattle.kanal_core.specs.Line.{LineEntry, messages, tickets, has, under, over, holds_ticket, is_ticket, found}
 use Rattle.kanal_journal.proofs.Settling.{AreApart, AllBare, AllWait, IsSeated, has_tail, under-over}
 
 -- in a list with one more at its end
@@ -71,49 +71,49 @@ but-apart t [] a = tt
 but-apart t (u ∷ ts) a = elim (cases_Bool (u == t)) [ inl e ↦ rw e (but-apart t ts a.1) | inr e ↦ rw e (none-less t u ts a.0, but-apart t ts a.1) ]
 
 module _ {T : Type 0} where
-  tickets-cons : (o : Option ℕ) (m : T) (xs : List (Entry T)) → tickets (record { message = m; ticket = o } ∷ xs) ≡ cons_option o (tickets xs)
+  tickets-cons : (o : Option ℕ) (m : T) (xs : List (LineEntry T)) → tickets (record { message = m; ticket = o } ∷ xs) ≡ cons_option o (tickets xs)
   tickets-cons o m xs = refl
 
-  without-cons : (t : ℕ) (o : Option ℕ) (m : T) (rest : List (Entry T)) (ts : List ℕ) → tickets rest ≡ but t ts → tickets (cond (not (is_ticket t o)) (record { message = m; ticket = o } ∷ rest) rest) ≡ but t (cons_option o ts)
+  without-cons : (t : ℕ) (o : Option ℕ) (m : T) (rest : List (LineEntry T)) (ts : List ℕ) → tickets rest ≡ but t ts → tickets (cond (not (is_ticket t o)) (record { message = m; ticket = o } ∷ rest) rest) ≡ but t (cons_option o ts)
   without-cons t None m rest ts h = h
   without-cons t (Some u) m rest ts h = elim (cases_Bool (u == t)) [ inl e ↦ rw e h | inr e ↦ rw e (ap (λ xs. u ∷ xs) h) ]
 
   -- the entries without one leave the tickets without it
-  pub tickets-without : (t : ℕ) (xs : List (Entry T)) → tickets (filter (λ e. not (holds_ticket t e)) xs) ≡ but t (tickets xs)
+  pub tickets-without : (t : ℕ) (xs : List (LineEntry T)) → tickets (filter (λ e. not (holds_ticket t e)) xs) ≡ but t (tickets xs)
   tickets-without t [] = refl
   tickets-without t (x ∷ xs) = without-cons t x.ticket x.message (filter (λ e. not (holds_ticket t e)) xs) (tickets xs) (tickets-without t xs)
 
-  found-cons : (t : ℕ) (o : Option ℕ) (m : T) (rest : List (Entry T)) (ts : List ℕ) → ((messages rest ≡ []) → has t ts ≡ false) → messages (cond (is_ticket t o) (record { message = m; ticket = o } ∷ rest) rest) ≡ [] → has t (cons_option o ts) ≡ false
+  found-cons : (t : ℕ) (o : Option ℕ) (m : T) (rest : List (LineEntry T)) (ts : List ℕ) → ((messages rest ≡ []) → has t ts ≡ false) → messages (cond (is_ticket t o) (record { message = m; ticket = o } ∷ rest) rest) ≡ [] → has t (cons_option o ts) ≡ false
   found-cons t None m rest ts k h = k h
   found-cons t (Some u) m rest ts k h = elim (cases_Bool (u == t)) [ inl e ↦ absurd (cc (rw e at h)) | inr e ↦ rw e (k (rw e at h)) ]
 
   -- a ticket with no message in the line is not there
-  pub found-none : (t : ℕ) (xs : List (Entry T)) → found t xs ≡ [] → has t (tickets xs) ≡ false
+  pub found-none : (t : ℕ) (xs : List (LineEntry T)) → found t xs ≡ [] → has t (tickets xs) ≡ false
   found-none t [] h = refl
   found-none t (x ∷ xs) h = found-cons t x.ticket x.message (filter (holds_ticket t) xs) (tickets xs) (λ k. found-none t xs k) h
 
   -- and one with a message is there
-  there-cons : (t : ℕ) (o : Option ℕ) (x : T) (rest : List (Entry T)) (ts : List ℕ) (m : T) (ms : List T) → (messages rest ≡ m ∷ ms → has t ts ≡ true) → messages (cond (is_ticket t o) (record { message = x; ticket = o } ∷ rest) rest) ≡ m ∷ ms → has t (cons_option o ts) ≡ true
+  there-cons : (t : ℕ) (o : Option ℕ) (x : T) (rest : List (LineEntry T)) (ts : List ℕ) (m : T) (ms : List T) → (messages rest ≡ m ∷ ms → has t ts ≡ true) → messages (cond (is_ticket t o) (record { message = x; ticket = o } ∷ rest) rest) ≡ m ∷ ms → has t (cons_option o ts) ≡ true
   there-cons t None x rest ts m ms k h = k h
   there-cons t (Some u) x rest ts m ms k h = elim (cases_Bool (u == t)) [ inl e ↦ rw e refl | inr e ↦ rw e (k (rw e at h)) ]
 
-  pub found-some : (t : ℕ) (xs : List (Entry T)) (m : T) (ms : List T) → found t xs ≡ m ∷ ms → has t (tickets xs) ≡ true
+  pub found-some : (t : ℕ) (xs : List (LineEntry T)) (m : T) (ms : List T) → found t xs ≡ m ∷ ms → has t (tickets xs) ≡ true
   found-some t [] m ms h = absurd (cc)
   found-some t (x ∷ xs) m ms h = there-cons t x.ticket x.message (filter (holds_ticket t) xs) (tickets xs) m ms (λ k. found-some t xs m ms k) h
 
-  pub tickets-append : (xs ys : List (Entry T)) → tickets (xs ++ ys) ≡ tickets xs ++ tickets ys
-  tickets-append xs ys = filter_map-append (λ (x : Entry T). x.ticket) xs ys
+  pub tickets-append : (xs ys : List (LineEntry T)) → tickets (xs ++ ys) ≡ tickets xs ++ tickets ys
+  tickets-append xs ys = filter_map-append (λ (x : LineEntry T). x.ticket) xs ys
 
   -- a line that waits for nothing has no ticket
-  pub bare-tickets : (xs : List (Entry T)) → AllBare xs → tickets xs ≡ []
+  pub bare-tickets : (xs : List (LineEntry T)) → AllBare xs → tickets xs ≡ []
   bare-tickets [] a = refl
   bare-tickets (x ∷ xs) a = rw a.0 (bare-tickets xs a.1)
 
   -- the tickets are those at and above the capacity
-  pub tickets-over : (c : Option ℕ) (xs : List (Entry T)) → IsSeated c xs → tickets xs ≡ tickets (over c xs)
+  pub tickets-over : (c : Option ℕ) (xs : List (LineEntry T)) → IsSeated c xs → tickets xs ≡ tickets (over c xs)
   tickets-over c xs s = ap tickets (sym (under-over c xs)) ∙ (tickets-append (under c xs) (over c xs) ∙ ap (λ ts. ts ++ tickets (over c xs)) (bare-tickets (under c xs) s.0))
 
-  wait-tail : (n : ℕ) (x : Entry T) (xs : List (Entry T)) → AllWait (drop n (x ∷ xs)) → AllWait (drop n xs)
+  wait-tail : (n : ℕ) (x : LineEntry T) (xs : List (LineEntry T)) → AllWait (drop n (x ∷ xs)) → AllWait (drop n xs)
   wait-tail zero x xs a = a.2
   wait-tail (suc n) x [] a = tail-none n
     where
@@ -122,6 +122,6 @@ module _ {T : Type 0} where
   wait-tail (suc n) x (y ∷ xs) a = wait-tail n y xs a
 
   -- what is over the capacity behind the front waits
-  pub over-tail : (c : Option ℕ) (x : Entry T) (xs : List (Entry T)) → AllWait (over c (x ∷ xs)) → AllWait (over c xs)
+  pub over-tail : (c : Option ℕ) (x : LineEntry T) (xs : List (LineEntry T)) → AllWait (over c (x ∷ xs)) → AllWait (over c xs)
   over-tail None x xs a = tt
   over-tail (Some n) x xs a = wait-tail n x xs a

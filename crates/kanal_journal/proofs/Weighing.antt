@@ -8,7 +8,7 @@ use Rattle.kanal_core.specs.declared.internal.outcome.Reason.{Reason}
 use Rattle.kanal_core.specs.declared.internal.outcome.Reason.TheVariants.{Closed as ByClose, SendClosed as NoSendersLeft, ReceiveClosed as NoReceiversLeft}
 use Rattle.kanal_core.specs.declared.internal.outcome.Outcome.{Outcome}
 use Rattle.kanal_core.specs.declared.internal.outcome.Outcome.TheVariants.{Taken, Ended}
-use Rattle.kanal_core.specs.Line.{Entry, Line, last_word, bare, waiting, messages, tickets, has, under, over, has_place, is_ticket, holds_ticket, found}
+use Rattle.kanal_core.specs.Line.{LineEntry, Line, last_word, bare, waiting, messages, tickets, has, under, over, has_place, is_ticket, holds_ticket, found}
 use Rattle.kanal_core.specs.Moves.{last_count, serve, enter, drain, seated, ended, ended_entry, end_all, close, cleared, wait_send, wait_recv, without_demand, add_sender, add_receiver, seal}
 use Rattle.kanal_journal.specs.declared.journal.handles.Handles.{Handles}
 use Rattle.kanal_events.specs.declared.event.Side.{Side}
@@ -38,15 +38,15 @@ tails e = cc
 
 module _ {T : Type 0} where
   -- a ticket that is not there has no message there
-  none-cons : (t : ℕ) (o : Option ℕ) (m : T) (rest : List (Entry T)) (ts : List ℕ) → (has t ts ≡ false → messages rest ≡ []) → has t (cons_option o ts) ≡ false → messages (cond (is_ticket t o) (record { message = m; ticket = o } ∷ rest) rest) ≡ []
+  none-cons : (t : ℕ) (o : Option ℕ) (m : T) (rest : List (LineEntry T)) (ts : List ℕ) → (has t ts ≡ false → messages rest ≡ []) → has t (cons_option o ts) ≡ false → messages (cond (is_ticket t o) (record { message = m; ticket = o } ∷ rest) rest) ≡ []
   none-cons t None m rest ts k h = k h
   none-cons t (Some u) m rest ts k h = elim (cases_Bool (u == t)) [ inl e ↦ absurd (false≢true (sym (rw e at h))) | inr e ↦ rw e (k (rw e at h)) ]
 
-  none-found : (t : ℕ) (xs : List (Entry T)) → has t (tickets xs) ≡ false → found t xs ≡ []
+  none-found : (t : ℕ) (xs : List (LineEntry T)) → has t (tickets xs) ≡ false → found t xs ≡ []
   none-found t [] h = refl
   none-found t (x ∷ xs) h = none-cons t x.ticket x.message (filter (holds_ticket t) xs) (tickets xs) (λ k. none-found t xs k) h
 
-  one-cons : (t : ℕ) (o : Option ℕ) (x : T) (rest : List (Entry T)) (ts : List ℕ) (m : T) (ms : List T) → AreApart (cons_option o ts) → (has t ts ≡ false → messages rest ≡ []) → (AreApart ts → messages rest ≡ m ∷ ms → ms ≡ []) → messages (cond (is_ticket t o) (record { message = x; ticket = o } ∷ rest) rest) ≡ m ∷ ms → ms ≡ []
+  one-cons : (t : ℕ) (o : Option ℕ) (x : T) (rest : List (LineEntry T)) (ts : List ℕ) (m : T) (ms : List T) → AreApart (cons_option o ts) → (has t ts ≡ false → messages rest ≡ []) → (AreApart ts → messages rest ≡ m ∷ ms → ms ≡ []) → messages (cond (is_ticket t o) (record { message = x; ticket = o } ∷ rest) rest) ≡ m ∷ ms → ms ≡ []
   one-cons t None x rest ts m ms a k r h = r a h
   one-cons t (Some u) x rest ts m ms a k r h =
       elim (cases_Bool (u == t)) [
@@ -59,7 +59,7 @@ module _ {T : Type 0} where
       ]
 
   -- a ticket is there once at most
-  found-one : (t : ℕ) (xs : List (Entry T)) (m : T) (ms : List T) → AreApart (tickets xs) → found t xs ≡ m ∷ ms → ms ≡ []
+  found-one : (t : ℕ) (xs : List (LineEntry T)) (m : T) (ms : List T) → AreApart (tickets xs) → found t xs ≡ m ∷ ms → ms ≡ []
   found-one t [] m ms a h = absurd (cc)
   found-one t (x ∷ xs) m ms a h = one-cons t x.ticket x.message (filter (holds_ticket t) xs) (tickets xs) m ms a (λ k. none-found t xs k) (λ b k. found-one t xs m ms b k) h
 
@@ -71,7 +71,7 @@ module _ {T : Type 0} (h : T → ℕ) where
   abbrev told_weight : Told T → ℕ
   told_weight t = reply_weight h t.reply + outcomes t.settled + weigh h t.drained + weigh h t.cleared + weigh h (messages t.line.line)
 
-  weigh-serve : (old : Line T) (line : List (Entry T)) (demands : List ℕ) → weigh h (messages line) ≡ outcomes (serve old line demands).settled + weigh h (messages (serve old line demands).line.line)
+  weigh-serve : (old : Line T) (line : List (LineEntry T)) (demands : List ℕ) → weigh h (messages line) ≡ outcomes (serve old line demands).settled + weigh h (messages (serve old line demands).line.line)
   weigh-serve old line [] = omega arith
   weigh-serve old [] (d ∷ ds) = omega arith
   weigh-serve old (e ∷ es) (d ∷ ds) = omega (arith, weigh-serve old es ds)
@@ -80,19 +80,19 @@ module _ {T : Type 0} (h : T → ℕ) where
   taken-nothing [] = refl
   taken-nothing (t ∷ ts) = omega (arith, taken-nothing ts)
 
-  bare-same : (xs : List (Entry T)) → messages (map (λ (e : Entry T). bare e.message) xs) ≡ messages xs
+  bare-same : (xs : List (LineEntry T)) → messages (map (λ (e : LineEntry T). bare e.message) xs) ≡ messages xs
   bare-same [] = refl
   bare-same (x ∷ xs) = ap (λ ms. x.message ∷ ms) (bare-same xs)
 
-  seated-same : (c : Option ℕ) (xs : List (Entry T)) → messages (seated c xs) ≡ messages xs
-  seated-same c xs = map-append (λ (e : Entry T). e.message) (map (λ (e : Entry T). bare e.message) (under c xs)) (over c xs) ∙ (ap (λ ms. ms ++ messages (over c xs)) (bare-same (under c xs)) ∙ (sym (map-append (λ (e : Entry T). e.message) (under c xs) (over c xs)) ∙ ap messages (under-over c xs)))
+  seated-same : (c : Option ℕ) (xs : List (LineEntry T)) → messages (seated c xs) ≡ messages xs
+  seated-same c xs = map-append (λ (e : LineEntry T). e.message) (map (λ (e : LineEntry T). bare e.message) (under c xs)) (over c xs) ∙ (ap (λ ms. ms ++ messages (over c xs)) (bare-same (under c xs)) ∙ (sym (map-append (λ (e : LineEntry T). e.message) (under c xs) (over c xs)) ∙ ap messages (under-over c xs)))
 
-  split-cons : (b : Bool) (x : Entry T) (yes_ no_ : List (Entry T)) → weigh h (messages (cond b (x ∷ yes_) yes_)) + weigh h (messages (cond (not b) (x ∷ no_) no_)) ≡ h x.message + (weigh h (messages yes_) + weigh h (messages no_))
+  split-cons : (b : Bool) (x : LineEntry T) (yes_ no_ : List (LineEntry T)) → weigh h (messages (cond b (x ∷ yes_) yes_)) + weigh h (messages (cond (not b) (x ∷ no_) no_)) ≡ h x.message + (weigh h (messages yes_) + weigh h (messages no_))
   split-cons true x yes_ no_ = omega arith
   split-cons false x yes_ no_ = omega arith
 
   -- the entries with a ticket and those without it are all
-  weigh-split : (t : ℕ) (xs : List (Entry T)) → weigh h (found t xs) + weigh h (messages (filter (λ e. not (holds_ticket t e)) xs)) ≡ weigh h (messages xs)
+  weigh-split : (t : ℕ) (xs : List (LineEntry T)) → weigh h (found t xs) + weigh h (messages (filter (λ e. not (holds_ticket t e)) xs)) ≡ weigh h (messages xs)
   weigh-split t [] = refl
   weigh-split t (x ∷ xs) = omega (arith, split-cons (holds_ticket t x) x (filter (holds_ticket t) xs) (filter (λ e. not (holds_ticket t e)) xs), weigh-split t xs)
 
@@ -100,11 +100,11 @@ module _ {T : Type 0} (h : T → ℕ) where
   ended-demands reason [] = refl
   ended-demands reason (t ∷ ts) = omega (arith, ended-demands reason ts)
 
-  ended-bare : (reason : Reason) (xs : List (Entry T)) → AllBare xs → filter_map (ended_entry reason) xs ≡ []
+  ended-bare : (reason : Reason) (xs : List (LineEntry T)) → AllBare xs → filter_map (ended_entry reason) xs ≡ []
   ended-bare reason [] a = refl
   ended-bare reason (x ∷ xs) a = rw a.0 (ended-bare reason xs a.1)
 
-  ended-waiting : (reason : Reason) (xs : List (Entry T)) → AllWait xs → outcomes (filter_map (ended_entry reason) xs) ≡ weigh h (messages xs)
+  ended-waiting : (reason : Reason) (xs : List (LineEntry T)) → AllWait xs → outcomes (filter_map (ended_entry reason) xs) ≡ weigh h (messages xs)
   ended-waiting reason [] a = refl
   ended-waiting reason (x ∷ xs) a = rw a.1 (ap (λ k. h x.message + k) (ended-waiting reason xs a.2))
 
@@ -115,11 +115,11 @@ module _ {T : Type 0} (h : T → ℕ) where
       let o = over l.capacity l.line in
       let f = filter_map (ended_entry {T = T} reason) in
       let one : f l.line ≡ f o = ap f (sym (under-over l.capacity l.line)) ∙ (filter_map-append (ended_entry reason) u o ∙ ap (λ xs. xs ++ f o) (ended-bare reason u seats.0)) in
-      let two : weigh h (messages l.line) ≡ weigh h (messages u) + weigh h (messages o) = ap (λ xs. weigh h (messages xs)) (sym (under-over l.capacity l.line)) ∙ (ap (weigh h) (map-append (λ (e : Entry T). e.message) u o) ∙ weigh-append h (messages u) (messages o)) in
+      let two : weigh h (messages l.line) ≡ weigh h (messages u) + weigh h (messages o) = ap (λ xs. weigh h (messages xs)) (sym (under-over l.capacity l.line)) ∙ (ap (weigh h) (map-append (λ (e : LineEntry T). e.message) u o) ∙ weigh-append h (messages u) (messages o)) in
       omega (arith, two, ap outcomes one, ended-waiting reason o seats.1, ended-demands reason l.demands, weigh-append (λ s. outcome_weight h s.1) (f l.line) (map (λ t. (t, Ended reason None)) l.demands))
 
   entering : (l : Line T) (m : T) (ms : List T) → ms ≡ messages (l.line ++ bare m ∷ []) → weigh h ms ≡ weigh h (messages l.line) + h m
-  entering l m ms is = omega (arith, ap (weigh h) is, ap (weigh h) (map-append (λ (e : Entry T). e.message) l.line (bare m ∷ [])), weigh-append h (messages l.line) (m ∷ []))
+  entering l m ms is = omega (arith, ap (weigh h) is, ap (weigh h) (map-append (λ (e : LineEntry T). e.message) l.line (bare m ∷ [])), weigh-append h (messages l.line) (m ∷ []))
 
   module _ (l : Line T) (seats : IsSeated l.capacity l.line) (apart : AreApart (tickets l.line)) where
     -- the step tells and keeps all that was there and came
@@ -147,7 +147,7 @@ module _ {T : Type 0} (h : T → ℕ) where
               ]
         ]
 
-    fronts : (e : Event T) (otherwise : Told T) (xs : List (Entry T)) → l.line ≡ xs → event_weight h e ≡ 0 → Weighs e otherwise → Weighs e (take_front l xs otherwise)
+    fronts : (e : Event T) (otherwise : Told T) (xs : List (LineEntry T)) → l.line ≡ xs → event_weight h e ≡ 0 → Weighs e otherwise → Weighs e (take_front l xs otherwise)
     fronts e otherwise [] is k w = w
     fronts e otherwise (x ∷ xs) is k w =
         omega (arith, k, ap (λ ys. weigh h (messages ys)) is, taken-nothing (tickets ((x ∷ []) ++ under l.capacity xs)), ap (weigh h) (seated-same l.capacity xs))
@@ -170,7 +170,7 @@ module _ {T : Type 0} (h : T → ℕ) where
     waits_send m =
         elim (cases_Bool (eqb l.next last_word)) [
           | inl x ↦ to (Send m) (wait l (wait_send l m) (Some m)) (only l (Refused TooMany (Some m))) (rw x refl) (omega arith)
-          | inr x ↦ to (Send m) (wait l (wait_send l m) (Some m)) (only (wait_send l m) (Waits l.next)) (rw x refl) (omega (arith, ap (weigh h) (map-append (λ (e : Entry T). e.message) l.line (waiting m l.next ∷ [])), weigh-append h (messages l.line) (m ∷ [])))
+          | inr x ↦ to (Send m) (wait l (wait_send l m) (Some m)) (only (wait_send l m) (Waits l.next)) (rw x refl) (omega (arith, ap (weigh h) (map-append (λ (e : LineEntry T). e.message) l.line (waiting m l.next ∷ [])), weigh-append h (messages l.line) (m ∷ [])))
         ]
 
     waits_recv : Weighs Recv (wait l (wait_recv l) None)

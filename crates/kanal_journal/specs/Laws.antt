@@ -1,7 +1,7 @@
 -- Words of the laws that users of a channel lean on.
 use Rattle.std.specs.Prelude.{◌≡◌, ◌≢◌, ◌⊎◌, ◌↔◌, ℕ, ◌+◌, ◌≤◌, ◌==◌, Bool, true, false, not, List, [], ◌∷◌, length, map, filter, Option, Some, None}
 use Rattle.std.specs.Option.{is_some}
-use Rattle.kanal_core.specs.Line.{Entry, Line, is_at, is_below, buffered, tickets, has_place}
+use Rattle.kanal_core.specs.Line.{LineEntry, Line, is_at, is_below, buffered, tickets, has_place}
 use Rattle.kanal_events.specs.declared.event.Event.{Event}
 use Rattle.kanal_events.specs.declared.event.Event.TheVariants.{TrySend, Recv, TryRecv, Close}
 use Rattle.kanal_events.specs.declared.event.Refusal.TheVariants.{Closed, SendClosed, NoHandle, NoMemory, CloseError}
@@ -21,12 +21,12 @@ AreRising low (t ∷ ts) next = (low ≤ t) × AreRising (t + 1) ts next
 
 module _ {T : Type 0} where
   -- the entries, of which the first stands at this place, have a ticket exactly from the capacity on: those whose place is below it have none
-  abbrev pub WaitByPlace : Option ℕ → ℕ → List (Entry T) → Type 0
+  abbrev pub WaitByPlace : Option ℕ → ℕ → List (LineEntry T) → Type 0
   WaitByPlace capacity place [] = Unit {0}
   WaitByPlace capacity place (e ∷ es) = (is_some e.ticket ≡ not (is_below place capacity)) × WaitByPlace capacity (place + 1) es
 
   -- the entries without a ticket
-  abbrev pub without_ticket : List (Entry T) → List (Entry T)
+  abbrev pub without_ticket : List (LineEntry T) → List (LineEntry T)
   without_ticket line = filter (λ e. not (is_some e.ticket)) line
 
   -- the tickets that the step settled, in the order in which they stand

@@ -2,7 +2,7 @@
 use Rattle.std.specs.Prelude.{◌≡◌}
 use Rattle.kanal_journal.specs.declared.journal.recorded_state.RecordedState.TheInside.{Inside}
 use Rattle.kanal_journal.specs.Replays.{Recording}
-use Rattle.kanal_journal.specs.Recorders.{IsSound, recording_of}
+use Rattle.kanal_journal.specs.Recorders.{RecorderIsSound, recording_of}
 
 module _ {T : Type 0} where
   -- the state as contracts see it
@@ -11,5 +11,5 @@ module _ {T : Type 0} where
 
   -- the journal replays to what is there, and the capacity is the channel's
   pub record IsExplained (s : Inside T) : Type 0 where
-    pub sound : IsSound s.recorder
+    pub sound : RecorderIsSound s.recorder
     pub capacity : s.recorder.running.core.capacity ≡ s.capacity

@@ -16,6 +16,6 @@ module _ {T : Type 0} where
   recording_of r = journal_of r.entries.items r.running
 
   -- the journal replays to what is there, which its entries can have brought
-  pub record IsSound (r : Recorder T) : Type 0 where
+  pub record RecorderIsSound (r : Recorder T) : Type 0 where
     pub replays : Replays r.running.core.capacity r.entries.items (account_of (replies_of r.entries.items) r.running)
     pub within : IsWithinEvents (length r.entries.items) r.running

@@ -31,7 +31,7 @@ module _ {T : Type 0} where
     pub cleared : r.cleared.items ≡ []
 
   -- the event was made as the step with this number, and what it told was added at the ends
-  pub record IsNoted (number : ℕ) (old : Running T) (event : Event T) (reply : Reply T) (new : Running T) : Type 0 where
+  pub record RunningStep (number : ℕ) (old : Running T) (event : Event T) (reply : Reply T) (new : Running T) : Type 0 where
     pub told : Told T
     pub answers : Answers old.handles (line_of old.core) event told
     pub replied : reply ≡ told.reply

@@ -74,13 +74,13 @@ module _ {T : Type 0} where
       }
 
   -- the account goes on by what the event tells
-  abbrev pub IsTold : Account T → Event T → Account T → Type 0
-  IsTold old event new = (told : Told T) × Answers old.handles old.line event told × (new ≡ added old event told)
+  abbrev pub AccountStep : Account T → Event T → Account T → Type 0
+  AccountStep old event new = (told : Told T) × Answers old.handles old.line event told × (new ≡ added old event told)
 
   -- the events, one after another, lead from one account to the other
   abbrev pub Leads : Account T → List (Event T) → Account T → Type 0
   Leads old [] new = new ≡ old
-  Leads old (event ∷ events) new = (mid : Account T) × IsTold old event mid × Leads mid events new
+  Leads old (event ∷ events) new = (mid : Account T) × AccountStep old event mid × Leads mid events new
 
   -- the line of a new channel, with one sender and one receiver
   abbrev pub opening_line : Option ℕ → Line T

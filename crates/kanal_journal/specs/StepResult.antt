@@ -14,11 +14,11 @@ StepResult T = StepResultWith T (Unit {0})
 
 module _ {T : Type 0} where
   -- the event was made, and what it drained was put behind what was drained before
-  pub record IsMade (old : Line T) (event : Event T) (new : Line T) (before after : List T) (made : StepResult T) : Type 0 where
+  pub record StepPost (old : Line T) (event : Event T) (new : Line T) (before after : List T) (made : StepResult T) : Type 0 where
     pub drained : after ≡ before ++ drained_of made
     pub told : Tells old event (told_of new made)
 
   -- the same, where the event's side may have no live handle
-  pub record IsAnswered (handles : Handles) (old : Line T) (event : Event T) (new : Line T) (before after : List T) (made : StepResult T) : Type 0 where
+  pub record ServedPost (handles : Handles) (old : Line T) (event : Event T) (new : Line T) (before after : List T) (made : StepResult T) : Type 0 where
     pub drained : after ≡ before ++ drained_of made
     pub told : Answers handles old event (told_of new made)

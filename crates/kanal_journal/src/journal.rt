@@ -10,7 +10,7 @@
 //! Nothing here looks into the core.
 ghost use Rattle.std.specs.Prelude.{◌≡◌, ◌↔◌, ℕ, ◌+◌, ◌<◌, IfOk, IsErrOf, Some, vec_len, vec_capacity};
 ghost use Rattle.kanal_core.specs.Line.{last_word};
-ghost use Rattle.kanal_journal.specs.Runs.{IsTold, Runs};
+ghost use Rattle.kanal_journal.specs.Runs.{AccountStep, Runs};
 ghost use Rattle.kanal_journal.specs.Running.{IsWithinEvents, HasRoom, HasSameRoom, account_of};
 ghost use Rattle.kanal_journal.specs.Paired.{Paired, history, until, rest};
 ghost use Rattle.kanal_journal.specs.Weights.{weigh, event_weight, report_weight};
@@ -37,7 +37,7 @@ fn step<T: Drop>(running: &mut Running<T>, replies: &mut Vec<Reply<T>>, event: E
     requires within { IsWithinEvents (vec_len replies.old) running.old }
     requires room { HasRoom (vec_len replies.old + 1) running.old }
     requires replies { vec_len replies.old < vec_capacity replies.old }
-    ensures told { IsTold (account_of replies.old.items running.old) event
+    ensures told { AccountStep (account_of replies.old.items running.old) event
         (account_of replies.new.items running.new) }
     ensures within { IsWithinEvents (vec_len replies.new) running.new }
     ensures count { vec_len replies.new ≡ vec_len replies.old + 1 }

@@ -5,8 +5,8 @@ use mathlib.Core.List.{IsPrefix}
 use lib.ListN.{get_elem?}
 use Rattle.atomic_table.proofs.Lists.{at_set}
 use Rattle.kanal_log.specs.declared.rule.Share.{Share}
-use Rattle.kanal_log.specs.declared.rule.View.{View}
-use Rattle.kanal_log.specs.Views.{IsAmong, AreDistinct, AreBelow, reader_view, all_own, Fits}
+use Rattle.kanal_log.specs.declared.rule.LogView.{LogView}
+use Rattle.kanal_log.specs.Views.{IsAmong, AreDistinct, AreBelow, reader_view, all_own, ViewFits}
 use Rattle.kanal_log.proofs.Readers.{prefix_length}
 use Rattle.kanal_log.proofs.Places.{among-cases}
 
@@ -14,15 +14,15 @@ pub off : false ≡ true → ⊥
 off e = true≢false (sym e)
 
 module _ {E : Type 0} where
-  pub fits-set : (seat : ℕ) (now : List E) (views : List (View E)) (by : ℕ) (w : View E) → ((j : ℕ) (u : View E) → j ≢ by → get_elem? views j ≡ some u → Fits seat now j u) → Fits seat now by w → (j : ℕ) (u : View E) → get_elem? (set views by w) j ≡ some u → Fits seat now j u
+  pub fits-set : (seat : ℕ) (now : List E) (views : List (LogView E)) (by : ℕ) (w : LogView E) → ((j : ℕ) (u : LogView E) → j ≢ by → get_elem? views j ≡ some u → ViewFits seat now j u) → ViewFits seat now by w → (j : ℕ) (u : LogView E) → get_elem? (set views by w) j ≡ some u → ViewFits seat now j u
   fits-set seat now views by w others mine j u e =
       ⊎_elim
-      (λ (x : (j ≡ by) × (w ≡ u)). subst (λ (y : ℕ × View E). Fits seat now y.0 y.1) (λ i. (sym x.0 i, x.1 i)) mine)
+      (λ (x : (j ≡ by) × (w ≡ u)). subst (λ (y : ℕ × LogView E). ViewFits seat now y.0 y.1) (λ i. (sym x.0 i, x.1 i)) mine)
       (λ (x : (j ≢ by) × (get_elem? views j ≡ some u)). others j u x.0 x.1)
       (at_set views by j w u e)
 
   -- a reader fits that has seen a beginning
-  pub reader_view-fits : (seat : ℕ) (now : List E) (by : ℕ) (log : List E) (own : List ℕ) (share : Share) → IsPrefix log now → AreBelow (length log) own → AreDistinct own → (share.count ≡ 0 → own ≡ []) → Fits seat now by (reader_view log own share)
+  pub reader_view-fits : (seat : ℕ) (now : List E) (by : ℕ) (log : List E) (own : List ℕ) (share : Share) → IsPrefix log now → AreBelow (length log) own → AreDistinct own → (share.count ≡ 0 → own ≡ []) → ViewFits seat now by (reader_view log own share)
   reader_view-fits seat now by log own share p below distinct idle =
       record {
         keeps = λ k. absurd (off k);
@@ -36,7 +36,7 @@ module _ {E : Type 0} where
       }
 
   -- each place of a view is one of the history
-  pub all-below : (seat : ℕ) (log : List E) (by : ℕ) (v : View E) → Fits seat log by v → AreBelow (length log) (all_own v)
+  pub all-below : (seat : ℕ) (log : List E) (by : ℕ) (v : LogView E) → ViewFits seat log by v → AreBelow (length log) (all_own v)
   all-below seat log by v f k a =
       ⊎_elim
       (λ (b : IsAmong k v.others_own). let p = prefix_length v.other log f.shown in let q = f.others_below k b in omega arith)

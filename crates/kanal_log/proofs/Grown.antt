@@ -2,8 +2,8 @@
 use Rattle.std.proofs.Common.{◌≡◌, ◌≢◌, ◌⊎◌, ◌<◌, ℕ, List, ◌++◌, length, set, true, HoldsAt, refl, sym, ◌∙◌, subst, ⊎_elim, inl, inr, arith, length-append}
 use mathlib.Core.Option.{some}
 use lib.ListN.{get_elem?}
-use Rattle.kanal_log.specs.declared.rule.View.{View}
-use Rattle.kanal_log.specs.Views.{IsAmong, AreDistinct, AreBelow, Addition, entries, place_of, MayAdd, all_own, IsOwned, Fits, Kept}
+use Rattle.kanal_log.specs.declared.rule.LogView.{LogView}
+use Rattle.kanal_log.specs.Views.{IsAmong, AreDistinct, AreBelow, Addition, entries, place_of, MayAdd, all_own, IsOwned, ViewFits, Kept}
 use Rattle.kanal_log.proofs.Readers.{prefix_self, prefix_more}
 use Rattle.kanal_log.proofs.Places.{among-cases, among-left, among-right, distinct-append, distinct-left, distinct-right, distinct-apart, among-place, place-distinct, place-covers, none-more, quiet-longer}
 use Rattle.kanal_log.proofs.Owners.{owners-set}
@@ -11,9 +11,9 @@ use Rattle.kanal_log.proofs.Worths.{halved-at, shared-set}
 use Rattle.kanal_log.proofs.Owned.{owned-set, owned-new}
 use Rattle.kanal_log.proofs.Fitting.{fits-set, all-below}
 
-module _ {E : Type 0} (quiet : E → Type 0) (v : View E) (more : Addition E) where
+module _ {E : Type 0} (quiet : E → Type 0) (v : LogView E) (more : Addition E) where
   -- the writer's view with what it adds
-  abbrev pub grown : View E
+  abbrev pub grown : LogView E
   grown = record { keeps = true; log = v.log ++ entries more; own = v.own; share = v.share; other = v.log ++ entries more; others_own = place_of v.log more ++ v.others_own; others_share = v.others_share }
 
   grown-cases : (k : ℕ) → IsAmong k (all_own grown) → IsAmong k (place_of v.log more) ⊎ IsAmong k (all_own v)
@@ -42,7 +42,7 @@ module _ {E : Type 0} (quiet : E → Type 0) (v : View E) (more : Addition E) wh
       (distinct-right v.others_own v.own distinct)
       (λ k a b. ⊎_elim (λ c. grown-apart inside k c (among-right k v.others_own v.own b)) (λ c. distinct-apart v.others_own v.own distinct k c b) (among-cases k place v.others_own a))
 
-  grown-fits : (seat by : ℕ) → by ≡ seat → Fits seat v.log by v → MayAdd quiet v.others_share more → Fits seat (v.log ++ entries more) by grown
+  grown-fits : (seat by : ℕ) → by ≡ seat → ViewFits seat v.log by v → MayAdd quiet v.others_share more → ViewFits seat (v.log ++ entries more) by grown
   grown-fits seat by is m may =
       let inside = all-below seat v.log by v m in
       record {
@@ -59,7 +59,7 @@ module _ {E : Type 0} (quiet : E → Type 0) (v : View E) (more : Addition E) wh
         others_idle = λ e. none-more quiet v.others_share v.log more v.others_own may e (m.others_idle e);
       }
 
-  other-fits : (seat by : ℕ) (u : View E) → by ≢ seat → Fits seat v.log by u → Fits seat (v.log ++ entries more) by u
+  other-fits : (seat by : ℕ) (u : LogView E) → by ≢ seat → ViewFits seat v.log by u → ViewFits seat (v.log ++ entries more) by u
   other-fits seat by u apart f =
       record {
         keeps = λ k. absurd (apart (f.keeps k).0);
@@ -73,10 +73,10 @@ module _ {E : Type 0} (quiet : E → Type 0) (v : View E) (more : Addition E) wh
       }
 
   -- the rule holds where the history is what the writer has seen
-  pub grown-keeps : (views : List (View E)) (h : Kept quiet views) (id : ℕ) → get_elem? views id ≡ some v → id ≡ h.seat → v.log ≡ h.log → MayAdd quiet v.others_share more → Kept quiet (set views id grown)
+  pub grown-keeps : (views : List (LogView E)) (h : Kept quiet views) (id : ℕ) → get_elem? views id ≡ some v → id ≡ h.seat → v.log ≡ h.log → MayAdd quiet v.others_share more → Kept quiet (set views id grown)
   grown-keeps views h id at is same may =
       let log = v.log ++ entries more in
-      let fits : (j : ℕ) (u : View E) → get_elem? views j ≡ some u → Fits h.seat v.log j u = λ j u e. subst (λ l. Fits h.seat l j u) (sym same) (h.fits j u e) in
+      let fits : (j : ℕ) (u : LogView E) → get_elem? views j ≡ some u → ViewFits h.seat v.log j u = λ j u e. subst (λ l. ViewFits h.seat l j u) (sym same) (h.fits j u e) in
       record {
         seat = h.seat;
         log = log;

@@ -6,9 +6,9 @@ use lib.ListN.{get_elem?}
 use Rattle.atomic_table.specs.Table.{State, Me, keeps, Allows, Splits, Joins}
 use Rattle.atomic_table.proofs.Lists.{at_set, at_snoc}
 use Rattle.kanal_log.specs.declared.rule.Share.{Share}
-use Rattle.kanal_log.specs.declared.rule.View.{View}
+use Rattle.kanal_log.specs.declared.rule.LogView.{LogView}
 use Rattle.kanal_log.specs.Shares.{whole, nothing, half, both, IsWhole, worth}
-use Rattle.kanal_log.specs.Views.{IsAmong, AreApart, Addition, MayAdd, writer_view_with, reader_view, beside, alone, with_share, all_own, IsHalvedUpTo, AreShared, Fits, HaveOneOwner, Kept, Extended, Compared, Learned, Checked, IsQuietBehind}
+use Rattle.kanal_log.specs.Views.{IsAmong, AreDisjoint, Addition, MayAdd, writer_view_with, reader_view, beside, alone, with_share, all_own, IsHalvedUpTo, AreShared, ViewFits, HaveOneOwner, Kept, Extended, Compared, Learned, Checked, IsQuietBehind}
 use Rattle.kanal_log.proofs.Readers.{prefix_self, prefix_both, prefix_length}
 use Rattle.kanal_log.proofs.Places.{among-cases, among-left, among-right, distinct-append, distinct-left, distinct-right, distinct-apart, quiet-shorter}
 use Rattle.kanal_log.proofs.Owners.{owners-set, owners-split, owners-join}
@@ -32,7 +32,7 @@ module _ {E : Type 0} (quiet : E → Type 0) where
         shares = record { halved = ((omega arith, omega arith), tt); most = omega arith };
       }
     where
-      first : Fits {E = E} 0 [] 0 (writer_view_with [] whole)
+      first : ViewFits {E = E} 0 [] 0 (writer_view_with [] whole)
       first =
           record {
             keeps = λ _. (refl, refl);
@@ -45,8 +45,8 @@ module _ {E : Type 0} (quiet : E → Type 0) where
             others_idle = λ _. refl;
           }
 
-      one : (by : ℕ) (v : View E) → get_elem? (writer_view_with [] whole ∷ []) by ≡ some v → Fits 0 [] by v
-      one zero v e = subst (Fits 0 [] 0) (some-injective _ _ e) first
+      one : (by : ℕ) (v : LogView E) → get_elem? (writer_view_with [] whole ∷ []) by ≡ some v → ViewFits 0 [] by v
+      one zero v e = subst (ViewFits 0 [] 0) (some-injective _ _ e) first
       one (suc by) v e = absurd (some-ne-none v (sym e))
 
       single : HaveOneOwner {E = E} (writer_view_with [] whole ∷ [])
@@ -56,18 +56,18 @@ module _ {E : Type 0} (quiet : E → Type 0) where
 
   module _ {S : Type 0} where
     -- the rule
-    abbrev rule : State S (View E) → Type 0
+    abbrev rule : State S (LogView E) → Type 0
     rule s = Kept quiet s.views
 
-    module _ (s : State S (View E)) (h : rule s) (id : ℕ) (v : View E) (at : get_elem? s.views id ≡ some v) where
-      mine : Fits h.seat h.log id v
+    module _ (s : State S (LogView E)) (h : rule s) (id : ℕ) (v : LogView E) (at : get_elem? s.views id ≡ some v) where
+      mine : ViewFits h.seat h.log id v
       mine = h.fits id v at
 
       small : IsHalvedUpTo h.scale v
       small = halved-at h.scale s.views id v h.shares.halved at
 
       -- a view that fits takes the place of one, with the same places
-      changed : (n : ℕ) (w : View E) → Fits h.seat h.log id w → ((k : ℕ) → IsAmong k (all_own w) → IsAmong k (all_own v)) → ((k : ℕ) → IsAmong k (all_own v) → IsAmong k (all_own w)) → AreShared n (set s.views id w) → Kept quiet (set s.views id w)
+      changed : (n : ℕ) (w : LogView E) → ViewFits h.seat h.log id w → ((k : ℕ) → IsAmong k (all_own w) → IsAmong k (all_own v)) → ((k : ℕ) → IsAmong k (all_own v) → IsAmong k (all_own w)) → AreShared n (set s.views id w) → Kept quiet (set s.views id w)
       changed n w fits sub sup shares =
           record {
             seat = h.seat;
@@ -84,7 +84,7 @@ module _ {E : Type 0} (quiet : E → Type 0) where
       stays = changed h.scale v mine (λ k a. a) (λ k a. a) (shared-set h.scale s.views id v v h.shares at small (omega arith))
 
       -- a view is cut in two
-      cut : (n : ℕ) (left right : View E) → Fits h.seat h.log id left → ((by : ℕ) → Fits h.seat h.log by right) → ((k : ℕ) → IsAmong k (all_own left) → IsAmong k (all_own v)) → ((k : ℕ) → IsAmong k (all_own right) → IsAmong k (all_own v)) → AreApart (all_own left) (all_own right) → ((k : ℕ) → IsAmong k (all_own v) → IsAmong k (all_own left) ⊎ IsAmong k (all_own right)) → AreShared n (set s.views id left ++ right ∷ []) → Kept quiet (set s.views id left ++ right ∷ [])
+      cut : (n : ℕ) (left right : LogView E) → ViewFits h.seat h.log id left → ((by : ℕ) → ViewFits h.seat h.log by right) → ((k : ℕ) → IsAmong k (all_own left) → IsAmong k (all_own v)) → ((k : ℕ) → IsAmong k (all_own right) → IsAmong k (all_own v)) → AreDisjoint (all_own left) (all_own right) → ((k : ℕ) → IsAmong k (all_own v) → IsAmong k (all_own left) ⊎ IsAmong k (all_own right)) → AreShared n (set s.views id left ++ right ∷ []) → Kept quiet (set s.views id left ++ right ∷ [])
       cut n left right l r lefts rights apart sup shares =
           record {
             seat = h.seat;
@@ -92,14 +92,14 @@ module _ {E : Type 0} (quiet : E → Type 0) where
             scale = n;
             fits = λ j u e. ⊎_elim
                 (λ (was : get_elem? (set s.views id left) j ≡ some u). fits-set h.seat h.log s.views id left (λ i y _ e'. h.fits i y e') l j u was)
-                (λ (same : right ≡ u). subst (Fits h.seat h.log j) same (r j))
+                (λ (same : right ≡ u). subst (ViewFits h.seat h.log j) same (r j))
                 (at_snoc (set s.views id left) right u j e);
             owners = owners-split s.views h.owners id v at left right lefts rights apart;
             owned = λ k lt. ⊎_elim (λ o. inl (owned-split s.views id v at left right k (sup k) o)) (λ q. inr q) (h.owned k lt);
             shares = shares;
           }
 
-    pub reads : (id : ℕ) (v : View E) → Splits rule id v v (reader_view v.log [] nothing)
+    pub reads : (id : ℕ) (v : LogView E) → Splits rule id v v (reader_view v.log [] nothing)
     reads id v s h at =
         let m = mine s h id v at in
         let none = worth-nothing h.scale in
@@ -107,7 +107,7 @@ module _ {E : Type 0} (quiet : E → Type 0) where
         (shared-split h.scale s.views id v v (reader_view v.log [] nothing) h.shares at (small s h id v at) (omega arith, omega arith) (omega arith))
 
     -- the share of a view is cut in two, and its places stay
-    shared : (id : ℕ) (v : View E) (left right : Share) → (left.count ≡ 0 → v.share.count ≡ 0 ⊎ (v.own ≡ [])) → ((n : ℕ) → v.share.halvings ≤ n → (left.halvings ≤ suc n) × (right.halvings ≤ suc n) × (worth (suc n) left + worth (suc n) right ≤ worth (suc n) v.share)) → Splits rule id v (with_share v left) (reader_view v.log [] right)
+    shared : (id : ℕ) (v : LogView E) (left right : Share) → (left.count ≡ 0 → v.share.count ≡ 0 ⊎ (v.own ≡ [])) → ((n : ℕ) → v.share.halvings ≤ n → (left.halvings ≤ suc n) × (right.halvings ≤ suc n) × (worth (suc n) left + worth (suc n) right ≤ worth (suc n) v.share)) → Splits rule id v (with_share v left) (reader_view v.log [] right)
     shared id v left right idle fair s h at =
         let m = mine s h id v at in
         let n = h.scale in
@@ -130,16 +130,16 @@ module _ {E : Type 0} (quiet : E → Type 0) where
         (λ by. reader_view-fits h.seat h.log by v.log [] right m.seen (λ k a. absurd a) tt (λ _. refl)) (λ k a. a) (λ k a. absurd a) (λ k a b. b) (λ k a. inl a)
         (shared-split (suc n) s.views id v (with_share v left) (reader_view v.log [] right) up at (omega arith, is.0) (omega arith, is.1) (let le = is.2 in omega arith))
 
-    pub founds : (id : ℕ) (v : View E) → v.own ≡ [] → Splits rule id v (with_share v nothing) (reader_view v.log [] v.share)
+    pub founds : (id : ℕ) (v : LogView E) → v.own ≡ [] → Splits rule id v (with_share v nothing) (reader_view v.log [] v.share)
     founds id v none = shared id v nothing v.share (λ _. inr none) (λ n le. let none = worth-nothing (suc n) in (omega arith, omega arith, omega arith))
 
-    pub halves : (id : ℕ) (v : View E) → Splits rule id v (with_share v (half v.share)) (reader_view v.log [] (half v.share))
+    pub halves : (id : ℕ) (v : LogView E) → Splits rule id v (with_share v (half v.share)) (reader_view v.log [] (half v.share))
     halves id v = shared id v (half v.share) (half v.share) (λ e. inl e)
         (λ n le.
         let same = worth-half n v.share le in
         let twice = worth-scaled (suc n) 1 n v.share le (omega arith) in (omega arith, omega arith, omega arith))
 
-    pub goes : (id : ℕ) (v : View E) → v.keeps ≡ false → Splits rule id v (reader_view [] [] nothing) v
+    pub goes : (id : ℕ) (v : LogView E) → v.keeps ≡ false → Splits rule id v (reader_view [] [] nothing) v
     goes id v reads-only s h at =
         let m = mine s h id v at in
         let none = worth-nothing h.scale in
@@ -158,7 +158,7 @@ module _ {E : Type 0} (quiet : E → Type 0) where
         (λ k a. absurd a) (λ k a. a) (λ k a b. a) (λ k a. inr a)
         (shared-split h.scale s.views id v (reader_view [] [] nothing) v h.shares at (omega arith, omega arith) (small s h id v at) (omega arith))
 
-    pub parts : (id : ℕ) (v : View E) → Splits rule id v (alone v) (reader_view v.other v.others_own v.others_share)
+    pub parts : (id : ℕ) (v : LogView E) → Splits rule id v (alone v) (reader_view v.other v.others_own v.others_share)
     parts id v s h at =
         let m = mine s h id v at in
         let was = small s h id v at in
@@ -181,13 +181,13 @@ module _ {E : Type 0} (quiet : E → Type 0) where
         (λ k a. ⊎_elim (λ b. inr b) (λ b. inl b) (among-cases k v.others_own v.own a))
         (shared-split h.scale s.views id v (alone v) (reader_view v.other v.others_own v.others_share) h.shares at (omega arith, was.1) (omega arith, was.0) (omega arith))
 
-    pub meets : (id : ℕ) (v : View E) (other : ℕ) (w : View E) → v.others_own ≡ [] → w.others_own ≡ [] → Joins rule id v other w (beside v w) (reader_view [] [] nothing)
+    pub meets : (id : ℕ) (v : LogView E) (other : ℕ) (w : LogView E) → v.others_own ≡ [] → w.others_own ≡ [] → Joins rule id v other w (beside v w) (reader_view [] [] nothing)
     meets id v other w none none' s h at apart there =
         let m = mine s h id v at in
         let was : get_elem? s.views other ≡ some w =
         ⊎_elim (λ (t : (other ≡ id) × (beside v w ≡ w)). absurd (apart t.0)) (λ (t : (other ≢ id) × (get_elem? s.views other ≡ some w)). t.1) (at_set s.views id other (beside v w) w there) in
         let n = h.fits other w was in
-        let both : Fits h.seat h.log id (beside v w) =
+        let both : ViewFits h.seat h.log id (beside v w) =
         record {
           keeps = m.keeps;
           seen = m.seen;
@@ -213,7 +213,7 @@ module _ {E : Type 0} (quiet : E → Type 0) where
               ((small s h other w was).1, (small s h id v at).1) (omega arith, omega arith) (omega arith);
         }
 
-  module _ {S : Type 0} (slots id i : ℕ) (me : Me S (View E)) where
+  module _ {S : Type 0} (slots id i : ℕ) (me : Me S (LogView E)) where
     pub extends : (more : Addition E) → me.0.keeps ≡ true → MayAdd quiet me.0.others_share more → Allows rule slots id me i (λ n. n) (λ n w. Extended quiet more me w)
     extends more keeping may s h len at bound =
         let v = me.0 in

@@ -2,7 +2,7 @@
 use Rattle.std.proofs.Common.{◌≡◌, ◌≢◌, ◌⊎◌, ℕ, zero, suc, List, [], ◌∷◌, ◌++◌, length, set, refl, sym, ap, ◌∙◌, subst, ⊎_elim, inl, inr}
 use mathlib.Core.Option.{some, some-ne-none, some-injective}
 use lib.ListN.{get_elem?}
-use Rattle.kanal_log.specs.declared.rule.View.{View}
+use Rattle.kanal_log.specs.declared.rule.LogView.{LogView}
 use Rattle.kanal_log.specs.Shares.{nothing}
 use Rattle.kanal_log.specs.Views.{IsAmong, all_own, IsOwned, beside, reader_view}
 use Rattle.kanal_log.proofs.Places.{among-cases, among-left, among-right}
@@ -30,12 +30,12 @@ module _ {A : Type 0} where
   last [] a = refl
   last (x ∷ xs) a = last xs a
 
-module _ {E : Type 0} (views : List (View E)) (by : ℕ) (v : View E) (at : get_elem? views by ≡ some v) where
-  moved : (k : ℕ) (u w : View E) → u ≡ w → IsAmong k (all_own w) → IsAmong k (all_own u)
-  moved k u w e a = subst (λ (x : View E). IsAmong k (all_own x)) (sym e) a
+module _ {E : Type 0} (views : List (LogView E)) (by : ℕ) (v : LogView E) (at : get_elem? views by ≡ some v) where
+  moved : (k : ℕ) (u w : LogView E) → u ≡ w → IsAmong k (all_own w) → IsAmong k (all_own u)
+  moved k u w e a = subst (λ (x : LogView E). IsAmong k (all_own x)) (sym e) a
 
   -- a seat keeps its places
-  pub owned-set : (w : View E) (k : ℕ) → (IsAmong k (all_own v) → IsAmong k (all_own w)) → IsOwned views k → IsOwned (set views by w) k
+  pub owned-set : (w : LogView E) (k : ℕ) → (IsAmong k (all_own v) → IsAmong k (all_own w)) → IsOwned views k → IsOwned (set views by w) k
   owned-set w k sup o =
       ⊎_elim
       (λ (x : (o.by ≡ by) × (v ≡ o.view)). record { by = by; view = w; stands = here views by w v at; mine = sup (moved k v o.view x.1 o.mine) })
@@ -43,11 +43,11 @@ module _ {E : Type 0} (views : List (View E)) (by : ℕ) (v : View E) (at : get_
       (stays views by o.by w v o.view at o.stands)
 
   -- a seat has this place now
-  pub owned-new : (w : View E) (k : ℕ) → IsAmong k (all_own w) → IsOwned (set views by w) k
+  pub owned-new : (w : LogView E) (k : ℕ) → IsAmong k (all_own w) → IsOwned (set views by w) k
   owned-new w k a = record { by = by; view = w; stands = here views by w v at; mine = a }
 
   -- a seat's places are cut in two
-  pub owned-split : (left right : View E) (k : ℕ) → (IsAmong k (all_own v) → IsAmong k (all_own left) ⊎ IsAmong k (all_own right)) → IsOwned views k → IsOwned (set views by left ++ right ∷ []) k
+  pub owned-split : (left right : LogView E) (k : ℕ) → (IsAmong k (all_own v) → IsAmong k (all_own left) ⊎ IsAmong k (all_own right)) → IsOwned views k → IsOwned (set views by left ++ right ∷ []) k
   owned-split left right k sup o =
       ⊎_elim
       (λ (x : (o.by ≡ by) × (v ≡ o.view)).
@@ -59,11 +59,11 @@ module _ {E : Type 0} (views : List (View E)) (by : ℕ) (v : View E) (at : get_
       (stays views by o.by left v o.view at o.stands)
 
   -- a seat takes in another's places
-  pub owned-join : (other : ℕ) (w : View E) → other ≢ by → get_elem? (set views by (beside v w)) other ≡ some w → v.others_own ≡ [] → w.others_own ≡ [] → (k : ℕ) → IsOwned views k → IsOwned (set (set views by (beside v w)) other (reader_view [] [] nothing)) k
+  pub owned-join : (other : ℕ) (w : LogView E) → other ≢ by → get_elem? (set views by (beside v w)) other ≡ some w → v.others_own ≡ [] → w.others_own ≡ [] → (k : ℕ) → IsOwned views k → IsOwned (set (set views by (beside v w)) other (reader_view [] [] nothing)) k
   owned-join other w apart there none none' k o =
-      let both : View E = beside v w in
-      let end : View E = reader_view [] [] nothing in
-      let mid : List (View E) = set views by both in
+      let both : LogView E = beside v w in
+      let end : LogView E = reader_view [] [] nothing in
+      let mid : List (LogView E) = set views by both in
       let at_both : get_elem? mid by ≡ some both = here views by both v at in
       let done : IsAmong k (all_own both) → IsOwned (set mid other end) k = λ a.
       ⊎_elim

@@ -5,7 +5,7 @@ use mathlib.Core.List.{IsPrefix}
 use mathlib.Core.Logic.{dite}
 use native.Mathlib.Decide.{dec_le}
 use Rattle.kanal_log.specs.declared.rule.Share.{Share}
-use Rattle.kanal_log.specs.Views.{IsAmong, AreApart, AreDistinct, Addition, no_entry, own_entry, quiet_entry, entries, place_of, MayAdd, IsQuietBehind}
+use Rattle.kanal_log.specs.Views.{IsAmong, AreDisjoint, AreDistinct, Addition, no_entry, own_entry, quiet_entry, entries, place_of, MayAdd, IsQuietBehind}
 
 pub among-cases : (k : ℕ) (xs ys : List ℕ) → IsAmong k (xs ++ ys) → IsAmong k xs ⊎ IsAmong k ys
 among-cases k [] ys a = inr a
@@ -21,7 +21,7 @@ pub among-right : (k : ℕ) (xs ys : List ℕ) → IsAmong k ys → IsAmong k (x
 among-right k [] ys a = a
 among-right k (x ∷ xs) ys a = inr (among-right k xs ys a)
 
-pub distinct-append : (xs ys : List ℕ) → AreDistinct xs → AreDistinct ys → AreApart xs ys → AreDistinct (xs ++ ys)
+pub distinct-append : (xs ys : List ℕ) → AreDistinct xs → AreDistinct ys → AreDisjoint xs ys → AreDistinct (xs ++ ys)
 distinct-append [] ys d e apart = e
 distinct-append (x ∷ xs) ys d e apart =
     ((λ a. ⊎_elim (λ b. d.0 b) (λ b. apart x (inl refl) b) (among-cases x xs ys a)), distinct-append xs ys d.1 e (λ k a b. apart k (inr a) b))
@@ -34,7 +34,7 @@ pub distinct-right : (xs ys : List ℕ) → AreDistinct (xs ++ ys) → AreDistin
 distinct-right [] ys d = d
 distinct-right (x ∷ xs) ys d = distinct-right xs ys d.1
 
-pub distinct-apart : (xs ys : List ℕ) → AreDistinct (xs ++ ys) → AreApart xs ys
+pub distinct-apart : (xs ys : List ℕ) → AreDistinct (xs ++ ys) → AreDisjoint xs ys
 distinct-apart [] ys d k a b = absurd a
 distinct-apart (x ∷ xs) ys d k (inl e) b = d.0 (among-right x xs ys (rw (← e) b))
 distinct-apart (x ∷ xs) ys d k (inr a) b = distinct-apart xs ys d.1 k a b

@@ -4,7 +4,7 @@ use mathlib.Core.Option.{some, some-injective}
 use mathlib.Core.Logic.{dite}
 use native.Mathlib.Decide.{ℕ_discrete}
 use lib.ListN.{get_elem?}
-use Rattle.kanal_log.specs.declared.rule.View.{View}
+use Rattle.kanal_log.specs.declared.rule.LogView.{LogView}
 use Rattle.kanal_log.specs.Shares.{doubled, IsWhole}
 use Rattle.kanal_log.specs.Views.{IsAmong, all_own, all_worth, IsOwned, Kept, IsQuietBehind}
 use Rattle.kanal_log.proofs.Places.{among-cases, quiet-behind}
@@ -13,7 +13,7 @@ use Rattle.kanal_log.proofs.Worths.{worth-one, worth-two, halved-at}
 
 module _ {E : Type 0} (quiet : E → Type 0) where
   -- beside all of the right no view has a place
-  idle-beside : (views : List (View E)) (h : Kept quiet views) (id by : ℕ) (v u : View E) → id ≢ by → get_elem? views id ≡ some v → get_elem? views by ≡ some u → doubled h.scale 1 ≤ all_worth h.scale v → (k : ℕ) → IsAmong k (all_own u) → ⊥
+  idle-beside : (views : List (LogView E)) (h : Kept quiet views) (id by : ℕ) (v u : LogView E) → id ≢ by → get_elem? views id ≡ some v → get_elem? views by ≡ some u → doubled h.scale 1 ≤ all_worth h.scale v → (k : ℕ) → IsAmong k (all_own u) → ⊥
   idle-beside views h id by v u n at stands all k a =
       let two = worth-two h.scale views id by v u n at stands in
       let most = h.shares.most in
@@ -26,20 +26,20 @@ module _ {E : Type 0} (quiet : E → Type 0) where
       (among-cases k u.others_own u.own a)
 
   -- who has all of the right owns the whole history, but for the quiet entries
-  pub all-owned : (views : List (View E)) (h : Kept quiet views) (id : ℕ) (v : View E) → get_elem? views id ≡ some v → doubled h.scale 1 ≤ all_worth h.scale v → (k : ℕ) → k < length h.log → IsAmong k (all_own v) ⊎ HoldsAt quiet h.log k
+  pub all-owned : (views : List (LogView E)) (h : Kept quiet views) (id : ℕ) (v : LogView E) → get_elem? views id ≡ some v → doubled h.scale 1 ≤ all_worth h.scale v → (k : ℕ) → k < length h.log → IsAmong k (all_own v) ⊎ HoldsAt quiet h.log k
   all-owned views h id v at all k lt =
       ⊎_elim
       (λ (o : IsOwned views k).
       dite (ℕ_discrete id o.by)
       (λ (e : id ≡ o.by).
       let same : o.view ≡ v = some-injective o.view v (sym o.stands ∙ (ap (λ n. get_elem? views n) (sym e) ∙ at)) in
-      inl (subst (λ (u : View E). IsAmong k (all_own u)) same o.mine))
+      inl (subst (λ (u : LogView E). IsAmong k (all_own u)) same o.mine))
       (λ (n : id ≢ o.by). absurd (idle-beside views h id o.by v o.view n at o.stands all k o.mine)))
       (λ q. inr q)
       (h.owned k lt)
 
   -- where all of the right is with who was put into the writer, what that one had not seen is quiet
-  pub only-quiet : (views : List (View E)) (h : Kept quiet views) (id : ℕ) (v : View E) → get_elem? views id ≡ some v → IsWhole v.others_share → IsQuietBehind quiet v.other h.log
+  pub only-quiet : (views : List (LogView E)) (h : Kept quiet views) (id : ℕ) (v : LogView E) → get_elem? views id ≡ some v → IsWhole v.others_share → IsQuietBehind quiet v.other h.log
   only-quiet views h id v at is =
       let f = h.fits id v at in
       let was = halved-at h.scale views id v h.shares.halved at in

@@ -4,7 +4,7 @@
 use std::marker::{Brand, PhantomData};
 
 /// An entry of a history. Quiet ones may have no owner.
-pub trait Entry {
+pub trait LogEntry {
     ghost quiet: { Self → Type 0 };
 }
 

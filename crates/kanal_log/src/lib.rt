@@ -17,7 +17,7 @@ mod log;
 mod reader;
 mod rule;
 
-pub use entry::{Entry, EntryOf};
+pub use entry::{EntryOf, LogEntry};
 pub use log::{GhostLog, NewLog, Writer};
 pub use reader::Reader;
-pub use rule::{Law, LogId, Share, View};
+pub use rule::{Law, LogId, LogView, Share};

@@ -15,19 +15,19 @@ ghost use Rattle.kanal_log.specs.Views.{
   reader_view,
 };
 
-use crate::entry::{Adds, Entry, EntryOf, More, Nothing, Own, Quiet};
+use crate::entry::{Adds, EntryOf, LogEntry, More, Nothing, Own, Quiet};
 use crate::reader::Reader;
-use crate::rule::{Extends, Founds, Goes, Law, LogId, Meets, Parts, Reads, View};
+use crate::rule::{Extends, Founds, Goes, Law, LogId, LogParts, LogView, Meets, Reads};
 use atomic_table::{Seat, Table};
 use std::alloc::{AllocError, Global};
 use std::marker::{Brand, Model, PhantomData};
 
 /// A log with an empty history, which has no name yet.
 #[derive(Drop)]
-pub struct NewLog<E: Entry> {
-    table: Table<(), View<E>, (), Law, Global>,
-    seat: Seat<(), View<E>>,
-    first: Seat<(), View<E>>,
+pub struct NewLog<E: LogEntry> {
+    table: Table<(), LogView<E>, (), Law, Global>,
+    seat: Seat<(), LogView<E>>,
+    first: Seat<(), LogView<E>>,
     pub ghost words: { 0 < table.shared.table_id.words },
     pub ghost same: { seat.table_id ≡ table.shared.table_id },
     pub ghost empty: { seat.me ≡ (writer_view [], []) },
@@ -35,7 +35,7 @@ pub struct NewLog<E: Entry> {
     pub ghost first_whole: { first.me ≡ (reader_view [] [] whole, []) },
 }
 
-impl<E: Entry> NewLog<E> {
+impl<E: LogEntry> NewLog<E> {
     ghost use Rattle.kanal_log.specs.Logs.{table_of};
 
     /// A log on which nothing is written.
@@ -75,8 +75,8 @@ impl<E: Entry> NewLog<E> {
 
 /// What all threads share of a history.
 #[derive(Drop)]
-pub struct GhostLog<E: Entry, J: LogId> {
-    pub(crate) table: Table<(), View<E>, (), Law, Global>,
+pub struct GhostLog<E: LogEntry, J: LogId> {
+    pub(crate) table: Table<(), LogView<E>, (), Law, Global>,
     of: PhantomData<J>,
     pub(crate) ghost words: { 0 < table.shared.table_id.words },
     pub(crate) ghost named: { table.shared.table_id ≡ J.table },
@@ -85,7 +85,7 @@ pub struct GhostLog<E: Entry, J: LogId> {
 /// The right to add to the history. Contracts see the whole of it.
 #[derive(Drop)]
 pub struct Writer<E, J: LogId> {
-    seat: Seat<(), View<E>>,
+    seat: Seat<(), LogView<E>>,
     of: PhantomData<J>,
 }
 
@@ -101,7 +101,7 @@ impl<E, J: LogId> Model for Writer<E, J> {
         × (k.seat.me ≡ (writer_view k.seat.me.0.log, [])) };
 }
 
-impl<E: Entry, J: LogId> Writer<E, J> {
+impl<E: LogEntry, J: LogId> Writer<E, J> {
     /// A reader that has seen all, owns nothing, and has no share.
     /// Example: `writer.read(&log)` answers a reader that has seen all entries.
     pub fn read(&mut self, log: &GhostLog<E, J>) -> Reader<E, J>
@@ -205,7 +205,7 @@ impl<E: Entry, J: LogId> Writer<E, J> {
         let whole = shared.split_seat::<Goes>(&mut reader.seat);
         shared.join_seat::<Meets>(&mut self.seat, whole);
         shared.load::<Extends<N>>(&mut self.seat, 0);
-        let seat = shared.split_seat::<Parts>(&mut self.seat);
+        let seat = shared.split_seat::<LogParts>(&mut self.seat);
         *reader = Reader::over(seat);
     }
 }

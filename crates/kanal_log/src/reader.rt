@@ -4,11 +4,11 @@
 ghost use Rattle.std.specs.Prelude.{◌≡◌, ◌++◌, ◌⊎◌, []};
 ghost use mathlib.Core.List.{IsPrefix};
 ghost use Rattle.kanal_log.specs.Shares.{both, half, IsWhole, nothing};
-ghost use Rattle.kanal_log.specs.Views.{AreApart, AreDistinct, OneBegins, OwnsAllButQuiet, known, reader_view};
+ghost use Rattle.kanal_log.specs.Views.{AreDisjoint, AreDistinct, OneBegins, OwnsAllButQuiet, known, reader_view};
 
-use crate::entry::Entry;
+use crate::entry::LogEntry;
 use crate::log::GhostLog;
-use crate::rule::{Checks, Compares, Goes, Halves, Learns, LogId, Meets, Parts, Reads, View};
+use crate::rule::{Checks, Compares, Goes, Halves, Learns, LogId, LogParts, LogView, Meets, Reads};
 use atomic_table::Seat;
 use std::marker::{Model, PhantomData};
 
@@ -16,7 +16,7 @@ use std::marker::{Model, PhantomData};
 /// add entries. Contracts see all three. It has no bytes.
 #[derive(Drop)]
 pub struct Reader<E, J: LogId> {
-    pub(crate) seat: Seat<(), View<E>>,
+    pub(crate) seat: Seat<(), LogView<E>>,
     of: PhantomData<J>,
 }
 
@@ -32,9 +32,9 @@ impl<E, J: LogId> Model for Reader<E, J> {
         × (f.seat.me ≡ (reader_view f.seat.me.0.log f.seat.me.0.own f.seat.me.0.share, [])) };
 }
 
-impl<E: Entry, J: LogId> Reader<E, J> {
+impl<E: LogEntry, J: LogId> Reader<E, J> {
     /// The reader of this seat.
-    pub(crate) fn over(seat: Seat<(), View<E>>) -> Self
+    pub(crate) fn over(seat: Seat<(), LogView<E>>) -> Self
         requires table { seat.table_id ≡ J.table }
         requires reader { seat.me ≡ (reader_view seat.me.0.log seat.me.0.own seat.me.0.share, []) }
         ensures { result ≡ known seat.me.0.log seat.me.0.own seat.me.0.share }
@@ -82,14 +82,14 @@ impl<E: Entry, J: LogId> Reader<E, J> {
     pub fn compare(&mut self, log: &GhostLog<E, J>, other: &mut Reader<E, J>)
         ensures same { (self.new ≡ self.old) × (other.new ≡ other.old) }
         ensures one { OneBegins self.old.log other.old.log }
-        ensures apart { AreApart self.old.own other.old.own }
+        ensures apart { AreDisjoint self.old.own other.old.own }
         ensures each { AreDistinct self.old.own × AreDistinct other.old.own }
     {
         let shared = &log.table.shared;
         let whole = shared.split_seat::<Goes>(&mut other.seat);
         shared.join_seat::<Meets>(&mut self.seat, whole);
         shared.load::<Compares>(&mut self.seat, 0);
-        let seat = shared.split_seat::<Parts>(&mut self.seat);
+        let seat = shared.split_seat::<LogParts>(&mut self.seat);
         *other = Reader::over(seat);
     }
 

@@ -1,7 +1,7 @@
 //! What a seat of a log knows, the rule of all views, and the names of the steps.
 //!
 //! Only the log and its readers step a seat by these.
-use crate::entry::{Entry, More};
+use crate::entry::{LogEntry, More};
 use atomic_table::{Join, Play, Split, TableRule};
 use std::collections::LinkedList;
 use std::marker::{Brand, PhantomData};
@@ -37,7 +37,7 @@ pub struct Share {
 /// What a seat knows: the writer the whole history, another a beginning; which places are its own; and
 /// its share of the right to add entries.
 /// What another seat has put into it stands apart, until it is taken back. No value of it is made.
-pub struct View<E> {
+pub struct LogView<E> {
     pub keeps: bool,
     pub log: LinkedList<E>,
     pub own: LinkedList<u64>,
@@ -50,7 +50,7 @@ pub struct View<E> {
 /// The log's rule.
 pub struct Law;
 
-impl<E: Entry> TableRule<(), View<E>, ()> for Law {
+impl<E: LogEntry> TableRule<(), LogView<E>, ()> for Law {
     ghost use Rattle.kanal_log.specs.Shares.{whole};
     ghost use Rattle.kanal_log.specs.Views.{writer_view_with, Kept};
 
@@ -66,7 +66,7 @@ pub(crate) struct Extends<N> {
     of: PhantomData<N>,
 }
 
-impl<E: Entry, N: More<E>> Play<(), View<E>> for Extends<N> {
+impl<E: LogEntry, N: More<E>> Play<(), LogView<E>> for Extends<N> {
     ghost use Rattle.kanal_log.specs.Views.{Extended};
 
     ghost then = { λ s v n w. Extended E.quiet N.more v w };
@@ -75,7 +75,7 @@ impl<E: Entry, N: More<E>> Play<(), View<E>> for Extends<N> {
 /// A reader is compared with the one that was put into it.
 pub(crate) struct Compares;
 
-impl<E> Play<(), View<E>> for Compares {
+impl<E> Play<(), LogView<E>> for Compares {
     ghost use Rattle.kanal_log.specs.Views.{Compared};
 
     ghost then = { λ s v n w. Compared v w };
@@ -84,7 +84,7 @@ impl<E> Play<(), View<E>> for Compares {
 /// A reader goes on to what was put into it, and has its places, too.
 pub(crate) struct Learns;
 
-impl<E> Play<(), View<E>> for Learns {
+impl<E> Play<(), LogView<E>> for Learns {
     ghost use Rattle.kanal_log.specs.Views.{Learned};
 
     ghost then = { λ s v n w. Learned v w };
@@ -93,7 +93,7 @@ impl<E> Play<(), View<E>> for Learns {
 /// A reader that has all of the right owns all that it has seen, but for the quiet entries.
 pub(crate) struct Checks;
 
-impl<E: Entry> Play<(), View<E>> for Checks {
+impl<E: LogEntry> Play<(), LogView<E>> for Checks {
     ghost use Rattle.kanal_log.specs.Views.{Checked};
 
     ghost then = { λ s v n w. Checked E.quiet v w };
@@ -102,7 +102,7 @@ impl<E: Entry> Play<(), View<E>> for Checks {
 /// The first reader, which has all of the right.
 pub(crate) struct Founds;
 
-impl<E> Split<View<E>> for Founds {
+impl<E> Split<LogView<E>> for Founds {
     ghost use Rattle.std.specs.Prelude.{[]};
     ghost use Rattle.kanal_log.specs.Shares.{nothing};
     ghost use Rattle.kanal_log.specs.Views.{reader_view, with_share};
@@ -115,7 +115,7 @@ impl<E> Split<View<E>> for Founds {
 /// A new reader that has seen as much, owns nothing, and has half of the share.
 pub(crate) struct Halves;
 
-impl<E> Split<View<E>> for Halves {
+impl<E> Split<LogView<E>> for Halves {
     ghost use Rattle.std.specs.Prelude.{[]};
     ghost use Rattle.kanal_log.specs.Shares.{half};
     ghost use Rattle.kanal_log.specs.Views.{reader_view, with_share};
@@ -128,7 +128,7 @@ impl<E> Split<View<E>> for Halves {
 /// A new reader that has seen as much, owns nothing, and has no share.
 pub(crate) struct Reads;
 
-impl<E> Split<View<E>> for Reads {
+impl<E> Split<LogView<E>> for Reads {
     ghost use Rattle.std.specs.Prelude.{[]};
     ghost use Rattle.kanal_log.specs.Shares.{nothing};
     ghost use Rattle.kanal_log.specs.Views.{reader_view};
@@ -141,7 +141,7 @@ impl<E> Split<View<E>> for Reads {
 /// Moves a view to a new seat; the old one knows nothing then.
 pub(crate) struct Goes;
 
-impl<E> Split<View<E>> for Goes {
+impl<E> Split<LogView<E>> for Goes {
     ghost use Rattle.std.specs.Prelude.{[]};
     ghost use Rattle.kanal_log.specs.Shares.{nothing};
     ghost use Rattle.kanal_log.specs.Views.{reader_view};
@@ -152,9 +152,9 @@ impl<E> Split<View<E>> for Goes {
 }
 
 /// What was put into a seat comes out again.
-pub(crate) struct Parts;
+pub(crate) struct LogParts;
 
-impl<E> Split<View<E>> for Parts {
+impl<E> Split<LogView<E>> for LogParts {
     ghost use Rattle.kanal_log.specs.Views.{alone, reader_view};
 
     ghost left = { alone };
@@ -165,7 +165,7 @@ impl<E> Split<View<E>> for Parts {
 /// A seat is put into another.
 pub(crate) struct Meets;
 
-impl<E> Join<View<E>> for Meets {
+impl<E> Join<LogView<E>> for Meets {
     ghost use Rattle.std.specs.Prelude.{[]};
     ghost use Rattle.kanal_log.specs.Shares.{nothing};
     ghost use Rattle.kanal_log.specs.Views.{beside, reader_view};

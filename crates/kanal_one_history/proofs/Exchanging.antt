@@ -10,7 +10,7 @@ use Rattle.kanal_state.specs.declared.call.Call.{Call}
 use Rattle.kanal_state.specs.Calls.{IsSilent}
 use Rattle.kanal_state.specs.Makes.{IsReplied}
 use Rattle.kanal_one_history.specs.Calls.{history_of}
-use Rattle.kanal_one_history.specs.History.{ghost_words, Makes}
+use Rattle.kanal_one_history.specs.History.{pass_relations, Appends}
 use Rattle.kanal_one_history.specs.Puts.{AreGot, ArePut, Exchanges, ExchangesNothing, WaitsAsSettled}
 use Rattle.kanal_one_history.specs.Exchanged.{just-made}
 use Rattle.kanal_one_history.specs.Sound.{settled_longer}
@@ -89,7 +89,7 @@ module _ {T : Type 0} where
 
   module _ (capacity : Option ℕ) (old new : Known (Call T)) where
     -- a silent call put nothing and got nothing
-    pub silent_exchanges : (call : Call T) → Makes capacity old new call → ExchangesNothing call → Exchanges capacity old new [] []
+    pub silent_exchanges : (call : Call T) → Appends capacity old new call → ExchangesNothing call → Exchanges capacity old new [] []
     silent_exchanges call made s =
         record {
           call = call;
@@ -100,6 +100,6 @@ module _ {T : Type 0} where
         }
 
     -- and so did a call of such an event, whatever it was answered
-    pub replied_silent : {R : Type 0} (event : Event T) (read : Reply T → R) (answer : R) → IsReplied (ghost_words capacity) old new event read answer
+    pub replied_silent : {R : Type 0} (event : Event T) (read : Reply T → R) (answer : R) → IsReplied (pass_relations capacity) old new event read answer
         → IsSilent event → Exchanges capacity old new [] []
     replied_silent event read answer c silent = silent_exchanges c.call c.made (exchanges_nothing c.call c.told (subst IsSilent (sym c.asked) silent))

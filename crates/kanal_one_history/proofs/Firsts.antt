@@ -2,7 +2,7 @@
 use Rattle.std.proofs.Common.{◌≡◌, ◌<◌, ◌≤◌, ◌⊎◌, ℕ, ◌+◌, true, ◌==◌, List, [], ◌∷◌, ◌++◌, Option, Some, None, refl, sym, ap, ◌∙◌, subst, inl, inr, arith}
 use Rattle.std.proofs.lemmas.Bool.{cases_Bool, cases_lt, or_left, or_right}
 use Rattle.kanal_core.specs.declared.internal.outcome.Outcome.{Outcome}
-use Rattle.kanal_core.specs.Line.{Entry, Line, bare, found, has, has_place, last_word, tickets}
+use Rattle.kanal_core.specs.Line.{LineEntry, Line, bare, found, has, has_place, last_word, tickets}
 use Rattle.kanal_core.specs.Moves.{enter, last_count, leave, serve, wait_recv, wait_send}
 use Rattle.kanal_events.specs.declared.event.Event.{Event}
 use Rattle.kanal_events.specs.declared.event.Event.TheVariants.{Send, TrySend, Recv, RecvLate, TryRecv, Drain, Withdraw, CloneTx, CloneRx, DropTx, DropRx, Seal, Close, Ask as Asks, Terminated}
@@ -30,7 +30,7 @@ module _ {T : Type 0} where
   record GivesAsTold (l : Line T) (told : Told T) : Type 0 where
     next : (told.line.next ≡ l.next) ⊎ ((told.line.next ≡ l.next + 1) × (told.reply ≡ Waits l.next))
 
-  serve-next : (old : Line T) (line : List (Entry T)) (ds : List ℕ) → (serve old line ds).line.next ≡ old.next
+  serve-next : (old : Line T) (line : List (LineEntry T)) (ds : List ℕ) → (serve old line ds).line.next ≡ old.next
   serve-next old line [] = refl
   serve-next old [] (d ∷ ds) = refl
   serve-next old (e ∷ es) (d ∷ ds) = serve-next old es ds
@@ -54,7 +54,7 @@ module _ {T : Type 0} where
               ]
         ]
 
-    fronts : (otherwise : Told T) (xs : List (Entry T)) → GivesAsTold l otherwise → GivesAsTold l (take_front l xs otherwise)
+    fronts : (otherwise : Told T) (xs : List (LineEntry T)) → GivesAsTold l otherwise → GivesAsTold l (take_front l xs otherwise)
     fronts otherwise [] k = k
     fronts otherwise (x ∷ xs) k = none (moving (leave l (x ∷ []) xs) (Got x.message)) refl
 

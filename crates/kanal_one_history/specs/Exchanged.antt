@@ -11,9 +11,9 @@ use Rattle.kanal_journal.specs.Paired.{asked, cleared_by, sent}
 use Rattle.kanal_state.specs.declared.call.Call.{Call}
 use Rattle.kanal_state.specs.Exchanges.{Replies, TellsExchanges}
 use Rattle.kanal_state.specs.Makes.{HasWaited, IsReplied}
-use Rattle.kanal_one_history.specs.History.{ghost_words, Makes}
+use Rattle.kanal_one_history.specs.History.{pass_relations, Appends}
 use Rattle.kanal_one_history.specs.Puts.{AreGot, ArePut, Exchanges, HasMade}
-use Rattle.kanal_one_history.specs.Sound.{ghost_sound}
+use Rattle.kanal_one_history.specs.Sound.{pass_sound}
 
 module _ {T : Type 0} where
   module _ (capacity : Option ℕ) (old new : Known (Call T)) where
@@ -30,29 +30,29 @@ module _ {T : Type 0} where
         }
 
     -- the pass has just made it
-    pub just-made : (call : Call T) → Makes capacity old new call → HasMade capacity old new call
-    just-made call made = record { mid = new; made = made; looks = (ghost_sound {T = T} capacity).looks_here new }
+    pub just-made : (call : Call T) → Appends capacity old new call → HasMade capacity old new call
+    just-made call made = record { mid = new; made = made; extends = (pass_sound {T = T} capacity).extends_refl new }
 
     -- the same of a call that was replied at once
     replied-exchanges : {R : Type 0} (event : Event T) (read : Reply T → R) (answer : R) (reply : Reply T) (put got : List T)
-        → (c : IsReplied (ghost_words capacity) old new event read answer) → c.call.reply ≡ reply
+        → (c : IsReplied (pass_relations capacity) old new event read answer) → c.call.reply ≡ reply
         → ArePut new.log (sent event reply) put → AreGot new.log (asked event reply) got → cleared_by reply ≡ 0 → Exchanges capacity old new put got
     replied-exchanges event read answer reply put got c r puts gets clears =
         exchanges event reply put got c.call (just-made c.call c.made) c.asked r puts gets clears
 
     -- a call whose reply is told by itself
-    told-exchanges : (event : Event T) (reply : Reply T) (put got : List T) → Replies (ghost_words capacity) old new event reply
+    told-exchanges : (event : Event T) (reply : Reply T) (put got : List T) → Replies (pass_relations capacity) old new event reply
         → ArePut new.log (sent event reply) put → AreGot new.log (asked event reply) got → cleared_by reply ≡ 0 → Exchanges capacity old new put got
     told-exchanges event reply put got c puts gets clears = replied-exchanges event (λ r. r) reply reply put got c (sym c.reads) puts gets clears
 
     -- a call that waited and was settled so
-    waited-exchanges : (event : Event T) (outcome : Outcome T) (put got : List T) → (c : HasWaited (ghost_words capacity) old new event outcome)
+    waited-exchanges : (event : Event T) (outcome : Outcome T) (put got : List T) → (c : HasWaited (pass_relations capacity) old new event outcome)
         → ArePut new.log (sent event (Waits c.ticket)) put → AreGot new.log (asked event (Waits c.ticket)) got → Exchanges capacity old new put got
     waited-exchanges event outcome put got c puts gets =
-        exchanges event (Waits c.ticket) put got c.waits.call (record { mid = c.mid; made = c.waits.made; looks = c.learns }) c.waits.asked (sym c.waits.reads) puts gets refl
+        exchanges event (Waits c.ticket) put got c.waits.call (record { mid = c.mid; made = c.waits.made; extends = c.learns }) c.waits.asked (sym c.waits.reads) puts gets refl
 
   -- what calls put and got, by this history
-  pub ghost_exchanges : (capacity : Option ℕ) → TellsExchanges {T = T} (ghost_words capacity) (Exchanges capacity)
+  pub ghost_exchanges : (capacity : Option ℕ) → TellsExchanges {T = T} (pass_relations capacity) (Exchanges capacity)
   ghost_exchanges capacity =
       record {
         put_at_once = λ old new m c. told-exchanges capacity old new (Send m) Sent (m ∷ []) [] c (refl, tt) tt refl;

@@ -6,11 +6,11 @@ use Rattle.kanal_events.specs.Steps.{step}
 use Rattle.kanal_state.specs.declared.call.Call.{Call}
 use Rattle.kanal_state.specs.Calls.{call_of}
 use Rattle.kanal_one_history.specs.Calls.{line_after, HasSettled}
-use Rattle.kanal_state.specs.Words.{Words}
+use Rattle.kanal_state.specs.HistoryRelations.{HistoryRelations}
 
 module _ {T : Type 0} where
   -- the pass made this call: it is the last of a history that goes on from what the pass had seen, its place is the pass's own, and one line of messages tells so after all the calls before it
-  pub record Makes (capacity : Option ℕ) (old new : Known (Call T)) (call : Call T) : Type 0 where
+  pub record Appends (capacity : Option ℕ) (old new : Known (Call T)) (call : Call T) : Type 0 where
     pub before : List (Call T)
     pub seen : IsPrefix old.log before
     pub last : new.log ≡ before ++ call ∷ []
@@ -19,34 +19,34 @@ module _ {T : Type 0} where
     pub told : call ≡ call_of call.event (step (line_after capacity before) call.event)
 
   -- the pass has seen more of the history, and made no call
-  pub record Looks (old new : Known (Call T)) : Type 0 where
+  pub record Extends (old new : Known (Call T)) : Type 0 where
     pub seen : IsPrefix old.log new.log
     pub own : new.own ≡ old.own
     pub share : new.share ≡ old.share
 
   -- an internal call was made: it is the last of a history that goes on from what was seen before, and one line of messages tells so after all the calls before it
-  pub record Cleans (capacity : Option ℕ) (old new : List (Call T)) (call : Call T) : Type 0 where
+  pub record AppendsInternal (capacity : Option ℕ) (old new : List (Call T)) (call : Call T) : Type 0 where
     pub before : List (Call T)
     pub seen : IsPrefix old before
     pub last : new ≡ before ++ call ∷ []
     pub told : call ≡ call_of call.event (step (line_after capacity before) call.event)
 
   -- what passes tell of a history on a line of this capacity
-  abbrev pub ghost_words : Option ℕ → Words T (Known (Call T))
-  ghost_words capacity =
+  abbrev pub pass_relations : Option ℕ → HistoryRelations T (Known (Call T))
+  pass_relations capacity =
       record {
-        makes = Makes capacity;
-        looks = Looks;
-        ends = λ pass line. line ≡ line_after capacity pass.log;
-        settled = λ pass pair. HasSettled pass.log pair;
+        appends = Appends capacity;
+        extends = Extends;
+        reaches = λ pass line. line ≡ line_after capacity pass.log;
+        saw_settled = λ pass pair. HasSettled pass.log pair;
       }
 
   -- what is told of internal calls
-  abbrev pub cleanup_words : Option ℕ → Words T (List (Call T))
-  cleanup_words capacity =
+  abbrev pub internal_pass_relations : Option ℕ → HistoryRelations T (List (Call T))
+  internal_pass_relations capacity =
       record {
-        makes = Cleans capacity;
-        looks = λ old new. IsPrefix old new;
-        ends = λ seen line. line ≡ line_after capacity seen;
-        settled = λ seen pair. HasSettled seen pair;
+        appends = AppendsInternal capacity;
+        extends = λ old new. IsPrefix old new;
+        reaches = λ seen line. line ≡ line_after capacity seen;
+        saw_settled = λ seen pair. HasSettled seen pair;
       }

@@ -10,7 +10,7 @@ use Rattle.kanal_journal.specs.Laws.{EndsOnce}
 use Rattle.kanal_state.specs.declared.call.Call.{Call}
 use Rattle.kanal_state.specs.Calls.{IsIn}
 use Rattle.kanal_one_history.specs.Calls.{HasSettled, history_of}
-use Rattle.kanal_one_history.specs.History.{Looks, Makes}
+use Rattle.kanal_one_history.specs.History.{Extends, Appends}
 
 module _ {T : Type 0} where
   -- no ticket of this history was settled and withdrawn, or one of both twice
@@ -63,8 +63,8 @@ module _ {T : Type 0} where
   -- the pass made this one call, and may have seen more since
   pub record HasMade (capacity : Option ℕ) (old new : Known (Call T)) (call : Call T) : Type 0 where
     pub mid : Known (Call T)
-    pub made : Makes capacity old mid call
-    pub looks : Looks mid new
+    pub made : Appends capacity old mid call
+    pub extends : Extends mid new
 
   -- by one call the pass put these messages and got those, and cleared none: whether the call waited or not
   pub record Exchanges (capacity : Option ℕ) (old new : Known (Call T)) (put got : List T) : Type 0 where

@@ -1,5 +1,5 @@
 -- What passes tell of one history hangs together.
-use Rattle.std.proofs.Common.{◌≡◌, ℕ, suc, List, [], ◌∷◌, ◌++◌, length, Option, refl, ap, sym, ◌∙◌, arith, append_assoc}
+use Rattle.std.proofs.Common.{ℕ, List, [], ◌∷◌, ◌++◌, length, Option, refl, ap, sym, ◌∙◌, append_assoc}
 use Rattle.std.proofs.lemmas.List.{append-nil}
 use mathlib.Core.List.{IsPrefix}
 use Rattle.kanal_log.specs.Views.{Known}
@@ -8,8 +8,8 @@ use Rattle.kanal_core.specs.declared.internal.outcome.Outcome.{Outcome}
 use Rattle.kanal_state.specs.declared.call.Call.{Call}
 use Rattle.kanal_state.specs.Calls.{IsIn}
 use Rattle.kanal_one_history.specs.Calls.{HasSettled}
-use Rattle.kanal_one_history.specs.History.{Cleans, Makes, Looks, cleanup_words, ghost_words}
-use Rattle.kanal_state.specs.Words.{AreSound}
+use Rattle.kanal_one_history.specs.History.{AppendsInternal, Appends, Extends, internal_pass_relations, pass_relations}
+use Rattle.kanal_state.specs.HistoryRelations.{AreSound}
 
 module _ {T : Type 0} where
   -- a longer history settled it, too
@@ -23,42 +23,42 @@ module _ {T : Type 0} where
         settled = h.settled;
       }
 
-  looks-on : (a b c : Known (Call T)) → Looks a b → Looks b c → Looks a c
-  looks-on a b c one two = record { seen = prefix_trans a.log b.log c.log one.seen two.seen; own = two.own ∙ one.own; share = two.share ∙ one.share }
+  extends-trans : (a b c : Known (Call T)) → Extends a b → Extends b c → Extends a c
+  extends-trans a b c one two = record { seen = prefix_trans a.log b.log c.log one.seen two.seen; own = two.own ∙ one.own; share = two.share ∙ one.share }
 
-  makes-on : (capacity : Option ℕ) (a b c : Known (Call T)) (call : Call T) → Looks a b → Makes capacity b c call → Makes capacity a c call
-  makes-on capacity a b c call looks m =
+  extends-appends : (capacity : Option ℕ) (a b c : Known (Call T)) (call : Call T) → Extends a b → Appends capacity b c call → Appends capacity a c call
+  extends-appends capacity a b c call extends m =
       record {
         before = m.before;
-        seen = prefix_trans a.log b.log m.before looks.seen m.seen;
+        seen = prefix_trans a.log b.log m.before extends.seen m.seen;
         last = m.last;
-        own = m.own ∙ ap (λ xs. length m.before ∷ xs) looks.own;
-        share = m.share ∙ looks.share;
+        own = m.own ∙ ap (λ xs. length m.before ∷ xs) extends.own;
+        share = m.share ∙ extends.share;
         told = m.told;
       }
 
-  makes-settled : (capacity : Option ℕ) (a b : Known (Call T)) (call : Call T) → Makes capacity a b call → (pair : ℕ × Outcome T) → IsIn pair call.settled → HasSettled b.log pair
-  makes-settled capacity a b call m pair among = record { before = m.before; call = call; rest = []; stands = m.last; settled = among }
+  appends-saw : (capacity : Option ℕ) (a b : Known (Call T)) (call : Call T) → Appends capacity a b call → (pair : ℕ × Outcome T) → IsIn pair call.settled → HasSettled b.log pair
+  appends-saw capacity a b call m pair among = record { before = m.before; call = call; rest = []; stands = m.last; settled = among }
 
-  pub ghost_sound : (capacity : Option ℕ) → AreSound {T = T} (ghost_words capacity)
-  ghost_sound capacity =
+  pub pass_sound : (capacity : Option ℕ) → AreSound {T = T} (pass_relations capacity)
+  pass_sound capacity =
       record {
-        looks_here = λ a. record { seen = ([], append-nil a.log); own = refl; share = refl };
-        looks_on = looks-on;
-        makes_on = makes-on capacity;
-        makes_settled = makes-settled capacity;
-        settled_on = λ a b pair looks h. settled_longer a.log b.log pair looks.seen h;
+        extends_refl = λ a. record { seen = ([], append-nil a.log); own = refl; share = refl };
+        extends_trans = extends-trans;
+        extends_appends = extends-appends capacity;
+        appends_saw = appends-saw capacity;
+        extends_saw = λ a b pair extends h. settled_longer a.log b.log pair extends.seen h;
       }
 
-  cleans-on : (capacity : Option ℕ) (a b c : List (Call T)) (call : Call T) → IsPrefix a b → Cleans capacity b c call → Cleans capacity a c call
-  cleans-on capacity a b c call looks m = record { before = m.before; seen = prefix_trans a b m.before looks m.seen; last = m.last; told = m.told }
+  extends-appends-internal : (capacity : Option ℕ) (a b c : List (Call T)) (call : Call T) → IsPrefix a b → AppendsInternal capacity b c call → AppendsInternal capacity a c call
+  extends-appends-internal capacity a b c call extends m = record { before = m.before; seen = prefix_trans a b m.before extends m.seen; last = m.last; told = m.told }
 
-  pub cleanup_sound : (capacity : Option ℕ) → AreSound {T = T} (cleanup_words capacity)
-  cleanup_sound capacity =
+  pub internal_pass_sound : (capacity : Option ℕ) → AreSound {T = T} (internal_pass_relations capacity)
+  internal_pass_sound capacity =
       record {
-        looks_here = λ a. ([], append-nil a);
-        looks_on = prefix_trans;
-        makes_on = cleans-on capacity;
-        makes_settled = λ a b call m pair among. record { before = m.before; call = call; rest = []; stands = m.last; settled = among };
-        settled_on = λ a b pair looks h. settled_longer a b pair looks h;
+        extends_refl = λ a. ([], append-nil a);
+        extends_trans = prefix_trans;
+        extends_appends = extends-appends-internal capacity;
+        appends_saw = λ a b call m pair among. record { before = m.before; call = call; rest = []; stands = m.last; settled = among };
+        extends_saw = λ a b pair extends h. settled_longer a b pair extends h;
       }

@@ -43,8 +43,8 @@ pub fn bounded<T: Drop, J: LogId>(
 {
     let core = ChannelInternal::new(alloc, capacity)?;
     let (log, mut history, pass) = GhostHistory::opened(opened);
-    let cleanup = history.cleanup(&log);
-    Ok((Shared::new(core, history, cleanup, log, alloc), pass))
+    let internal_pass = history.internal_pass(&log);
+    Ok((Shared::new(core, history, internal_pass, log, alloc), pass))
 }
 
 /// A new channel without limit, with one sender and one receiver, and its first pass. It asks for no
@@ -67,6 +67,6 @@ pub fn unbounded<T: Drop, J: LogId>(
 {
     let core = ChannelInternal::unbounded(alloc);
     let (log, mut history, pass) = GhostHistory::opened(opened);
-    let cleanup = history.cleanup(&log);
-    (Shared::new(core, history, cleanup, log, alloc), pass)
+    let internal_pass = history.internal_pass(&log);
+    (Shared::new(core, history, internal_pass, log, alloc), pass)
 }

@@ -6,7 +6,7 @@ ghost use Rattle.kanal_log.specs.Logs.{table_of};
 ghost use Rattle.kanal_log.specs.Shares.{whole};
 ghost use Rattle.kanal_log.specs.Views.{known};
 
-use crate::pass::{Cleanup, Pass, Prefix};
+use crate::pass::{InternalPass, Pass, Prefix};
 use kanal_log::{EntryOf, GhostLog, LogId, NewLog, Writer};
 use kanal_state::{Call, History};
 use std::marker::Model;
@@ -46,12 +46,12 @@ impl<T, J: LogId> GhostHistory<T, J> {
     }
 
     /// What makes the internal calls. It has seen all.
-    /// Example: `let cleanup = history.cleanup(&log)`.
-    pub fn cleanup(&mut self, log: &GhostLog<Call<T>, J>) -> Cleanup<T, J>
+    /// Example: `let internal_pass = history.internal_pass(&log)`.
+    pub fn internal_pass(&mut self, log: &GhostLog<Call<T>, J>) -> InternalPass<T, J>
         ensures all { result ≡ self.old }
         ensures same { self.new ≡ self.old }
     {
-        Cleanup {
+        InternalPass {
             reader: self.writer.read(log),
         }
     }
@@ -61,9 +61,9 @@ impl<T, J: LogId> History<T> for GhostHistory<T, J> {
     ghost use Rattle.std.specs.Prelude.{◌≡◌};
     ghost use Rattle.kanal_one_history.specs.Calls.{HasSettled, line_after};
     ghost use Rattle.kanal_one_history.specs.Exchanged.{ghost_exchanges};
-    ghost use Rattle.kanal_one_history.specs.History.{cleanup_words, ghost_words};
+    ghost use Rattle.kanal_one_history.specs.History.{internal_pass_relations, pass_relations};
     ghost use Rattle.kanal_one_history.specs.Puts.{Exchanges};
-    ghost use Rattle.kanal_one_history.specs.Sound.{cleanup_sound, ghost_sound};
+    ghost use Rattle.kanal_one_history.specs.Sound.{internal_pass_sound, pass_sound};
 
     type Pass = Pass<T, J>;
 
@@ -71,13 +71,13 @@ impl<T, J: LogId> History<T> for GhostHistory<T, J> {
 
     type Prefix = Prefix<T, J>;
 
-    type Cleanup = Cleanup<T, J>;
+    type InternalPass = InternalPass<T, J>;
 
     ghost stands = { λ calls line. line ≡ line_after J.capacity calls };
 
-    ghost words = { ghost_words J.capacity };
+    ghost relations = { pass_relations J.capacity };
 
-    ghost cleans = { cleanup_words J.capacity };
+    ghost internal_relations = { internal_pass_relations J.capacity };
 
     ghost exchanges = { Exchanges J.capacity };
 
@@ -99,17 +99,20 @@ impl<T, J: LogId> History<T> for GhostHistory<T, J> {
     fn append_silent<X, Y, M: EntryOf<X, Y, Call<T>>>(
         &mut self,
         log: &GhostLog<Call<T>, J>,
-        cleanup: &mut Cleanup<T, J>,
+        internal_pass: &mut InternalPass<T, J>,
         about: &X,
         answer: &Y,
     ) {
         let writer = &mut self.writer;
-        writer.append_quiet_of::<X, Y, M>(log, &mut cleanup.reader, about, answer);
+        writer.append_quiet_of::<X, Y, M>(log, &mut internal_pass.reader, about, answer);
     }
 
     #[inline(always)]
-    fn cleanup_prefix(log: &GhostLog<Call<T>, J>, cleanup: &mut Cleanup<T, J>) -> Prefix<T, J> {
-        Prefix::of(log, &mut cleanup.reader)
+    fn internal_prefix(
+        log: &GhostLog<Call<T>, J>,
+        internal_pass: &mut InternalPass<T, J>,
+    ) -> Prefix<T, J> {
+        Prefix::of(log, &mut internal_pass.reader)
     }
 
     #[inline(always)]
@@ -132,9 +135,9 @@ impl<T, J: LogId> History<T> for GhostHistory<T, J> {
         prefix.teach(log, pass);
     }
 
-    ghost sound = { ghost_sound J.capacity };
+    ghost sound = { pass_sound J.capacity };
 
-    ghost cleans_sound = { cleanup_sound J.capacity };
+    ghost internal_sound = { internal_pass_sound J.capacity };
 
     ghost tells_exchanges = { ghost_exchanges J.capacity };
 }

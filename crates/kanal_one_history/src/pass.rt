@@ -5,7 +5,7 @@
 ghost use Rattle.std.specs.Prelude.{◌≡◌, ◌++◌, ℕ, [], take};
 ghost use mathlib.Core.List.{IsPrefix};
 ghost use Rattle.kanal_log.specs.Shares.{IsWhole, both, half};
-ghost use Rattle.kanal_log.specs.Views.{AreApart, AreDistinct, OneBegins, OwnsAllButQuiet, known};
+ghost use Rattle.kanal_log.specs.Views.{AreDisjoint, AreDistinct, OneBegins, OwnsAllButQuiet, known};
 ghost use Rattle.kanal_state.specs.Calls.{IsSilent};
 ghost use Rattle.kanal_journal.specs.Paired.{Paired};
 ghost use Rattle.kanal_one_history.specs.Accounts.{LeadsAsTold};
@@ -116,7 +116,7 @@ impl<T, J: LogId> Pass<T, J> {
     /// Example: `one.owns_once(&log, &mut other)` and the caller's proof has it.
     pub fn owns_once(&mut self, log: &GhostLog<Call<T>, J>, other: &mut Self)
         ensures same { (self.new ≡ self.old) × (other.new ≡ other.old) }
-        ensures apart { AreApart self.old.own other.old.own }
+        ensures apart { AreDisjoint self.old.own other.old.own }
         ensures each { AreDistinct self.old.own × AreDistinct other.old.own }
     {
         self.reader.compare(log, &mut other.reader);
@@ -179,11 +179,11 @@ impl<T, J: LogId> Prefix<T, J> {
 /// What makes the internal calls: the drops of handles, and the withdrawals of waits that were left.
 /// It takes no bytes, and contracts see the calls that it has seen.
 #[derive(Drop)]
-pub struct Cleanup<T, J: LogId> {
+pub struct InternalPass<T, J: LogId> {
     pub(crate) reader: Reader<Call<T>, J>,
 }
 
-impl<T, J: LogId> Model for Cleanup<T, J> {
+impl<T, J: LogId> Model for InternalPass<T, J> {
     ghost use Rattle.std.specs.Prelude.{List};
     ghost use Rattle.kanal_state.specs.declared.call.Call.{Call};
     ghost use Rattle.kanal_one_history.specs.Calls.{IsLegal};

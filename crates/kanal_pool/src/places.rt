@@ -12,7 +12,7 @@ use std::alloc::Global;
 
 /// A job's answer, as it comes back from a worker.
 #[derive(Drop)]
-pub struct Answered<'a, J: Job> {
+pub struct JobAnswer<'a, J: Job> {
     number: usize,
     job: &'a J,
     answer: J::Answer,
@@ -20,9 +20,9 @@ pub struct Answered<'a, J: Job> {
 }
 
 /// Does the work of the job with this number.
-pub fn work_on<'a, J: Job>(number: usize, job: &'a J) -> Result<Answered<'a, J>, NoMemory> {
+pub fn work_on<'a, J: Job>(number: usize, job: &'a J) -> Result<JobAnswer<'a, J>, NoMemory> {
     let answer = job.work()?;
-    Ok(Answered {
+    Ok(JobAnswer {
         number,
         job,
         answer,
@@ -49,21 +49,21 @@ pub fn empty_places<J: Job>(alloc: Global, jobs: &[J]) -> Result<Vec<Option<J::A
 pub fn put<'a, J: Job>(
     jobs: &[J],
     places: &mut Vec<Option<J::Answer>>,
-    answered: Answered<'a, J>,
-) -> Result<(), Answered<'a, J>>
+    answered: JobAnswer<'a, J>,
+) -> Result<(), JobAnswer<'a, J>>
     requires { AreInPlace J.value jobs.now places.old.items }
     ensures in_place { AreInPlace J.value jobs.now places.new.items }
     ensures filled { OnOk result
         (FillsEmpty places.old.items answered.entry.number answered.entry.answer places.new.items) }
     ensures refused { OnErr result (places.new.items ≡ places.old.items) }
 {
-    let Answered {
+    let JobAnswer {
         number,
         job,
         answer,
     } = answered;
     let Some(own) = jobs.get(number) else {
-        return Err(Answered {
+        return Err(JobAnswer {
             number,
             job,
             answer,
@@ -73,7 +73,7 @@ pub fn put<'a, J: Job>(
         places[number] = Some(answer);
         return Ok(());
     }
-    Err(Answered {
+    Err(JobAnswer {
         number,
         job,
         answer,

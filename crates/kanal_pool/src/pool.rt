@@ -9,7 +9,7 @@ ghost use Rattle.kanal_pool.specs.Answers.{answers, AreInPlace};
 
 use crate::error::PoolError;
 use crate::job::{Gate, Job};
-use crate::places::{Answered, all_answers, empty_places, put, work_on};
+use crate::places::{JobAnswer, all_answers, empty_places, put, work_on};
 use kanal::error::NoMemory;
 use kanal::{Receiver, Sender};
 use std::alloc::Global;
@@ -25,7 +25,7 @@ struct Task<'a, J: Job> {
 }
 
 /// What a worker tells of a job.
-type Report<'a, J> = Result<Answered<'a, J>, NoMemory>;
+type WorkerReport<'a, J> = Result<JobAnswer<'a, J>, NoMemory>;
 
 /// The channel of the jobs, which holds them all and is sealed.
 fn all_tasks<'a, J: Job, R: Wait>(
@@ -49,7 +49,7 @@ fn all_tasks<'a, J: Job, R: Wait>(
 fn serve<'a, J: Job, G: Gate, R: Wait>(
     rt: &R,
     tasks: Receiver<Task<'a, J>>,
-    reports: Sender<Report<'a, J>>,
+    reports: Sender<WorkerReport<'a, J>>,
     gate: &G,
 ) {
     for _ in rt.forever() {
@@ -73,7 +73,7 @@ fn work_through<'a, J, G, R>(
     rt: &R,
     workers: usize,
     tasks: &Receiver<Task<'a, J>>,
-    reports: &Sender<Report<'a, J>>,
+    reports: &Sender<WorkerReport<'a, J>>,
     gate: &G,
 ) -> bool
 where
@@ -106,7 +106,7 @@ where
 /// `NoMemory` where a job's work was refused memory.
 fn collect<'a, J: Job, R: Wait>(
     rt: &R,
-    told: &Receiver<Report<'a, J>>,
+    told: &Receiver<WorkerReport<'a, J>>,
     jobs: &[J],
     places: &mut Vec<Option<J::Answer>>,
 ) -> Result<(), NoMemory>

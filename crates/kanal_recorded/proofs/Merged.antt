@@ -8,7 +8,7 @@ use Rattle.std.proofs.lemmas.List.Sums.{sum_by-cons}
 use Rattle.std.proofs.lemmas.List.Elements.{All-cons, All-nil}
 use Rattle.kanal_journal.specs.declared.journal.recorder.Entry.{Entry}
 use Rattle.kanal_recorded.specs.Passes.{Calls}
-use Rattle.kanal_recorded.specs.Merges.{Placed, placed, calls_of, IsOwn, IsAmong, IsMerged}
+use Rattle.kanal_recorded.specs.Merges.{Placed, placed, calls_of, IsOwn, NotesAmong, IsMerged}
 
 same-test : (a b : ℕ) → a ≡ b → nat_eq a b ≡ true
 same-test a b h = grind (arith, nat_tests, h)
@@ -120,7 +120,7 @@ module _ {T : Type 0} where
       (any_hit e.party ps (omega (arith, parts, one, most, h)))
       (all_known ps es a (omega (arith, parts, one, most, h)))
 
-  notes_most : (ps : List (Calls T)) (es : List (Entry T)) → All (IsAmong es) ps → sum_by (λ p. length p.notes) ps ≤ total ps es
+  notes_most : (ps : List (Calls T)) (es : List (Entry T)) → All (NotesAmong es) ps → sum_by (λ p. length p.notes) ps ≤ total ps es
   notes_most [] es h = omega arith
   notes_most (p ∷ ps) es h =
       let head = sum_by-cons (λ (v : Calls T). length v.notes) p ps in
@@ -128,20 +128,20 @@ module _ {T : Type 0} where
       let rest : sum_by (λ (v : Calls T). length v.notes) ps ≤ total ps es = notes_most ps es (λ k d l. h (suc k) d (omega arith)) in
       omega (arith, head, here, rest)
 
-  all_own : (ps : List (Calls T)) (es : List (Entry T)) → All (IsAmong es) ps → sum_by (λ p. length p.notes) ps ≡ total ps es → All (IsOwn es) ps
+  all_own : (ps : List (Calls T)) (es : List (Entry T)) → All (NotesAmong es) ps → sum_by (λ p. length p.notes) ps ≡ total ps es → All (IsOwn es) ps
   all_own [] es h same = All-nil (IsOwn es)
   all_own (p ∷ ps) es h same =
       let head = sum_by-cons (λ (v : Calls T). length v.notes) p ps in
       let among = h 0 p (omega arith) in
       let calls = calls_length p.party 0 es in
       let here : length p.notes ≤ count p.party es = omega (arith, among.0, calls) in
-      let tail : All (IsAmong es) ps = λ k d l. h (suc k) d (omega arith) in
+      let tail : All (NotesAmong es) ps = λ k d l. h (suc k) d (omega arith) in
       let rest : sum_by (λ (v : Calls T). length v.notes) ps ≤ total ps es = notes_most ps es tail in
       All-cons (IsOwn es) p ps
       (among.1 (omega (arith, head, here, rest, calls, same)))
       (all_own ps es tail (omega (arith, head, here, rest, same)))
 
-  pub merged : (es : List (Entry T)) (ps : List (Calls T)) → AllPairs (λ a b. a.party ≢ b.party) ps → sum_by (λ p. length p.notes) ps ≡ length es → All (IsAmong es) ps → IsMerged es ps
+  pub merged : (es : List (Entry T)) (ps : List (Calls T)) → AllPairs (λ a b. a.party ≢ b.party) ps → sum_by (λ p. length p.notes) ps ≡ length es → All (NotesAmong es) ps → IsMerged es ps
   merged es ps a same among =
       let most : total ps es ≤ length es = total_most ps es a in
       let notes : sum_by (λ (v : Calls T). length v.notes) ps ≤ total ps es = notes_most ps es among in

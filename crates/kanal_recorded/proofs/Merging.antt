@@ -9,8 +9,8 @@ use Rattle.std.proofs.lemmas.Bool.Decides.{nat_tests}
 use Rattle.kanal_journal.specs.declared.journal.recorder.Entry.{Entry}
 use Rattle.kanal_recorded.specs.declared.pass.Note.{Note}
 use Rattle.kanal_recorded.specs.Passes.{Calls}
-use Rattle.kanal_recorded.specs.Merges.{Placed, placed, calls_of, IsAmong, IsNoteOf}
-use Rattle.kanal_recorded.specs.Comparing.{Fits, HasReached, HaveReached, AreAtEnd}
+use Rattle.kanal_recorded.specs.Merges.{Placed, placed, calls_of, NotesAmong, IsNoteOf}
+use Rattle.kanal_recorded.specs.Comparing.{NotesFit, HasReached, HaveReached, AreAtEnd}
 use Rattle.kanal_recorded.specs.declared.finish.Reached.{Reached}
 
 module _ {T : Type 0} where
@@ -27,9 +27,9 @@ module _ {T : Type 0} where
 
   -- after k notes, all of places before m: how far the list of a party was compared
   abbrev SoFar : ℕ → List (Entry T) → List (Note T) → ℕ → ℕ → Type 0
-  SoFar party es ns k m = (m ≤ length es) × Fits (map placed (take k ns)) k (calls_of party 0 (take m es)) × AllWithin (λ n. n.seen ≤ n.place) ns 0 k
+  SoFar party es ns k m = (m ≤ length es) × NotesFit (map placed (take k ns)) k (calls_of party 0 (take m es)) × AllWithin (λ n. n.seen ≤ n.place) ns 0 k
 
-  fits_more : (ns : List (Placed T)) (k : ℕ) (cs ds bs : List (Placed T)) → bs ≡ cs ++ ds → Fits ns k cs → Fits ns k bs
+  fits_more : (ns : List (Placed T)) (k : ℕ) (cs ds bs : List (Placed T)) → bs ≡ cs ++ ds → NotesFit ns k cs → NotesFit ns k bs
   fits_more ns k cs [] bs is h =
       let same : bs ≡ cs = is ∙ append-nil cs in
       rw same h
@@ -38,7 +38,7 @@ module _ {T : Type 0} where
       let below : k ≤ length cs = h.0 in
       (omega (arith, long, below), λ e. absurd (omega (arith, long, below, e)))
 
-  fits_next : (ns : List (Placed T)) (k : ℕ) (cs : List (Placed T)) (x : Placed T) → Fits ns k cs → Fits (ns ++ x ∷ []) (k + 1) (cs ++ x ∷ [])
+  fits_next : (ns : List (Placed T)) (k : ℕ) (cs : List (Placed T)) (x : Placed T) → NotesFit ns k cs → NotesFit (ns ++ x ∷ []) (k + 1) (cs ++ x ∷ [])
   fits_next ns k cs x h =
       let long : length (cs ++ x ∷ []) ≡ length cs + 1 = length-append cs (x ∷ []) in
       let below : k ≤ length cs = h.0 in
@@ -93,12 +93,12 @@ module _ {T : Type 0} where
       record { within = omega (arith, lk); before = more.0; fits = more.1; seen = more.2 }
 
   -- a list that was compared to its end is of the party's entries
-  pub whole_reached : (es : List (Entry T)) (p : Calls T) (r : Reached) → r.notes ≡ length p.notes → HasReached es p r → IsAmong es p
+  pub whole_reached : (es : List (Entry T)) (p : Calls T) (r : Reached) → r.notes ≡ length p.notes → HasReached es p r → NotesAmong es p
   whole_reached es p r count h =
       let end = so_far_later p.party es p.notes r.notes r.entries (length es) h.before (omega arith) (h.before, h.fits, h.seen) in
       let whole : take r.notes p.notes ≡ p.notes = take_all r.notes p.notes (omega (arith, count)) in
       let all : take (length es) es ≡ es = take_all (length es) es (omega arith) in
-      let fits : Fits (map placed p.notes) (length p.notes) (calls_of p.party 0 es) = rw (sym count, sym whole, sym all) end.1 in
+      let fits : NotesFit (map placed p.notes) (length p.notes) (calls_of p.party 0 es) = rw (sym count, sym whole, sym all) end.1 in
       (fits.0, λ e. (fits.1 e, λ a d l. h.seen a d (omega arith) (omega (arith, count, l))))
 
   -- at the beginning nothing was compared of any list
@@ -118,7 +118,7 @@ module _ {T : Type 0} where
       ]
 
   -- lists that were all compared to their ends are of their parties' entries
-  pub all_reached : (es : List (Entry T)) (ps : List (Calls T)) (rs : List Reached) → HaveReached es ps rs → AreAtEnd ps rs (length ps) → All (IsAmong es) ps
+  pub all_reached : (es : List (Entry T)) (ps : List (Calls T)) (rs : List Reached) → HaveReached es ps rs → AreAtEnd ps rs (length ps) → All (NotesAmong es) ps
   all_reached es ps rs h end k p l = let r : Reached = record { notes = 0; entries = 0 } in whole_reached es (get_or ps k p) (get_or rs k r) (end k p r l) (h k p r l)
 
   -- one list more is at its end
@@ -132,7 +132,7 @@ module _ {T : Type 0} where
       ]
 
   -- lists that were compared a group at a time
-  pub group_reached : (es : List (Entry T)) (ps : List (Calls T)) (first last : ℕ) → first ≤ last → last ≤ length ps → AllWithin (IsAmong es) ps 0 first → All (IsAmong es) (take (last - first) (drop first ps)) → AllWithin (IsAmong es) ps 0 last
+  pub group_reached : (es : List (Entry T)) (ps : List (Calls T)) (first last : ℕ) → first ≤ last → last ≤ length ps → AllWithin (NotesAmong es) ps 0 first → All (NotesAmong es) (take (last - first) (drop first ps)) → AllWithin (NotesAmong es) ps 0 last
   group_reached es ps first last some fits before group k d low high =
       elim (cases_Bool (nat_lt k first)) [
         | inl old ↦ before k d low (grind (arith, nat_tests, old))
@@ -143,5 +143,5 @@ module _ {T : Type 0} where
             let long : length (take (last - first) (drop first ps)) ≡ last - first = grind (arith, length-take, length-drop, some, fits) in
             let same : get_or (take (last - first) (drop first ps)) (k - first) d ≡ get_or ps k d =
             get_or-take (last - first) (drop first ps) (k - first) d inside ∙ get_or-drop first ps (k - first) d ∙ ap (λ i. get_or ps i d) place in
-            subst (IsAmong es) same (group (k - first) d (omega (arith, long, inside)))
+            subst (NotesAmong es) same (group (k - first) d (omega (arith, long, inside)))
       ]

@@ -8,14 +8,14 @@ use Rattle.kanal_recorded.specs.Merges.{Placed, placed, calls_of}
 
 module _ {T : Type 0} where
   -- of these calls there are no fewer than notes so far, and where there are as many they are the notes'
-  abbrev pub Fits : List (Placed T) → ℕ → List (Placed T) → Type 0
-  Fits notes count calls = (count ≤ length calls) × (count ≡ length calls → notes ≡ calls)
+  abbrev pub NotesFit : List (Placed T) → ℕ → List (Placed T) → Type 0
+  NotesFit notes count calls = (count ≤ length calls) × (count ≡ length calls → notes ≡ calls)
 
   -- the pass's first notes are no more than the party's calls among the first entries, are those calls if they are as many, and none is before what was seen
   pub record HasReached (entries : List (Entry T)) (pass : Calls T) (reached : Reached) : Type 0 where
     pub within : reached.notes ≤ length pass.notes
     pub before : reached.entries ≤ length entries
-    pub fits : Fits (map placed (take reached.notes pass.notes)) reached.notes (calls_of pass.party 0 (take reached.entries entries))
+    pub fits : NotesFit (map placed (take reached.notes pass.notes)) reached.notes (calls_of pass.party 0 (take reached.entries entries))
     pub seen : AllWithin (λ n. n.seen ≤ n.place) pass.notes 0 reached.notes
 
   -- each of the passes has come as far as is kept at its number

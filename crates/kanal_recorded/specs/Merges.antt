@@ -37,8 +37,8 @@ module _ {T : Type 0} where
   IsOwn entries p = (map placed p.notes ≡ calls_of p.party 0 entries) × All (λ n. n.seen ≤ n.place) p.notes
 
   -- the pass has no more notes than the journal has calls of its party, and its list is what the journal has if there are as many
-  abbrev pub IsAmong : List (Entry T) → Calls T → Type 0
-  IsAmong entries p = (length p.notes ≤ length (calls_of p.party 0 entries)) × (length p.notes ≡ length (calls_of p.party 0 entries) → IsOwn entries p)
+  abbrev pub NotesAmong : List (Entry T) → Calls T → Type 0
+  NotesAmong entries p = (length p.notes ≤ length (calls_of p.party 0 entries)) × (length p.notes ≡ length (calls_of p.party 0 entries) → IsOwn entries p)
 
   -- the note is of this entry, and its place is not before what was seen
   abbrev pub IsNoteOf : Entry T → Note T → Type 0

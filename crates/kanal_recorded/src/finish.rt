@@ -3,7 +3,7 @@
 //! It is the one place that compares messages, by the type's own `==`.
 ghost use Rattle.std.specs.Prelude.{◌≡◌, ◌≢◌, ◌<◌, ◌≤◌, true, length, IfSome};
 ghost use Rattle.std.specs.List.{All, AllPairs, sum_by};
-ghost use Rattle.kanal_recorded.specs.Merges.{IsMerged, IsAmong, IsApart, IsNoteOf, IsIdentity};
+ghost use Rattle.kanal_recorded.specs.Merges.{IsMerged, NotesAmong, IsApart, IsNoteOf, IsIdentity};
 ghost use Rattle.kanal_recorded.specs.Comparing.{HasReached, HaveReached, AreAtEnd};
 
 use crate::pass::{Note, Pass};
@@ -97,7 +97,7 @@ fn last_party<T: Copy>(passes: &[Pass<T>]) -> u32 {
 /// more turns than there are entries and passes, and the entries' parties are looked through once.
 fn are_among<T: Copy + Eq>(entries: &[Entry<T>], passes: &[Pass<T>]) -> bool
     requires { IsIdentity T.eq }
-    ensures { result ≡ true → All (IsAmong entries.now) passes.now }
+    ensures { result ≡ true → All (NotesAmong entries.now) passes.now }
 {
     let window = WINDOW.max(passes.len());
     let mut last = Some(last_party(passes));
@@ -125,7 +125,7 @@ fn is_group_among<T: Copy + Eq>(
     requires equal { IsIdentity T.eq }
     requires few { length group.now ≤ GROUP }
     requires wide { 0 < window }
-    ensures { result ≡ true → All (IsAmong entries.now) group.now }
+    ensures { result ≡ true → All (NotesAmong entries.now) group.now }
 {
     let mut reached = [Reached::START; GROUP];
     let mut end = 0;

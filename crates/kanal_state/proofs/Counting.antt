@@ -10,9 +10,9 @@ use Rattle.kanal_events.specs.declared.event.Side.TheVariants.{Tx, Rx}
 use Rattle.kanal_events.specs.declared.step_result.StepResult.{StepResult}
 use Rattle.kanal_events.specs.StepResult.{reply_of}
 use Rattle.kanal_events.specs.Steps.{Told, Tells, cloned}
-use Rattle.kanal_state.specs.Makes.{IsNoted, IsReplied}
+use Rattle.kanal_state.specs.Makes.{StepAppendPost, IsReplied}
 use Rattle.kanal_state.specs.Results.{counted_by}
-use Rattle.kanal_state.specs.Words.{Words}
+use Rattle.kanal_state.specs.HistoryRelations.{HistoryRelations}
 use Rattle.kanal_state.specs.Counts.{one_more}
 use Rattle.kanal_state.proofs.Settling.{free_replied, is_free, noted_answered}
 
@@ -39,8 +39,8 @@ module _ {T : Type 0} where
   more_settles l side event told is tells = settles-none l side told (subst (λ e. Tells l e told) is tells)
 
   -- and memory is never refused to it
-  pub more_counted : {P W : Type 0} (w : Words T P) (old new : P) (side : Side) (event : Event T) (made : StepResult T W) (answer : Result (Unit {0}) NoMore)
-      → event ≡ one_more side → IsNoted w old new event made → answer ≡ counted_by (reply_of made) → IsReplied w old new (one_more side) counted_by answer
+  pub more_counted : {P W : Type 0} (w : HistoryRelations T P) (old new : P) (side : Side) (event : Event T) (made : StepResult T W) (answer : Result (Unit {0}) NoMore)
+      → event ≡ one_more side → StepAppendPost w old new event made → answer ≡ counted_by (reply_of made) → IsReplied w old new (one_more side) counted_by answer
   more_counted w old new side event made answer is noted reads =
-      let here : IsNoted w old new (one_more side) made = subst (λ e. IsNoted w old new e made) is noted in
+      let here : StepAppendPost w old new (one_more side) made = subst (λ e. StepAppendPost w old new e made) is noted in
       free_replied w old new (one_more side) counted_by answer (reply_of made) (noted_answered w old new (one_more side) made here) (more-is-free T side) reads

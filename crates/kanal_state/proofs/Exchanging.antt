@@ -17,7 +17,7 @@ use Rattle.kanal_state.specs.Exchanges.{Replies, TellsExchanges}
 use Rattle.kanal_state.specs.Handles.{Receives, ReceivesInTime, Sends, SendsInTime, TriesToReceive, TriesToReceiveNow, TriesToSend, TriesToSendNow}
 use Rattle.kanal_state.specs.Makes.{Finishes, HasWaited, IsReplied}
 use Rattle.kanal_state.specs.Results.{asked_by, entered_by, received_after, received_by, sent_after, sent_by, timed_received_after, timed_received_by, timed_sent_after, timed_sent_by}
-use Rattle.kanal_state.specs.Words.{Words}
+use Rattle.kanal_state.specs.HistoryRelations.{HistoryRelations}
 
 module _ {T : Type 0} where
   -- which replies and outcomes read as Ok
@@ -77,7 +77,7 @@ module _ {T : Type 0} where
     came-reply (Got x) e = same-message Got x (cc)
     came-reply reply e = absurd (cc)
 
-module _ {T P : Type 0} (w : Words T P) (exchanges : P → P → List T → List T → Type 0) (tells : TellsExchanges w exchanges) (old new : P) where
+module _ {T P : Type 0} (w : HistoryRelations T P) (exchanges : P → P → List T → List T → Type 0) (tells : TellsExchanges w exchanges) (old new : P) where
   -- the same call, with its reply as the answer
   with-reply : {R : Type 0} (event : Event T) (read : Reply T → R) (answer : R) (reply : Reply T) → (c : IsReplied w old new event read answer) → c.call.reply ≡ reply → Replies w old new event reply
   with-reply event read answer reply c r = record { call = c.call; made = c.made; asked = c.asked; reads = sym r; told = c.told }

@@ -2,7 +2,7 @@
 use Rattle.std.proofs.Common.{◌≡◌, ◌==◌, ◌-◌, Bool, List, [], ◌∷◌, Option, Some, None, cond, true, false, refl, ap, sym, subst, ◌∙◌, inl, inr}
 use Rattle.std.proofs.lemmas.Bool.{cases_Bool}
 use Rattle.kanal_core.specs.declared.internal.outcome.Reason.TheVariants.{SendClosed as BySenders, ReceiveClosed as ByReceivers}
-use Rattle.kanal_core.specs.Line.{Entry, Line, has_place, last_word}
+use Rattle.kanal_core.specs.Line.{LineEntry, Line, has_place, last_word}
 use Rattle.kanal_core.specs.Moves.{end_all, enter, quiet, wait_recv, wait_send}
 use Rattle.kanal_events.specs.declared.event.Event.{Event}
 use Rattle.kanal_events.specs.declared.event.Event.TheVariants.{Send, TrySend, Recv, RecvLate, TryRecv, Drain, Withdraw, CloneTx, CloneRx, DropTx, DropRx, Seal, Close, Ask, Terminated}
@@ -167,7 +167,7 @@ module _ {T : Type 0} where
             off (sym (ap reply-of there) ∙ e)
       ]
 
-  front-as : (l new : Line T) (m : T) (es : List (Entry T)) (o p : Told T) → (o.reply ≡ Got m → ⊥) → only new (Got m) ≡ take_front l es o → only new (Got m) ≡ take_front l es p
+  front-as : (l new : Line T) (m : T) (es : List (LineEntry T)) (o p : Told T) → (o.reply ≡ Got m → ⊥) → only new (Got m) ≡ take_front l es o → only new (Got m) ≡ take_front l es p
   front-as l new m [] o p off e = absurd (off (sym (ap reply-of e)))
   front-as l new m (x ∷ es) o p off e = e
 

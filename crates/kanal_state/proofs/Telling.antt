@@ -1,7 +1,7 @@
 -- What a step tells, where it was refused for memory and where it was not.
 use Rattle.std.proofs.Common.{◌≡◌, ◌≢◌, ◌==◌, ℕ, true, false, List, [], ◌∷◌, Option, Some, refl, ap, sym, ◌∙◌, inl, inr, arith}
 use Rattle.std.proofs.lemmas.Bool.{cases_Bool, false≢true}
-use Rattle.kanal_core.specs.Line.{Entry, Line, found, has, has_place, last_word}
+use Rattle.kanal_core.specs.Line.{LineEntry, Line, found, has, has_place, last_word}
 use Rattle.kanal_core.specs.Moves.{last_count, wait_recv, wait_send}
 use Rattle.kanal_events.specs.declared.event.Ask.{Ask}
 use Rattle.kanal_events.specs.declared.event.Ask.TheVariants.{IsBounded, Len, IsEmpty, IsFull, Capacity, ReceiverCount, SenderCount, IsClosed, IsDisconnected}
@@ -50,7 +50,7 @@ module _ {T : Type 0} where
         | inr a ↦ rw a refl
       ]
 
-  front-found : (l : Line T) (es : List (Entry T)) (otherwise : Told T) → Found otherwise → Found (take_front l es otherwise)
+  front-found : (l : Line T) (es : List (LineEntry T)) (otherwise : Told T) → Found otherwise → Found (take_front l es otherwise)
   front-found l [] otherwise o = o
   front-found l (e ∷ es) otherwise o = refl
 

@@ -6,15 +6,15 @@ use Rattle.kanal_events.specs.declared.event.Event.TheVariants.{Send, TrySend, R
 use Rattle.kanal_events.specs.declared.event.Reply.{Reply}
 use Rattle.kanal_events.specs.declared.event.Reply.TheVariants.{Got, No, Nothing, Sent, Yes}
 use Rattle.kanal_state.specs.Makes.{HasWaited, IsReplied}
-use Rattle.kanal_state.specs.Words.{Words, nothing_told}
+use Rattle.kanal_state.specs.HistoryRelations.{HistoryRelations, nothing_told}
 
 module _ {T P : Type 0} where
   -- the pass made a call of this event, with this reply
-  abbrev pub Replies : Words T P → P → P → Event T → Reply T → Type 0
+  abbrev pub Replies : HistoryRelations T P → P → P → Event T → Reply T → Type 0
   Replies w old new event reply = IsReplied w old new event (λ r. r) reply
 
   -- a call whose message entered put it, one that was given a message got it, whether it waited or not; the last two lists are what was put, and what was got
-  pub record TellsExchanges (w : Words T P) (exchanges : P → P → List T → List T → Type 0) : Type 0 where
+  pub record TellsExchanges (w : HistoryRelations T P) (exchanges : P → P → List T → List T → Type 0) : Type 0 where
     pub put_at_once : (old new : P) (m : T) → Replies w old new (Send m) Sent → exchanges old new (m ∷ []) []
     pub put_waiting : (old new : P) (m : T) → HasWaited w old new (Send m) Taken → exchanges old new (m ∷ []) []
     pub put_by_trying : (old new : P) (m : T) → Replies w old new (TrySend m) Yes → exchanges old new (m ∷ []) []

@@ -18,9 +18,9 @@ use Rattle.kanal_state.specs.Counts.{one_more}
 use Rattle.kanal_state.specs.Makes.{Comes, Finishes, HasDrained, IsReplied, Lacks}
 use Rattle.kanal_state.specs.Results.{asked_by, closed_by, counted_by, entered_by, flag_by, receive_in_time, received_after, received_by, send_in_time, sent_after, sent_by}
 use Rattle.kanal_state.specs.Timed.{FinishesBy, MeasuresFrom, ReceivesLate}
-use Rattle.kanal_state.specs.Words.{Words}
+use Rattle.kanal_state.specs.HistoryRelations.{HistoryRelations}
 
-module _ {T P : Type 0} (w : Words T P) (old new : P) where
+module _ {T P : Type 0} (w : HistoryRelations T P) (old new : P) where
   -- a send that waits where it must: it was made at once, it waited and was settled, or there was no memory for it
   abbrev pub Sends : T → Result (Unit {0}) SendError → Type 0
   Sends message answer = Finishes w old new (Send message) sent_by sent_after (Err SendNoMemory) answer

@@ -1,6 +1,6 @@
 pub mod Calls
 pub mod Entries
-pub mod Words
+pub mod HistoryRelations
 pub mod Makes
 pub mod Results
 pub mod Timed

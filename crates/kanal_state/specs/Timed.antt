@@ -5,23 +5,23 @@ use Rattle.kanal_events.specs.declared.event.Event.{Event}
 use Rattle.kanal_events.specs.declared.event.Event.TheVariants.{RecvLate}
 use Rattle.kanal_state.specs.Makes.{Finishes, HasWithdrawn, IsReplied}
 use Rattle.kanal_state.specs.Results.{InTime, timed_received_by}
-use Rattle.kanal_state.specs.Words.{Words}
-use Rattle.kanal_cell.specs.Deadlines.{HasCome}
+use Rattle.kanal_state.specs.HistoryRelations.{HistoryRelations}
+use Rattle.kanal_cell.specs.Deadlines.{DeadlineReached}
 
 module _ {T P : Type 0} where
   -- the clock answered a moment that is not before the deadline, and the pass took back the wait of its call
-  pub record IsTooLate (w : Words T P) (answered : ℕ → Type 0) (deadline : ℕ) (old new : P) (event : Event T) : Type 0 where
-    pub come : HasCome answered deadline
+  pub record IsTooLate (w : HistoryRelations T P) (answered : ℕ → Type 0) (deadline : ℕ) (old new : P) (event : Event T) : Type 0 where
+    pub come : DeadlineReached answered deadline
     pub withdrawn : HasWithdrawn w old new event
 
   -- a call with this deadline: as one that may wait; or it waited, the deadline came, and the pass took the wait back
-  abbrev pub FinishesBy : {R : Type 0} → Words T P → (ℕ → Type 0) → ℕ → P → P → Event T → InTime T R → R → Type 0
+  abbrev pub FinishesBy : {R : Type 0} → HistoryRelations T P → (ℕ → Type 0) → ℕ → P → P → Event T → InTime T R → R → Type 0
   FinishesBy w answered deadline old new event answers answer =
       Finishes w old new event answers.by_reply answers.by_outcome answers.no_memory answer
       ⊎ (IsTooLate w answered deadline old new event × (answer ≡ answers.late))
 
   -- the clock answered a moment that is past the deadline, and the pass made a receive that looks and doesn't wait
-  pub record ReceivesLate (w : Words T P) (answered : ℕ → Type 0) (deadline : ℕ) (old new : P) (answer : Result T ReceiveErrorTimeout) : Type 0 where
+  pub record ReceivesLate (w : HistoryRelations T P) (answered : ℕ → Type 0) (deadline : ℕ) (old new : P) (answer : Result T ReceiveErrorTimeout) : Type 0 where
     pub moment : ℕ
     pub is_answer : answered moment
     pub is_past : deadline < moment

@@ -7,7 +7,7 @@ use Rattle.kanal_events.specs.declared.event.Reply.{Reply}
 use Rattle.kanal_events.specs.declared.event.Reply.TheVariants.{Waits as HasToWait}
 use Rattle.kanal_events.specs.Steps.{message_of}
 use Rattle.kanal_state.specs.Makes.{HasReplied, IsReplied}
-use Rattle.kanal_state.specs.Words.{Words}
+use Rattle.kanal_state.specs.HistoryRelations.{HistoryRelations}
 use Rattle.kanal_state.specs.declared.counted.CountedWait.{CountedWait}
 use Rattle.kanal_state.specs.declared.state.WaitStart.{WaitStart}
 use Rattle.kanal_state.specs.declared.state.WaitStart.TheVariants.{Waits, Refused}
@@ -16,7 +16,7 @@ use Rattle.kanal_state.specs.Renewing.{Brought}
 
 module _ {T P : Type 0} where
   -- the pass made the call, which waits under the ticket of this token
-  abbrev pub IsWaiting : Words T P → P → P → Event T → CountedWait → Type 0
+  abbrev pub IsWaiting : HistoryRelations T P → P → P → Event T → CountedWait → Type 0
   IsWaiting w old new event counted = IsReplied w old new event (λ reply. reply) (HasToWait (number_of (ticket_of counted)))
 
 module _ {T H P B S C : Type 0} where
@@ -26,7 +26,7 @@ module _ {T H P B S C : Type 0} where
   reply_at (Refused reply waiter) = reply
 
   -- the pass made the call, which waits; or it was refused, or there was no memory for it
-  abbrev pub HasStarted : Words T P → P → P → Event T → WaitStart T H P B S C → Type 0
+  abbrev pub HasStarted : HistoryRelations T P → P → P → Event T → WaitStart T H P B S C → Type 0
   HasStarted w old new event (Waits counted) = IsWaiting w old new event counted
   HasStarted w old new event (Refused reply waiter) = HasReplied w old new event reply
 

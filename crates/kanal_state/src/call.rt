@@ -3,7 +3,7 @@
 //! Events, replies and outcomes are those of the events and of the core; nothing is defined anew.
 use kanal_core::internal::Outcome;
 use kanal_events::event::{Event, Reply};
-use kanal_log::Entry;
+use kanal_log::LogEntry;
 use std::collections::LinkedList;
 
 /// A call that was made, and all that was told of it. No value of it is made: it stands in proofs alone.
@@ -20,7 +20,7 @@ pub struct Call<T> {
     pub cleared: LinkedList<T>,
 }
 
-impl<T> Entry for Call<T> {
+impl<T> LogEntry for Call<T> {
     ghost use Rattle.kanal_state.specs.Calls.{IsSilent};
 
     ghost quiet = { λ call. IsSilent call.event };

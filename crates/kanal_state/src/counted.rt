@@ -87,7 +87,7 @@ impl<S> Counted<S> {
 impl<S: OfSide> Counted<S> {
     /// Counts a handle in: a call of this pass counted one more. The state alone calls this, once a call.
     pub(crate) fn count_in<T, H: History<T>>(before: &Snapshot<H::Pass>, after: &H::Pass) -> Self
-        requires made { IsReplied H.words before.now.value after.now (one_more S.side) counted_by (Ok tt) }
+        requires made { IsReplied H.relations before.now.value after.now (one_more S.side) counted_by (Ok tt) }
     {
         let _ = before;
         let _ = after;
@@ -97,11 +97,11 @@ impl<S: OfSide> Counted<S> {
     /// Counts the handle out: its drop was made as an internal call.
     pub(crate) fn count_out<T, W, H: History<T>>(
         self,
-        before: &Snapshot<H::Cleanup>,
-        after: &H::Cleanup,
+        before: &Snapshot<H::InternalPass>,
+        after: &H::InternalPass,
         made: &StepResult<T, W>,
     )
-        requires made { H.cleans.makes before.now.value after.now (call_from (one_less S.side) made.now) }
+        requires made { H.internal_relations.appends before.now.value after.now (call_from (one_less S.side) made.now) }
     {
         let Counted { stands, side: _ } = self;
         let _ = before;
@@ -178,7 +178,7 @@ impl CountedWait {
         after: &H::Pass,
         waiter: &Waiter<T, W>,
     )
-        requires made { H.words.makes before.now.value after.now
+        requires made { H.relations.appends before.now.value after.now
             (withdrawal (number_of (ticket_of self)) waiter.now.message) }
     {
         let CountedWait { ticket: _, stands } = self;
@@ -191,11 +191,11 @@ impl CountedWait {
     /// Counts the wait out: an internal call took it back.
     pub(crate) fn taken_back<T, W, H: History<T>>(
         self,
-        before: &Snapshot<H::Cleanup>,
-        after: &H::Cleanup,
+        before: &Snapshot<H::InternalPass>,
+        after: &H::InternalPass,
         waiter: &Waiter<T, W>,
     )
-        requires made { H.cleans.makes before.now.value after.now
+        requires made { H.internal_relations.appends before.now.value after.now
             (withdrawal (number_of (ticket_of self)) waiter.now.message) }
     {
         let CountedWait { ticket: _, stands } = self;
@@ -251,9 +251,9 @@ impl CountedWait {
         pass: &mut H::Pass,
         delivered: WaitResult<T, H>,
     ) -> Result<Outcome<T>, Self>
-        ensures looks { IfOk result (λ _. H.words.looks pass.old pass.new) }
+        ensures extends { IfOk result (λ _. H.relations.extends pass.old pass.new) }
         ensures settled { IfOk result (λ outcome.
-            H.words.settled pass.new (number_of (ticket_of self), outcome)) }
+            H.relations.saw_settled pass.new (number_of (ticket_of self), outcome)) }
         ensures other { IfErr result (λ back. (back ≡ self) × (pass.new ≡ pass.old)) }
     {
         if let Some(counted) = self.told(&delivered) {

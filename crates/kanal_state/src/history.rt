@@ -4,7 +4,7 @@ ghost use Rattle.kanal_core.specs.Line.{Line};
 ghost use Rattle.kanal_core.specs.declared.internal.outcome.Outcome.{Outcome};
 ghost use Rattle.kanal_state.specs.Calls.{IsSilent, IsToldOn, line_by};
 ghost use Rattle.kanal_state.specs.Exchanges.{TellsExchanges};
-ghost use Rattle.kanal_state.specs.Words.{AreSound, Words};
+ghost use Rattle.kanal_state.specs.HistoryRelations.{AreSound, HistoryRelations};
 
 use crate::call::Call;
 use kanal_log::EntryOf;
@@ -19,16 +19,16 @@ pub trait History<T>: Drop {
     type Prefix: Drop;
     /// What makes the internal calls: the drops of handles, and the withdrawals of waits that were
     /// left. It lies under the lock.
-    type Cleanup: Drop;
+    type InternalPass: Drop;
 
     /// What is kept led to this line.
     ghost stands: { Self → Line T → Type 0 };
 
     /// What passes tell of calls.
-    ghost words: { Words T Self.Pass };
+    ghost relations: { HistoryRelations T Self.Pass };
 
     /// What is told of internal calls.
-    ghost cleans: { Words T Self.Cleanup };
+    ghost internal_relations: { HistoryRelations T Self.InternalPass };
 
     /// Who had the first pass put the first messages by one call and got the others, and has the second now.
     ghost exchanges: { Self.Pass → Self.Pass → List T → List T → Type 0 };
@@ -48,14 +48,14 @@ pub trait History<T>: Drop {
             × IsToldOn l (M.entry about.now answer.now) }
         ensures stands { (l : Line _) → stands self.old l
             → stands self.new (line_by (M.entry about.now answer.now) l) }
-        ensures made { words.makes pass.old pass.new (M.entry about.now answer.now) };
+        ensures made { relations.appends pass.old pass.new (M.entry about.now answer.now) };
 
     /// Keeps the call that the two values are the entry of, as an internal call. It puts no message, asks for
     /// none and clears none.
     fn append_silent<X, Y, M: EntryOf<X, Y, Call<T>>>(
         &mut self,
         log: &Self::Log,
-        cleanup: &mut Self::Cleanup,
+        internal_pass: &mut Self::InternalPass,
         about: &X,
         answer: &Y,
     )
@@ -64,24 +64,24 @@ pub trait History<T>: Drop {
         requires silent { IsSilent (M.entry about.now answer.now).event }
         ensures stands { (l : Line _) → stands self.old l
             → stands self.new (line_by (M.entry about.now answer.now) l) }
-        ensures made { cleans.makes cleanup.old cleanup.new (M.entry about.now answer.now) };
+        ensures made { internal_relations.appends internal_pass.old internal_pass.new (M.entry about.now answer.now) };
 
     /// What was seen by the internal calls.
-    fn cleanup_prefix(log: &Self::Log, cleanup: &mut Self::Cleanup) -> Self::Prefix
-        ensures same { cleanup.new ≡ cleanup.old }
-        ensures settled { (pair : ℕ × Outcome _) → cleans.settled cleanup.old pair
+    fn internal_prefix(log: &Self::Log, internal_pass: &mut Self::InternalPass) -> Self::Prefix
+        ensures same { internal_pass.new ≡ internal_pass.old }
+        ensures settled { (pair : ℕ × Outcome _) → internal_relations.saw_settled internal_pass.old pair
             → shows result pair };
 
     /// Shows the pass all that is kept.
     fn show(&mut self, log: &Self::Log, pass: &mut Self::Pass)
         ensures stands { (l : Line _) → stands self.old l → stands self.new l }
-        ensures looks { words.looks pass.old pass.new }
-        ensures ends { (l : Line _) → stands self.old l → words.ends pass.new l };
+        ensures extends { relations.extends pass.old pass.new }
+        ensures reaches { (l : Line _) → stands self.old l → relations.reaches pass.new l };
 
     /// What the pass has seen.
     fn prefix(log: &Self::Log, pass: &mut Self::Pass) -> Self::Prefix
         ensures same { pass.new ≡ pass.old }
-        ensures settled { (pair : ℕ × Outcome _) → words.settled pass.old pair
+        ensures settled { (pair : ℕ × Outcome _) → relations.saw_settled pass.old pair
             → shows result pair };
 
     /// The same once more.
@@ -91,16 +91,16 @@ pub trait History<T>: Drop {
 
     /// The pass learns what was seen, and makes no call.
     fn learn(log: &Self::Log, pass: &mut Self::Pass, prefix: Self::Prefix)
-        ensures looks { words.looks pass.old pass.new }
+        ensures extends { relations.extends pass.old pass.new }
         ensures settled { (pair : ℕ × Outcome _) → shows prefix pair
-            → words.settled pass.new pair };
+            → relations.saw_settled pass.new pair };
 
     /// What passes tell of calls hangs together.
-    ghost sound: { AreSound words };
+    ghost sound: { AreSound relations };
 
     /// So does what is told of internal calls.
-    ghost cleans_sound: { AreSound cleans };
+    ghost internal_sound: { AreSound internal_relations };
 
     /// What calls put and got goes by what was told of them.
-    ghost tells_exchanges: { TellsExchanges words exchanges };
+    ghost tells_exchanges: { TellsExchanges relations exchanges };
 }

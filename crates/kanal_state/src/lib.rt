@@ -2,7 +2,7 @@
 //! those who may not wait for the lock.
 //!
 //! A call lends the core to one step of `kanal_events` and has the call kept. A channel is generic in its history:
-//! `History` is what is kept of the calls, and contracts say in its words (`Words`) what a pass tells. `NoHistory`
+//! `History` is what is kept of the calls, and contracts say in its words (`HistoryRelations`) what a pass tells. `NoHistory`
 //! keeps nothing and has no bytes. A handle and a wait are counted by tokens, which are counted out by evidence of
 //! a call, or into the notices. Nothing here takes the lock, waits, or tells a waiter: `kanal_channel` does, with
 //! what leaves the core.
@@ -10,7 +10,7 @@
 
 pub mod answers;
 mod call;
-mod caller;
+mod call_context;
 mod counted;
 mod history;
 mod none;
@@ -21,7 +21,7 @@ mod wait_result;
 mod waiter_handle;
 
 pub use call::Call;
-pub use caller::Caller;
+pub use call_context::CallContext;
 pub use counted::{
     Counted, CountedReceiver, CountedSender, CountedWait, FirstHandles, GoneHandles, GoneWaits,
     Notices,
@@ -30,6 +30,6 @@ pub use history::History;
 pub use none::NoHistory;
 pub use released::{Deferred, Released};
 pub use side::{OfSide, ReceiveSide, SendSide};
-pub use state::{Gone, State, WaitStart};
+pub use state::{DropResult, State, WaitStart};
 pub use wait_result::WaitResult;
-pub use waiter_handle::{Core, Leavers, WaiterHandle, ends};
+pub use waiter_handle::{Core, LeftWaits, WaiterHandle, ends};

@@ -13,7 +13,7 @@ pub struct NoHistory;
 
 impl<T> History<T> for NoHistory {
     ghost use Rattle.kanal_state.specs.Exchanges.{nothing_exchanged};
-    ghost use Rattle.kanal_state.specs.Words.{nothing_told, nothing_sound};
+    ghost use Rattle.kanal_state.specs.HistoryRelations.{nothing_told, nothing_sound};
 
     type Pass = ();
 
@@ -21,13 +21,13 @@ impl<T> History<T> for NoHistory {
 
     type Prefix = ();
 
-    type Cleanup = ();
+    type InternalPass = ();
 
     ghost stands = { λ _ _. Unit {0} };
 
-    ghost words = { nothing_told };
+    ghost relations = { nothing_told };
 
-    ghost cleans = { nothing_told };
+    ghost internal_relations = { nothing_told };
 
     ghost exchanges = { λ _ _ _ _. Unit {0} };
 
@@ -46,13 +46,13 @@ impl<T> History<T> for NoHistory {
     fn append_silent<X, Y, M: EntryOf<X, Y, Call<T>>>(
         &mut self,
         _board: &(),
-        _cleanup: &mut (),
+        _internal_pass: &mut (),
         _about: &X,
         _answer: &Y,
     ) {}
 
     #[inline(always)]
-    fn cleanup_prefix(_board: &(), _cleanup: &mut ()) {}
+    fn internal_prefix(_board: &(), _internal_pass: &mut ()) {}
 
     #[inline(always)]
     fn show(&mut self, _board: &(), _pass: &mut ()) {}
@@ -68,7 +68,7 @@ impl<T> History<T> for NoHistory {
 
     ghost sound = { nothing_sound };
 
-    ghost cleans_sound = { nothing_sound };
+    ghost internal_sound = { nothing_sound };
 
     ghost tells_exchanges = { nothing_exchanged };
 }

@@ -13,7 +13,7 @@ ghost use Rattle.kanal_events.specs.Steps.{IsWait, Tells, is_no_memory, only};
 ghost use Rattle.kanal_events.specs.StepResult.{MustWait, Tries, drained_of, entered, got, is_drained, is_plain, may_wait, reply_of, told_of, withdrawn};
 ghost use Rattle.kanal_state.specs.Calls.{IsTold};
 ghost use Rattle.kanal_state.specs.Entries.{entry, receipt, replied, told_by, tried_entry, tried_receipt, withdrawal};
-ghost use Rattle.kanal_state.specs.Makes.{HasTooLittleRoom, IsKept, IsNoted, IsTried};
+ghost use Rattle.kanal_state.specs.Makes.{HasTooLittleRoom, AppendPost, StepAppendPost, StartPost};
 ghost use Rattle.kanal_state.specs.Counts.{count_of, counts_handle, ticket_of};
 ghost use Rattle.kanal_state.specs.Frames.{OnlyLineMoves};
 ghost use Rattle.kanal_state.specs.Renewing.{Renews};
@@ -28,7 +28,7 @@ use crate::counted::{CountedWait, FirstHandles, Notices};
 use crate::released::Deferred;
 use crate::waiter_handle::{Core, WaiterHandle};
 use futures::task::Waker;
-pub use internal_calls::Gone;
+pub use internal_calls::DropResult;
 use kanal_core::internal::{Ticket, Waiter};
 use kanal_events::event::{Event, Refusal, Reply, Side};
 use kanal_events::step_result::{Answered, Kept, StepResult};
@@ -48,7 +48,7 @@ use std::snapshot::Snapshot;
 pub struct State<T, H: History<T>> {
     core: Core<T, H>,
     history: H,
-    cleanup: H::Cleanup,
+    internal_pass: H::InternalPass,
 }
 
 impl<T, H: History<T>> Model for State<T, H> {
@@ -58,9 +58,9 @@ impl<T, H: History<T>> Model for State<T, H> {
     ghost use Rattle.kanal_core.specs.declared.internal.outcome.Waiter.{Waiter};
     ghost use Rattle.kanal_state.specs.Renewing.{Brought};
 
-    ghost Value = { H.Cleanup × Line T × List (Waiter T Brought) };
+    ghost Value = { H.InternalPass × Line T × List (Waiter T Brought) };
 
-    ghost view = { λ s. (s.cleanup, line_of s.core, s.core.waiters) };
+    ghost view = { λ s. (s.internal_pass, line_of s.core, s.core.waiters) };
 
     ghost invariant = { λ s. H.stands s.history (line_of s.core) };
 }
@@ -106,13 +106,13 @@ fn renew<T: Drop, H: History<T>>(
 impl<T: Drop, H: History<T>> State<T, H> {
     /// A core, and what is kept of the calls that led to its line.
     /// Example: `let state = State::new(core, NoHistory, ())`.
-    pub fn new(core: Core<T, H>, history: H, cleanup: H::Cleanup) -> State<T, H>
+    pub fn new(core: Core<T, H>, history: H, internal_pass: H::InternalPass) -> State<T, H>
         requires core { H.stands history (line_of core) }
     {
         State {
             core,
             history,
-            cleanup,
+            internal_pass,
         }
     }
 
@@ -121,11 +121,14 @@ impl<T: Drop, H: History<T>> State<T, H> {
     pub fn with_handles(
         core: Core<T, H>,
         history: H,
-        cleanup: H::Cleanup,
+        internal_pass: H::InternalPass,
     ) -> (State<T, H>, FirstHandles)
         requires core { H.stands history (line_of core) }
     {
-        (State::new(core, history, cleanup), FirstHandles::new())
+        (
+            State::new(core, history, internal_pass),
+            FirstHandles::new(),
+        )
     }
 
     /// The channel goes, with its notices.
@@ -155,10 +158,10 @@ impl<T: Drop, H: History<T>> State<T, H> {
     ) -> Deferred<StepResult<T, WaiterHandle<T, H>>>
         requires plain { is_plain event ≡ true }
         requires uncounted { counts_handle event ≡ false }
-        ensures noted { IsNoted H.words pass.old pass.new event result }
+        ensures noted { StepAppendPost H.relations pass.old pass.new event result }
         ensures step { Tells self.old.1 event (told_of self.new.1 result) }
         ensures leave { Leave self.old.2 (gone_of result) self.new.2 }
-        ensures cleanup { self.new.0 ≡ self.old.0 }
+        ensures internal_pass { self.new.0 ≡ self.old.0 }
     {
         Deferred {
             inside: self.make(log, pass, event),
@@ -173,10 +176,10 @@ impl<T: Drop, H: History<T>> State<T, H> {
         event: Event<T>,
     ) -> StepResult<T, WaiterHandle<T, H>>
         requires plain { is_plain event ≡ true }
-        ensures noted { IsNoted H.words pass.old pass.new event result }
+        ensures noted { StepAppendPost H.relations pass.old pass.new event result }
         ensures step { Tells self.old.1 event (told_of self.new.1 result) }
         ensures leave { Leave self.old.2 (gone_of result) self.new.2 }
-        ensures cleanup { self.new.0 ≡ self.old.0 }
+        ensures internal_pass { self.new.0 ≡ self.old.0 }
     {
         let asked = Snapshot::of(&event);
         let made = steps::make(&mut self.core, event);
@@ -187,7 +190,7 @@ impl<T: Drop, H: History<T>> State<T, H> {
     /// Makes a send whose message enters where nobody waits; where it doesn't enter so nothing changes.
     #[inline(always)]
     pub fn push(&mut self, log: &H::Log, pass: &mut H::Pass, message: T) -> Result<(), T>
-        ensures made { OnOk result (H.words.makes pass.old pass.new (entry message)) }
+        ensures made { OnOk result (H.relations.appends pass.old pass.new (entry message)) }
         ensures told { OnOk result (IsTold (entry message)) }
         ensures refused { IfErr result (λ back. (back ≡ message) × (pass.new ≡ pass.old)) }
         ensures step { OnOk result (Tells self.old.1 (Event.Send message) (entered self.new.1)) }
@@ -204,7 +207,7 @@ impl<T: Drop, H: History<T>> State<T, H> {
     /// Makes a receive that gets its message where nobody waits; where it gets none so nothing changes.
     #[inline(always)]
     pub fn pop(&mut self, log: &H::Log, pass: &mut H::Pass) -> Option<T>
-        ensures made { IfSome result (λ m. H.words.makes pass.old pass.new (receipt m)) }
+        ensures made { IfSome result (λ m. H.relations.appends pass.old pass.new (receipt m)) }
         ensures told { IfSome result (λ m. IsTold (receipt m)) }
         ensures refused { IfNone result (pass.new ≡ pass.old) }
         ensures step { IfSome result (λ m. Tells self.old.1 Event.Recv (got m self.new.1)) }
@@ -222,7 +225,7 @@ impl<T: Drop, H: History<T>> State<T, H> {
     /// Example: `locked.state.try_push(log, &mut pass, 7)` answers `Ok(())` in a channel with a place.
     #[inline(always)]
     pub fn try_push(&mut self, log: &H::Log, pass: &mut H::Pass, message: T) -> Result<(), T>
-        ensures made { OnOk result (H.words.makes pass.old pass.new (tried_entry message)) }
+        ensures made { OnOk result (H.relations.appends pass.old pass.new (tried_entry message)) }
         ensures told { OnOk result (IsTold (tried_entry message)) }
         ensures refused { IfErr result (λ back. (back ≡ message) × (pass.new ≡ pass.old)) }
         ensures rest { OnlyLineMoves self.old self.new }
@@ -239,7 +242,7 @@ impl<T: Drop, H: History<T>> State<T, H> {
     /// Example: `locked.state.try_pop(log, &mut pass)` answers `Some(7)` after 7 entered.
     #[inline(always)]
     pub fn try_pop(&mut self, log: &H::Log, pass: &mut H::Pass) -> Option<T>
-        ensures made { IfSome result (λ m. H.words.makes pass.old pass.new (tried_receipt m)) }
+        ensures made { IfSome result (λ m. H.relations.appends pass.old pass.new (tried_receipt m)) }
         ensures told { IfSome result (λ m. IsTold (tried_receipt m)) }
         ensures refused { IfNone result (pass.new ≡ pass.old) }
         ensures rest { OnlyLineMoves self.old self.new }
@@ -261,10 +264,10 @@ impl<T: Drop, H: History<T>> State<T, H> {
         event: Event<T>,
     ) -> Result<Deferred<Answered<T, WaiterHandle<T, H>>>, Event<T>>
         requires waits { may_wait event ≡ true }
-        ensures tried { IsTried H.words pass.old pass.new event result }
+        ensures tried { StartPost H.relations pass.old pass.new event result }
         ensures step { Tries self.old.1 event result self.new.1 }
         ensures leave { LeaveTried self.old.2 result self.new.2 }
-        ensures cleanup { self.new.0 ≡ self.old.0 }
+        ensures internal_pass { self.new.0 ≡ self.old.0 }
     {
         let asked = Snapshot::of(&event);
         let tried = steps::start(&mut self.core, event);
@@ -315,7 +318,7 @@ impl<T: Drop, H: History<T>> State<T, H> {
         requires waits { may_wait event ≡ true }
         requires must { MustWait self.old.1 event }
         requires used_up { self.old.1.next ≡ last_word }
-        ensures made { IsKept H.words pass.old pass.new event (replied event result) }
+        ensures made { AppendPost H.relations pass.old pass.new event (replied event result) }
         ensures clear { IsWait result → ⊥ }
         ensures step { Tells self.old.1 event (only self.new.1 result) }
         ensures rest { OnlyLineMoves self.old self.new }
@@ -347,10 +350,10 @@ impl<T: Drop, H: History<T>> State<T, H> {
     ) -> WaitStart<T, H>
         requires waits { may_wait event ≡ true }
         requires must { MustWait self.old.1 event }
-        ensures started { HasStarted H.words pass.old pass.new event result }
+        ensures started { HasStarted H.relations pass.old pass.new event result }
         ensures step { Tells self.old.1 event (only self.new.1 (reply_at result)) }
         ensures joins { Joins self.old.2 event waiter result self.new.2 }
-        ensures cleanup { self.new.0 ≡ self.old.0 }
+        ensures internal_pass { self.new.0 ≡ self.old.0 }
     {
         let asked = Snapshot::of(&event);
         let (reply, kept) = steps::wait(&mut self.core, event, waiter);
@@ -374,7 +377,7 @@ impl<T: Drop, H: History<T>> State<T, H> {
         pass: &mut H::Pass,
         counted: CountedWait,
     ) -> Result<Deferred<Waiter<T, WaiterHandle<T, H>>>, CountedWait>
-        ensures made { IfOk result (λ w. H.words.makes pass.old pass.new
+        ensures made { IfOk result (λ w. H.relations.appends pass.old pass.new
             (withdrawal (number_of (ticket_of counted)) w.message)) }
         ensures told { IfOk result (λ w. IsTold
             (withdrawal (number_of (ticket_of counted)) w.message)) }
@@ -384,7 +387,7 @@ impl<T: Drop, H: History<T>> State<T, H> {
         ensures waiter { IfOk result (λ w. waiter_of (ticket_of counted) self.old.2 ≡ Some w) }
         ensures others { IfOk result (λ _. self.new.2 ≡ without (ticket_of counted) self.old.2) }
         ensures same { IfErr result (λ _. self.new ≡ self.old) }
-        ensures cleanup { self.new.0 ≡ self.old.0 }
+        ensures internal_pass { self.new.0 ≡ self.old.0 }
     {
         let ticket = counted.ticket();
         let Some(waiter) = steps::withdraw(&mut self.core, ticket) else {
@@ -407,15 +410,15 @@ impl<T: Drop, H: History<T>> State<T, H> {
         pass: &mut H::Pass,
         into: &mut Vec<T>,
     ) -> Deferred<StepResult<T, WaiterHandle<T, H>>>
-        ensures noted { IsNoted H.words pass.old pass.new Event.Drain result }
+        ensures noted { StepAppendPost H.relations pass.old pass.new Event.Drain result }
         ensures moved { into.new.items ≡ into.old.items ++ drained_of result }
         ensures memory { is_no_memory (reply_of result) ≡ true
-            → HasTooLittleRoom H.words pass.new (vec_len into.old) (vec_capacity into.old) }
+            → HasTooLittleRoom H.relations pass.new (vec_len into.old) (vec_capacity into.old) }
         ensures no_growth { is_drained result ≡ false
             → vec_capacity into.new ≡ vec_capacity into.old }
         ensures step { Tells self.old.1 Event.Drain (told_of self.new.1 result) }
         ensures leave { Leave self.old.2 (gone_of result) self.new.2 }
-        ensures cleanup { self.new.0 ≡ self.old.0 }
+        ensures internal_pass { self.new.0 ≡ self.old.0 }
     {
         let asked = Snapshot::of(&Event::Drain);
         let made = steps::drain(&mut self.core, into);
@@ -444,7 +447,7 @@ impl<T: Drop, H: History<T>> State<T, H> {
         ensures line { self.new.1 ≡ self.old.1 }
         ensures waits { (result ≡ true) ↔ IsSome (waiter_of ticket self.old.2) }
         ensures renewed { Renews ticket spare.old self.old.2 self.new.2 spare.new }
-        ensures cleanup { self.new.0 ≡ self.old.0 }
+        ensures internal_pass { self.new.0 ≡ self.old.0 }
     {
         renew(&mut self.core, ticket, spare)
     }

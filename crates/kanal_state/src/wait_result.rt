@@ -8,7 +8,7 @@ ghost use Rattle.kanal_cell.specs.CellEnds.{HasSettled, StaysAtCell, kept_waker,
 
 use crate::History;
 use futures::task::Waker;
-use kanal_cell::signal::{SettleEnd, Settlement};
+use kanal_cell::signal::{SettleEnd, SettleProof};
 use kanal_core::internal::Outcome;
 use std::marker::Model;
 
@@ -86,7 +86,7 @@ impl<T: Drop, H: History<T>> Settler<T, H> {
 
     /// Hands over what became of the wait, and shows that; what comes back, since the waiter has left, is let
     /// go.
-    pub(crate) fn settle(self, delivered: WaitResult<T, H>) -> Settlement<WaitResult<T, H>>
+    pub(crate) fn settle(self, delivered: WaitResult<T, H>) -> SettleProof<WaitResult<T, H>>
         ensures told { HasSettled result self.end delivered }
     {
         let Settler { mut end } = self;

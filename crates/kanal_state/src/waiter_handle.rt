@@ -6,7 +6,7 @@ ghost use Rattle.std.specs.Prelude.{◌≡◌, ◌<◌, ◌^◌, None, false, is
 ghost use Rattle.kanal_cell.specs.CellRule.{HasNotSettled, MaySleep};
 ghost use Rattle.kanal_cell.specs.CellEnds.{kept_waker, settle_cell, settle_view, wait_cell, wait_view};
 ghost use Rattle.kanal_state.specs.Renewing.{Swaps};
-ghost use Rattle.kanal_state.specs.WaiterHandles.{IsKept, IsTold};
+ghost use Rattle.kanal_state.specs.WaiterHandles.{IsStored, SettlesWaiter};
 
 mod reserved_node;
 
@@ -15,10 +15,10 @@ use crate::released::Released;
 use crate::wait_result::{Settler, WaitResult};
 use futures::task::Waker;
 use kanal_cell::signal;
-use kanal_cell::signal::{SettleEnd, Settlement, WaitEnd};
+use kanal_cell::signal::{SettleEnd, SettleProof, WaitEnd};
 use kanal_core::internal::{ChannelInternal, Outcome, Waiter};
 use kanal_events::step_result::Waits;
-pub use reserved_node::{Leaver, Leavers, ReservedNode};
+pub use reserved_node::{LeftWait, LeftWaits, ReservedNode};
 use std::alloc::Global;
 use std::collections::LinkedList;
 use std::marker::Model;
@@ -48,13 +48,13 @@ impl<T, H: History<T>> Model for WaiterHandle<T, H> {
 impl<T: Drop, H: History<T>> Waits<T> for WaiterHandle<T, H> {
     type Seen = H::Prefix;
 
-    type Evidence = Settlement<WaitResult<T, H>>;
+    type Evidence = SettleProof<WaitResult<T, H>>;
 
     type Released = Released;
 
     ghost shows = { H.shows };
 
-    ghost tells = { IsTold };
+    ghost tells = { SettlesWaiter };
 
     fn tell(
         self,
@@ -62,9 +62,9 @@ impl<T: Drop, H: History<T>> Waits<T> for WaiterHandle<T, H> {
         outcome: Outcome<T>,
         seen: H::Prefix,
         _released: &Released,
-    ) -> Settlement<WaitResult<T, H>>
+    ) -> SettleProof<WaitResult<T, H>>
         requires seen { H.shows seen (ticket, outcome) }
-        ensures told { IsTold result self (ticket, outcome) }
+        ensures told { SettlesWaiter result self (ticket, outcome) }
     {
         let WaiterHandle { settler, node } = self;
         drop(node);
@@ -91,10 +91,10 @@ impl<T: Drop, H: History<T>> ReservedNode<T, H> {
     pub(crate) fn keep(
         self,
         waiter: Waiter<T, WaiterHandle<T, H>>,
-        before: Leavers<T, H>,
-    ) -> Leavers<T, H>
+        before: LeftWaits<T, H>,
+    ) -> LeftWaits<T, H>
         requires few { length before < 2 ^ 62 }
-        ensures kept { IsKept waiter before result }
+        ensures kept { IsStored waiter before result }
     {
         let ReservedNode { mut place } = self;
         let Waiter {
@@ -109,7 +109,7 @@ impl<T: Drop, H: History<T>> ReservedNode<T, H> {
         let Some(free) = place.front_mut() else {
             unreachable!()
         };
-        *free = Some(Leaver { settler, message });
+        *free = Some(LeftWait { settler, message });
         let mut before = before;
         let Ok(()) = place.append(&mut before) else {
             unreachable!()

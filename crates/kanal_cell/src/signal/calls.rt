@@ -8,10 +8,10 @@ ghost use Rattle.kanal_cell.specs.CellEnds.{AreOfOneCell, FindsOutcome, GoesOn, 
 ghost use Rattle.kanal_cell.specs.declared.signal.rule.Role.TheVariants.{Waiter, Settler};
 
 use super::rule::{
-    CellTable, ENDED, EndSeat, LEFT, Leaves, Parts, Polls, SLEEPING, SettlerBegins, Settles,
+    CellParts, CellTable, ENDED, EndSeat, LEFT, Leaves, Polls, SLEEPING, SettlerBegins, Settles,
     Signal, Sleeper, Sleeps, WaiterBegins,
 };
-use super::settlement::Settlement;
+use super::settlement::SettleProof;
 use super::waking::{Waking, take_out};
 use super::{SettleEnd, WaitEnd};
 use crate::error::NoMemory;
@@ -43,7 +43,7 @@ fn table_with_seats<P: Drop>(alloc: Global) -> Result<Seated<P>, NoMemory>
         return Err(NoMemory);
     };
     table.shared.load::<WaiterBegins>(&mut waiter, 0);
-    let mut settler = table.shared.split_seat::<Parts>(&mut waiter);
+    let mut settler = table.shared.split_seat::<CellParts>(&mut waiter);
     table.shared.load::<SettlerBegins>(&mut settler, 0);
     Ok((table, waiter, settler))
 }
@@ -267,7 +267,7 @@ impl<P: Drop> SettleEnd<P> {
     /// let (settlement, back) = settle.hand_over(5);
     /// assert!(back == None);
     /// ```
-    pub fn hand_over(&mut self, outcome: P) -> (Settlement<P>, Option<P>)
+    pub fn hand_over(&mut self, outcome: P) -> (SettleProof<P>, Option<P>)
         requires unspent { HasNotSettled (settle_view self.old) }
         ensures shown { HasSettled result.0 self.old outcome }
         ensures step { GoesOn after_settle (settle_view self.old) (settle_view self.new) }
@@ -278,7 +278,7 @@ impl<P: Drop> SettleEnd<P> {
         let shown = Snapshot::of(&outcome);
         let (waking, back) = self.end(outcome);
         let woken = waking.wake(&self.signal.table.shared);
-        (Settlement::new(self, shown, woken), back)
+        (SettleProof::new(self, shown, woken), back)
     }
 
     /// Whether the waiter has left, by one load. What it answers is no part of the rule: a waiter

@@ -56,7 +56,7 @@ pub enum Role {
 
 /// What an end knows of its own steps. It stands in contracts alone, and no value of it is made,
 /// so the number of steps has no limit.
-pub struct View {
+pub struct CellView {
     /// Whose view it is.
     pub role: Role,
     /// How many steps the end has made.
@@ -72,11 +72,11 @@ pub struct View {
 /// The rule that every cell keeps between any two steps.
 pub struct SignalRule;
 
-impl<P> TableRule<Option<Held<P>>, View, ()> for SignalRule {
-    ghost use Rattle.kanal_cell.specs.CellRule.{IsKept, fresh};
+impl<P> TableRule<Option<Held<P>>, CellView, ()> for SignalRule {
+    ghost use Rattle.kanal_cell.specs.CellRule.{FollowsRule, fresh};
     ghost use Rattle.kanal_cell.specs.declared.signal.rule.Role.TheVariants.{Maker};
 
-    ghost holds = { λ _. IsKept };
+    ghost holds = { λ _. FollowsRule };
 
     ghost first = { λ _. fresh Maker };
 }
@@ -84,7 +84,7 @@ impl<P> TableRule<Option<Held<P>>, View, ()> for SignalRule {
 /// The load at which the waiter is lent the sleeper's slot.
 pub(crate) struct WaiterBegins;
 
-impl<P> Play<Option<Held<P>>, View> for WaiterBegins {
+impl<P> Play<Option<Held<P>>, CellView> for WaiterBegins {
     ghost use Rattle.kanal_cell.specs.CellRule.{waiter_began};
 
     ghost then = { waiter_began };
@@ -93,16 +93,16 @@ impl<P> Play<Option<Held<P>>, View> for WaiterBegins {
 /// The load at which the settler is lent the outcome's slot.
 pub(crate) struct SettlerBegins;
 
-impl<P> Play<Option<Held<P>>, View> for SettlerBegins {
+impl<P> Play<Option<Held<P>>, CellView> for SettlerBegins {
     ghost use Rattle.kanal_cell.specs.CellRule.{settler_began};
 
     ghost then = { settler_began };
 }
 
 /// The two ends part.
-pub(crate) struct Parts;
+pub(crate) struct CellParts;
 
-impl Split<View> for Parts {
+impl Split<CellView> for CellParts {
     ghost use Rattle.kanal_cell.specs.CellRule.{fresh};
     ghost use Rattle.kanal_cell.specs.declared.signal.rule.Role.TheVariants.{Waiter, SettlerToBe};
 
@@ -114,7 +114,7 @@ impl Split<View> for Parts {
 /// The step of a sleep.
 pub(crate) struct Sleeps;
 
-impl<P> Play<Option<Held<P>>, View> for Sleeps {
+impl<P> Play<Option<Held<P>>, CellView> for Sleeps {
     ghost use Rattle.kanal_cell.specs.CellRule.{slept};
 
     ghost then = { slept };
@@ -123,7 +123,7 @@ impl<P> Play<Option<Held<P>>, View> for Sleeps {
 /// The step of a poll.
 pub(crate) struct Polls;
 
-impl<P> Play<Option<Held<P>>, View> for Polls {
+impl<P> Play<Option<Held<P>>, CellView> for Polls {
     ghost use Rattle.kanal_cell.specs.CellRule.{polled};
 
     ghost then = { polled };
@@ -132,7 +132,7 @@ impl<P> Play<Option<Held<P>>, View> for Polls {
 /// The step of a leave.
 pub(crate) struct Leaves;
 
-impl<P> Play<Option<Held<P>>, View> for Leaves {
+impl<P> Play<Option<Held<P>>, CellView> for Leaves {
     ghost use Rattle.kanal_cell.specs.CellRule.{quit};
 
     ghost then = { quit };
@@ -141,17 +141,17 @@ impl<P> Play<Option<Held<P>>, View> for Leaves {
 /// The step of a settle.
 pub(crate) struct Settles;
 
-impl<P> Play<Option<Held<P>>, View> for Settles {
+impl<P> Play<Option<Held<P>>, CellView> for Settles {
     ghost use Rattle.kanal_cell.specs.CellRule.{settled};
 
     ghost then = { settled };
 }
 
 /// One word and two slots, under the rule.
-pub(crate) type CellTable<P> = Table<Option<Held<P>>, View, (), SignalRule, Global>;
+pub(crate) type CellTable<P> = Table<Option<Held<P>>, CellView, (), SignalRule, Global>;
 
 /// The seat of an end at the table of its cell.
-pub(crate) type EndSeat<P> = Seat<Option<Held<P>>, View>;
+pub(crate) type EndSeat<P> = Seat<Option<Held<P>>, CellView>;
 
 /// What the two ends share.
 #[derive(Drop)]

@@ -11,19 +11,19 @@ use std::snapshot::Snapshot;
 
 /// That a settler has settled its cell with an outcome, and has woken whom it had to. It has no bytes.
 #[derive(Drop)]
-pub struct Settlement<P> {
+pub struct SettleProof<P> {
     end: Snapshot<SettleEnd<P>>,
     outcome: Snapshot<P>,
 }
 
-impl<P> Settlement<P> {
+impl<P> SettleProof<P> {
     /// Of the settler that has made its step, and of the outcome that it had.
     pub(super) fn new(end: &SettleEnd<P>, outcome: Snapshot<P>, woken: Woken) -> Self
         requires ended { (settle_view end.now).set.ended ≡ true }
         ensures { HasSettled result end.now outcome.value }
     {
         drop(woken);
-        Settlement {
+        SettleProof {
             end: Snapshot::of(end),
             outcome,
         }

@@ -6,7 +6,7 @@
 ghost use Rattle.std.specs.Prelude.{◌≡◌, ◌<◌, true, None, Some};
 
 use super::rule::{EndSeat, Sleeper};
-use crate::pointer::Slots;
+use crate::pointer::SharedSlot;
 use futures::task::Waker;
 
 /// Takes the kept waker out, to be woken with the sleeper. The settler of the seat has made its step.
@@ -55,7 +55,7 @@ pub(super) struct Woken(());
 
 impl Waking {
     /// Wakes the sleeper and the waker, at the cell that was settled.
-    pub(super) fn wake<P>(self, cell: &Slots<P>) -> Woken
+    pub(super) fn wake<P>(self, cell: &SharedSlot<P>) -> Woken
         requires word { 0 < cell.now.table_id.words }
     {
         let Waking {

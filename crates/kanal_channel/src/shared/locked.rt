@@ -8,7 +8,9 @@ ghost use Rattle.kanal_channel.specs.Locks.{IsQuiet, is_held, takes_nothing};
 
 use super::Shared;
 use kanal_cell::{Contention, LOCK_TRIES};
-use kanal_state::{Deferred, Gone, History, Leavers, ReceiveSide, Released, SendSide, State};
+use kanal_state::{
+    Deferred, DropResult, History, LeftWaits, ReceiveSide, Released, SendSide, State,
+};
 use std::snapshot::Snapshot;
 use std::sync::{MutexGuard, Wait};
 
@@ -19,42 +21,42 @@ pub struct Locked<'a, T, H: History<T>> {
     shared: &'a Shared<T, H>,
     /// What the lock lends.
     pub state: MutexGuard<'a, State<T, H>>,
-    cleanup: Snapshot<H::Cleanup>,
+    internal_pass: Snapshot<H::InternalPass>,
     held: bool,
 }
 
 /// What applying the notices took out of the core. It has to be told.
-pub(super) struct Taken<T, H: History<T>> {
-    pub(super) gone: Option<Deferred<Leavers<T, H>>>,
-    pub(super) senders: Option<Gone<T, H>>,
-    pub(super) receivers: Option<Gone<T, H>>,
+pub(super) struct Applied<T, H: History<T>> {
+    pub(super) gone: Option<Deferred<LeftWaits<T, H>>>,
+    pub(super) senders: Option<DropResult<T, H>>,
+    pub(super) receivers: Option<DropResult<T, H>>,
 }
 
 /// What the notices took out under a lock that one try got, if there were some. It goes back with
 /// that lock.
-pub struct Left<T, H: History<T>> {
-    taken: Option<Taken<T, H>>,
+pub struct Pending<T, H: History<T>> {
+    applied: Option<Applied<T, H>>,
 }
 
-impl<T: Drop, H: History<T>> Drop for Left<T, H> {
+impl<T: Drop, H: History<T>> Drop for Pending<T, H> {
     fn drop(self)
         requires nobody { takes_nothing self }
     {
-        let Left { taken } = self;
-        match taken {
+        let Pending { applied } = self;
+        match applied {
             None => {},
             Some(_taken) => unreachable!(),
         }
     }
 }
 
-impl<T: Drop, H: History<T>> Left<T, H> {
+impl<T: Drop, H: History<T>> Pending<T, H> {
     /// Of a lock under which there was no notice.
-    /// Example: `shared.tell_left(Left::nothing(), &released)` tells nobody.
+    /// Example: `shared.tell_pending(Pending::nothing(), &released)` tells nobody.
     pub fn nothing() -> Self
         ensures nobody { takes_nothing result }
     {
-        Left { taken: None }
+        Pending { applied: None }
     }
 }
 
@@ -88,7 +90,7 @@ impl<T: Drop, H: History<T>> Locked<'_, T, H> {
     /// # Examples
     /// ```text
     /// let released = locked.unlock();
-    /// shared.tell_left(left, &released);
+    /// shared.tell_pending(pending, &released);
     /// shared.drain_notices();
     /// ```
     #[inline]
@@ -104,10 +106,10 @@ impl<T: Drop, H: History<T>> Locked<'_, T, H> {
         let Locked {
             shared: _,
             state,
-            cleanup,
+            internal_pass,
             held: _,
         } = self;
-        drop(cleanup);
+        drop(internal_pass);
         Released::by(state)
     }
 
@@ -120,11 +122,11 @@ impl<T: Drop, H: History<T>> Locked<'_, T, H> {
     {
         let shared = self.shared;
         let mut locked = self;
-        match locked.take_left().into_taken() {
+        match locked.take_pending().into_applied() {
             None => Some(locked),
-            Some(taken) => {
+            Some(applied) => {
                 let released = locked.unlock();
-                shared.tell_taken(taken, &released);
+                shared.tell_applied(applied, &released);
                 shared.try_lock_raw()
             },
         }
@@ -132,12 +134,12 @@ impl<T: Drop, H: History<T>> Locked<'_, T, H> {
 
     /// Applies the notices under a lock that one try got. What they take out goes back with the lock.
     #[cold]
-    fn take_left(&mut self) -> Left<T, H>
+    fn take_pending(&mut self) -> Pending<T, H>
         ensures quiet { IsQuiet self.new }
     {
-        let taken = self.shared.apply(&mut self.state);
-        self.cleanup = self.state.cleanup();
-        Left { taken }
+        let applied = self.shared.apply(&mut self.state);
+        self.internal_pass = self.state.internal_pass();
+        Pending { applied }
     }
 }
 
@@ -189,11 +191,11 @@ impl<T: Drop, H: History<T>> Shared<T, H> {
         state: MutexGuard<'a, State<T, H>>,
     ) -> Option<MutexGuard<'a, State<T, H>>> {
         let mut state = state;
-        let Some(taken) = self.apply(&mut state) else {
+        let Some(applied) = self.apply(&mut state) else {
             return Some(state);
         };
         let released = Released::by(state);
-        self.tell_taken(taken, &released);
+        self.tell_applied(applied, &released);
         None
     }
 
@@ -212,11 +214,11 @@ impl<T: Drop, H: History<T>> Shared<T, H> {
     fn locked<'a>(&'a self, state: MutexGuard<'a, State<T, H>>) -> Locked<'a, T, H>
         ensures quiet { IsQuiet result }
     {
-        let cleanup = state.cleanup();
+        let internal_pass = state.internal_pass();
         Locked {
             shared: self,
             state,
-            cleanup,
+            internal_pass,
             held: true,
         }
     }
@@ -225,20 +227,20 @@ impl<T: Drop, H: History<T>> Shared<T, H> {
     ///
     /// # Examples
     /// ```text
-    /// let (mut locked, left) = shared.try_lock()?;
+    /// let (mut locked, pending) = shared.try_lock()?;
     /// let released = locked.unlock();
-    /// shared.tell_left(left, &released);
+    /// shared.tell_pending(pending, &released);
     /// ```
-    pub fn try_lock(&self) -> Option<(Locked<'_, T, H>, Left<T, H>)>
+    pub fn try_lock(&self) -> Option<(Locked<'_, T, H>, Pending<T, H>)>
         ensures quiet { IfSome result (λ held. IsQuiet held.0) }
     {
         let mut locked = self.try_lock_raw()?;
-        let left = if self.is_quiet() {
-            Left::nothing()
+        let pending = if self.is_quiet() {
+            Pending::nothing()
         } else {
-            locked.take_left()
+            locked.take_pending()
         };
-        Some((locked, left))
+        Some((locked, pending))
     }
 
     /// Waits for a lock that was held: with pauses and naps between the tries, and then asleep.
@@ -257,7 +259,7 @@ impl<T: Drop, H: History<T>> Shared<T, H> {
     /// Applies all notices: first those of left waits, then the senders', then the receivers'. That
     /// there are some is forgotten before they are read: one that comes later is found later.
     #[cold]
-    fn apply(&self, state: &mut State<T, H>) -> Option<Taken<T, H>> {
+    fn apply(&self, state: &mut State<T, H>) -> Option<Applied<T, H>> {
         self.notices.read();
         let gone = match self.notices.take_waits() {
             Some(waits) => Some(state.withdraw_left(&self.log, self.alloc, waits)),
@@ -271,7 +273,7 @@ impl<T: Drop, H: History<T>> Shared<T, H> {
         self.notices.put_back(rest);
         match (gone, senders, receivers) {
             (None, None, None) => None,
-            (gone, senders, receivers) => Some(Taken {
+            (gone, senders, receivers) => Some(Applied {
                 gone,
                 senders,
                 receivers,
@@ -287,11 +289,11 @@ impl<T: Drop, H: History<T>> Shared<T, H> {
     }
 }
 
-impl<T: Drop, H: History<T>> Left<T, H> {
+impl<T: Drop, H: History<T>> Pending<T, H> {
     /// What the notices took out, if they did.
     #[inline]
-    pub(super) fn into_taken(self) -> Option<Taken<T, H>> {
-        let Left { taken } = self;
-        taken
+    pub(super) fn into_applied(self) -> Option<Applied<T, H>> {
+        let Pending { applied } = self;
+        applied
     }
 }

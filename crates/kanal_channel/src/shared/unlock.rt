@@ -4,15 +4,15 @@
 //! No other module tells a waiter what became of its wait, and whoever tells shows that the lock was released.
 ghost use Rattle.std.specs.Prelude.{◌≡◌};
 ghost use Rattle.kanal_events.specs.StepResult.{made_of, owed_by, reply_of, settled_of};
-ghost use Rattle.kanal_state.specs.Words.{HaveSettled, HaveShown};
+ghost use Rattle.kanal_state.specs.HistoryRelations.{HaveSettled, HaveShown};
 ghost use Rattle.kanal_channel.specs.Locks.{IsQuiet};
 
 use super::Shared;
-use super::locked::{Left, Locked, Taken};
+use super::locked::{Applied, Locked, Pending};
 use kanal_core::internal::Waiter;
 use kanal_events::event::Reply;
 use kanal_events::step_result::{Answered, StepResult};
-use kanal_state::{Deferred, Gone, History, Released, WaiterHandle};
+use kanal_state::{Deferred, DropResult, History, Released, WaiterHandle};
 
 /// How often a call looks for notices after it released the lock.
 const LOOKS: u32 = 64;
@@ -27,7 +27,7 @@ impl<T: Drop, H: History<T>> Shared<T, H> {
         made: Deferred<StepResult<T, WaiterHandle<T, H>>>,
     ) -> Reply<T>
         requires quiet { IsQuiet locked }
-        requires seen { HaveSettled H.words pass.old (settled_of made) }
+        requires seen { HaveSettled H.relations pass.old (settled_of made) }
         ensures reply { result ≡ reply_of made }
         ensures same { pass.new ≡ pass.old }
     {
@@ -41,24 +41,24 @@ impl<T: Drop, H: History<T>> Shared<T, H> {
     ///
     /// # Examples
     /// ```text
-    /// let (mut locked, left) = shared.try_lock()?;
+    /// let (mut locked, pending) = shared.try_lock()?;
     /// let made = locked.state.call(shared.log(), &mut pass, Event::TryRecv);
-    /// shared.unlock_tried(locked, left, &mut pass, made)   answers  the reply
+    /// shared.unlock_tried(locked, pending, &mut pass, made)   answers  the reply
     /// ```
     pub fn unlock_tried(
         &self,
         locked: Locked<'_, T, H>,
-        left: Left<T, H>,
+        pending: Pending<T, H>,
         pass: &mut H::Pass,
         made: Deferred<StepResult<T, WaiterHandle<T, H>>>,
     ) -> Reply<T>
         requires quiet { IsQuiet locked }
-        requires seen { HaveSettled H.words pass.old (settled_of made) }
+        requires seen { HaveSettled H.relations pass.old (settled_of made) }
         ensures reply { result ≡ reply_of made }
         ensures same { pass.new ≡ pass.old }
     {
         let released = locked.unlock();
-        self.tell_left(left, &released);
+        self.tell_pending(pending, &released);
         let reply = self.settle(pass, made.open(&released), &released);
         self.drain_notices();
         reply
@@ -81,7 +81,7 @@ impl<T: Drop, H: History<T>> Shared<T, H> {
         answered: Deferred<Answered<T, WaiterHandle<T, H>>>,
     ) -> Reply<T>
         requires quiet { IsQuiet locked }
-        requires seen { HaveSettled H.words pass.old (settled_of (made_of answered)) }
+        requires seen { HaveSettled H.relations pass.old (settled_of (made_of answered)) }
         ensures reply { result ≡ reply_of (made_of answered) }
         ensures same { pass.new ≡ pass.old }
     {
@@ -101,12 +101,12 @@ impl<T: Drop, H: History<T>> Shared<T, H> {
     pub(super) fn unlock_dropped(
         &self,
         locked: Locked<'_, T, H>,
-        left: Left<T, H>,
-        gone: Gone<T, H>,
+        pending: Pending<T, H>,
+        gone: DropResult<T, H>,
     ) {
         let released = locked.unlock_after_internal();
-        self.tell_left(left, &released);
-        self.tell_gone(gone, &released);
+        self.tell_pending(pending, &released);
+        self.tell_dropped(gone, &released);
         self.drain_notices();
     }
 
@@ -114,11 +114,11 @@ impl<T: Drop, H: History<T>> Shared<T, H> {
     pub(super) fn unlock_left(
         &self,
         locked: Locked<'_, T, H>,
-        left: Left<T, H>,
+        pending: Pending<T, H>,
         found: Option<Deferred<Waiter<T, WaiterHandle<T, H>>>>,
     ) {
         let released = locked.unlock_after_internal();
-        self.tell_left(left, &released);
+        self.tell_pending(pending, &released);
         if let Some(waiter) = found {
             drop(waiter.open(&released));
         }
@@ -139,7 +139,7 @@ impl<T: Drop, H: History<T>> Shared<T, H> {
         made: StepResult<T, WaiterHandle<T, H>>,
         released: &Released,
     ) -> Reply<T>
-        requires seen { HaveSettled H.words pass.old (settled_of made) }
+        requires seen { HaveSettled H.relations pass.old (settled_of made) }
         ensures reply { result ≡ reply_of made }
         ensures same { pass.new ≡ pass.old }
     {
@@ -169,35 +169,35 @@ impl<T: Drop, H: History<T>> Shared<T, H> {
     }
 
     /// Lets go of what left, and tells those whose waits ended.
-    /// Example: `shared.tell_left(left, &released)` after `locked.unlock()`.
+    /// Example: `shared.tell_pending(pending, &released)` after `locked.unlock()`.
     #[inline]
-    pub fn tell_left(&self, left: Left<T, H>, released: &Released) {
-        if let Some(taken) = left.into_taken() {
-            self.tell_taken(taken, released);
+    pub fn tell_pending(&self, pending: Pending<T, H>, released: &Released) {
+        if let Some(applied) = pending.into_applied() {
+            self.tell_applied(applied, released);
         }
     }
 
     /// The same, where the notices took something out.
     #[cold]
-    pub(super) fn tell_taken(&self, taken: Taken<T, H>, released: &Released) {
-        let Taken {
+    pub(super) fn tell_applied(&self, applied: Applied<T, H>, released: &Released) {
+        let Applied {
             gone,
             senders,
             receivers,
-        } = taken;
+        } = applied;
         if let Some(gone) = gone {
             drop(gone.open(released));
         }
         if let Some(senders) = senders {
-            self.tell_gone(senders, released);
+            self.tell_dropped(senders, released);
         }
         if let Some(receivers) = receivers {
-            self.tell_gone(receivers, released);
+            self.tell_dropped(receivers, released);
         }
     }
 
     /// Tells those whose waits the drop of a handle ended.
-    fn tell_gone(&self, gone: Gone<T, H>, released: &Released) {
+    fn tell_dropped(&self, gone: DropResult<T, H>, released: &Released) {
         let (made, prefix) = gone.into_parts(released);
         let _reply = self.hand_out(prefix, made, released);
     }
@@ -210,11 +210,11 @@ impl<T: Drop, H: History<T>> Shared<T, H> {
             if self.is_quiet() {
                 return;
             }
-            let Some((locked, left)) = self.try_lock() else {
+            let Some((locked, pending)) = self.try_lock() else {
                 return;
             };
             let released = locked.unlock();
-            self.tell_left(left, &released);
+            self.tell_pending(pending, &released);
         }
     }
 }

@@ -9,7 +9,7 @@ ghost use Rattle.kanal_events.specs.Given.{GivesNone};
 ghost use Rattle.kanal_events.specs.StepResult.{may_wait, reply_of, told_of};
 ghost use Rattle.kanal_journal.specs.Runs.{has_handle, has_side, handles_after};
 ghost use Rattle.kanal_journal.specs.Given.{AreGiven, AreFew};
-ghost use Rattle.kanal_journal.specs.StepResult.{IsMade, IsAnswered};
+ghost use Rattle.kanal_journal.specs.StepResult.{StepPost, ServedPost};
 ghost use Rattle.kanal_events.specs.declared.event.Side.TheVariants.{Tx, Rx};
 
 use super::handles::Handles;
@@ -130,7 +130,7 @@ fn make<T: Drop>(
     requires given { AreGiven tickets.old.items core.old }
     requires drains { vec_len drained.old + length (line_of core.old).line
         ≤ vec_capacity drained.old }
-    ensures made { IsMade (line_of core.old) event (line_of core.new) drained.old.items
+    ensures made { StepPost (line_of core.old) event (line_of core.new) drained.old.items
         drained.new.items result }
     ensures handles { handles.new ≡ handles_after handles.old event (reply_of result) }
     ensures given { AreGiven tickets.new.items core.new }
@@ -164,7 +164,7 @@ pub(crate) fn answer<T: Drop>(
     requires given { AreGiven tickets.old.items core.old }
     requires drains { vec_len drained.old + length (line_of core.old).line
         ≤ vec_capacity drained.old }
-    ensures answered { IsAnswered handles.old (line_of core.old) event (line_of core.new)
+    ensures answered { ServedPost handles.old (line_of core.old) event (line_of core.new)
         drained.old.items drained.new.items result }
     ensures handles { handles.new ≡ handles_after handles.old event (reply_of result) }
     ensures given { AreGiven tickets.new.items core.new }

@@ -7,7 +7,7 @@ ghost use Rattle.kanal_core.specs.Line.{last_word, messages};
 ghost use Rattle.kanal_journal.specs.Paired.{Paired, until, rest};
 ghost use Rattle.kanal_journal.specs.Replays.{Records, Replays, opened, outcome_of, history_of, events_of};
 ghost use Rattle.kanal_journal.specs.Runs.{Leads, opening};
-ghost use Rattle.kanal_journal.specs.Recorders.{IsSound};
+ghost use Rattle.kanal_journal.specs.Recorders.{RecorderIsSound};
 
 use super::recorder::{Entry, Journal, Recorder};
 use kanal_core::error::NewError;

@@ -6,7 +6,7 @@ ghost use Rattle.std.specs.Prelude.{◌≡◌, ◌↔◌, ◌+◌, ◌<◌, [], 
 ghost use Rattle.kanal_core.specs.Line.{last_word};
 ghost use Rattle.kanal_journal.specs.Replays.{Records, opened, outcome_of};
 ghost use Rattle.kanal_journal.specs.Running.{IsSame, HasRoom};
-ghost use Rattle.kanal_journal.specs.Recorders.{IsSound, recording_of};
+ghost use Rattle.kanal_journal.specs.Recorders.{RecorderIsSound, recording_of};
 
 use super::report::Settlement;
 use super::running::{Running, make_room};
@@ -66,7 +66,7 @@ impl<T: Copy> Recorder<T> {
     /// A new channel of this capacity, or without limit, on which no call was made.
     pub(crate) fn new(alloc: Global, capacity: Option<usize>) -> Result<Self, NewError>
         ensures opened { IfOk result (λ r. recording_of r ≡ opened capacity) }
-        ensures sound { IfOk result (λ r. IsSound r) }
+        ensures sound { IfOk result (λ r. RecorderIsSound r) }
         ensures large { IsErrOf result NewError.TooLarge ↔ (capacity ≡ Some last_word) }
     {
         let running = Running::new(alloc, capacity)?;
@@ -128,8 +128,8 @@ impl<T: Copy> Recorder<T> {
     /// Makes the event for the party, and puts its entry at the journal's end; or finds no memory
     /// and changes nothing.
     pub(crate) fn step(&mut self, party: u32, event: Event<T>) -> Reply<T>
-        requires { IsSound self.old }
-        ensures sound { IsSound self.new }
+        requires { RecorderIsSound self.old }
+        ensures sound { RecorderIsSound self.new }
         ensures records { Records (recording_of self.old) party event result
             (recording_of self.new) }
     {

@@ -5,7 +5,7 @@
 ghost use Rattle.std.specs.Prelude.{◌≡◌, ◌↔◌, ◌+◌, ◌≤◌, IfOk, IsErrOf, Some, vec_capacity};
 ghost use Rattle.kanal_core.specs.Channel.{opening};
 ghost use Rattle.kanal_core.specs.Line.{last_word};
-ghost use Rattle.kanal_journal.specs.Running.{IsNoted, IsOpened, IsWithinEvents, HasRoom, HasSameRoom, IsSame};
+ghost use Rattle.kanal_journal.specs.Running.{RunningStep, IsOpened, IsWithinEvents, HasRoom, HasSameRoom, IsSame};
 
 use super::calls::Core;
 use super::handles::Handles;
@@ -79,7 +79,7 @@ impl<T: Drop> Running<T> {
     pub(super) fn answer(&mut self, number: usize, event: Event<T>) -> Reply<T>
         requires within { IsWithinEvents number self.old }
         requires room { HasRoom (number + 1) self.old }
-        ensures noted { IsNoted number self.old event result self.new }
+        ensures noted { RunningStep number self.old event result self.new }
         ensures within { IsWithinEvents (number + 1) self.new }
         ensures room { HasSameRoom self.old self.new }
     {

@@ -39,7 +39,7 @@ pub(super) fn one_less<T: Drop>(side: Side) -> Event<T>
 impl<T: Drop, H: History<T>> State<T, H> {
     /// Counts one more of a side.
     fn count_in(&mut self, log: &H::Log, pass: &mut H::Pass, side: Side) -> Result<(), TooMany>
-        ensures counted { IsReplied H.words pass.old pass.new (one_more side) counted_by result }
+        ensures counted { IsReplied H.relations pass.old pass.new (one_more side) counted_by result }
         ensures rest { OnlyLineMoves self.old self.new }
     {
         let made = self.make(log, pass, one_more(side));
@@ -58,7 +58,7 @@ impl<T: Drop, H: History<T>> State<T, H> {
         log: &H::Log,
         pass: &mut H::Pass,
     ) -> Result<Counted<S>, TooMany>
-        ensures counted { IsReplied H.words pass.old pass.new (one_more S.side) counted_by
+        ensures counted { IsReplied H.relations pass.old pass.new (one_more S.side) counted_by
             (whether_counted result) }
         ensures rest { OnlyLineMoves self.old self.new }
     {

@@ -10,7 +10,7 @@ ghost use Rattle.kanal_events.specs.Steps.{Tells};
 ghost use Rattle.kanal_events.specs.StepResult.{settled_of, told_of, withdrawn};
 ghost use Rattle.kanal_state.specs.Calls.{IsDrop};
 ghost use Rattle.kanal_state.specs.Entries.{call_from};
-ghost use Rattle.kanal_state.specs.Words.{HaveShown};
+ghost use Rattle.kanal_state.specs.HistoryRelations.{HaveShown};
 ghost use Rattle.kanal_state.specs.Counts.{one_less, ticket_of};
 ghost use Rattle.kanal_state.specs.Renewing.{TakesNode};
 ghost use Rattle.kanal_state.specs.WaiterHandles.{HaveLeft};
@@ -22,7 +22,7 @@ use crate::History;
 use crate::counted::{Counted, CountedWait, GoneHandles, GoneWaits};
 use crate::released::{Deferred, Released};
 use crate::side::OfSide;
-use crate::waiter_handle::{Core, Leavers, ReservedNode, WaiterHandle};
+use crate::waiter_handle::{Core, LeftWaits, ReservedNode, WaiterHandle};
 use kanal_core::internal::{Ticket, Waiter};
 use kanal_events::event::Event;
 use kanal_events::step_result::StepResult;
@@ -37,15 +37,15 @@ const MOST: u64 = 1 << 62;
 
 /// What the drop of a last handle ended, with what was seen of it. It has to be told. Contracts see what the
 /// step told.
-pub struct Gone<T, H: History<T>> {
+pub struct DropResult<T, H: History<T>> {
     made: StepResult<T, WaiterHandle<T, H>>,
     prefix: H::Prefix,
 }
 
-impl<T, H: History<T>> Model for Gone<T, H> {
+impl<T, H: History<T>> Model for DropResult<T, H> {
     ghost use Rattle.kanal_events.specs.declared.step_result.StepResult.{StepResult};
     ghost use Rattle.kanal_events.specs.StepResult.{settled_of};
-    ghost use Rattle.kanal_state.specs.Words.{HaveShown};
+    ghost use Rattle.kanal_state.specs.HistoryRelations.{HaveShown};
     ghost use Rattle.kanal_state.specs.Renewing.{Brought};
 
     ghost Value = { StepResult T Brought };
@@ -55,14 +55,14 @@ impl<T, H: History<T>> Model for Gone<T, H> {
     ghost invariant = { λ g. HaveShown H.shows g.prefix (settled_of g.made) };
 }
 
-impl<T: Drop, H: History<T>> Gone<T, H> {
+impl<T: Drop, H: History<T>> DropResult<T, H> {
     /// What was made, and what was seen of it, once the lock was released.
     /// Example: `let (made, prefix) = gone.into_parts(&released)`.
     pub fn into_parts(self, _released: &Released) -> (StepResult<T, WaiterHandle<T, H>>, H::Prefix)
         ensures made { result.0 ≡ self }
         ensures seen { HaveShown H.shows result.1 (settled_of result.0) }
     {
-        let Gone { made, prefix } = self;
+        let DropResult { made, prefix } = self;
         (made, prefix)
     }
 }
@@ -86,7 +86,7 @@ impl<T: Drop, H: History<T>> State<T, H> {
         event: Event<T>,
     ) -> (StepResult<T, WaiterHandle<T, H>>, H::Prefix)
         requires drops { IsDrop event }
-        ensures made { H.cleans.makes self.old.0 self.new.0 (call_from event result.0) }
+        ensures made { H.internal_relations.appends self.old.0 self.new.0 (call_from event result.0) }
         ensures told { Tells self.old.1 event (told_of self.new.1 result.0) }
         ensures leave { Leave self.old.2 (gone_of result.0) self.new.2 }
         ensures seen { HaveShown H.shows result.1 (settled_of result.0) }
@@ -96,11 +96,11 @@ impl<T: Drop, H: History<T>> State<T, H> {
         let history = &mut self.history;
         history.append_silent::<Asked<T>, StepResult<T, WaiterHandle<T, H>>, OfCall>(
             log,
-            &mut self.cleanup,
+            &mut self.internal_pass,
             &asked,
             &made,
         );
-        let prefix = H::cleanup_prefix(log, &mut self.cleanup);
+        let prefix = H::internal_prefix(log, &mut self.internal_pass);
         (made, prefix)
     }
 
@@ -120,7 +120,7 @@ impl<T: Drop, H: History<T>> State<T, H> {
         let history = &mut self.history;
         history.append_silent::<Ticket, Waiter<T, WaiterHandle<T, H>>, OfWithdrawal>(
             log,
-            &mut self.cleanup,
+            &mut self.internal_pass,
             &ticket,
             &waiter,
         );
@@ -145,15 +145,15 @@ impl<T: Drop, H: History<T>> State<T, H> {
             counted.missing::<T, H>(&self.core);
             return None;
         };
-        let before = Snapshot::of(&self.cleanup);
+        let before = Snapshot::of(&self.internal_pass);
         let history = &mut self.history;
         history.append_silent::<Ticket, Waiter<T, WaiterHandle<T, H>>, OfWithdrawal>(
             log,
-            &mut self.cleanup,
+            &mut self.internal_pass,
             &ticket,
             &waiter,
         );
-        counted.taken_back::<T, WaiterHandle<T, H>, H>(&before, &self.cleanup, &waiter);
+        counted.taken_back::<T, WaiterHandle<T, H>, H>(&before, &self.internal_pass, &waiter);
         Some(Deferred { inside: waiter })
     }
 
@@ -167,28 +167,28 @@ impl<T: Drop, H: History<T>> State<T, H> {
         ensures leave { Leave self.old.2 (gone_of result.0) self.new.2 }
         ensures seen { HaveShown H.shows result.1 (settled_of result.0) }
     {
-        let before = Snapshot::of(&self.cleanup);
+        let before = Snapshot::of(&self.internal_pass);
         let (made, prefix) = self.by_nobody(log, one_less(S::side()));
-        counted.count_out::<T, WaiterHandle<T, H>, H>(&before, &self.cleanup, &made);
+        counted.count_out::<T, WaiterHandle<T, H>, H>(&before, &self.internal_pass, &made);
         (made, prefix)
     }
 
     /// Makes the drop of this handle; what that ended, with what was seen of it.
     /// Example: `let gone = locked.state.drop_handle(log, counted)`.
-    pub fn drop_handle<S: OfSide>(&mut self, log: &H::Log, counted: Counted<S>) -> Gone<T, H>
+    pub fn drop_handle<S: OfSide>(&mut self, log: &H::Log, counted: Counted<S>) -> DropResult<T, H>
         ensures told { Tells self.old.1 (one_less S.side) (told_of self.new.1 result) }
         ensures leave { Leave self.old.2 (gone_of result) self.new.2 }
     {
         let (made, prefix) = self.handle_out(log, counted);
-        Gone { made, prefix }
+        DropResult { made, prefix }
     }
 
     /// What makes the internal calls as it is now, for proofs alone.
-    /// Example: `let before = locked.state.cleanup()`.
-    pub fn cleanup(&self) -> Snapshot<H::Cleanup>
+    /// Example: `let before = locked.state.internal_pass()`.
+    pub fn internal_pass(&self) -> Snapshot<H::InternalPass>
         ensures { result.value ≡ self.now.0 }
     {
-        Snapshot::of(&self.cleanup)
+        Snapshot::of(&self.internal_pass)
     }
 
     /// Makes the drops of these handles until the last one's of their side; what that ended, with what was seen
@@ -198,7 +198,7 @@ impl<T: Drop, H: History<T>> State<T, H> {
         &mut self,
         log: &H::Log,
         gone: GoneHandles<S>,
-    ) -> (Option<Gone<T, H>>, GoneHandles<S>)
+    ) -> (Option<DropResult<T, H>>, GoneHandles<S>)
         ensures ended { IfSome result.0 (λ ended. Leave self.old.2 (gone_of ended) self.new.2) }
         ensures none { IfNone result.0 (self.new.2 ≡ self.old.2) }
     {
@@ -207,7 +207,7 @@ impl<T: Drop, H: History<T>> State<T, H> {
             let is_last = self.count_of(S::side()) == 1;
             let (made, prefix) = self.handle_out(log, counted);
             if is_last {
-                return (Some(Gone { made, prefix }), gone);
+                return (Some(DropResult { made, prefix }), gone);
             }
             drop(made);
         }
@@ -223,7 +223,7 @@ impl<T: Drop, H: History<T>> State<T, H> {
         log: &H::Log,
         alloc: Global,
         waits: GoneWaits,
-    ) -> Deferred<Leavers<T, H>>
+    ) -> Deferred<LeftWaits<T, H>>
         ensures left { HaveLeft self.old.2 result self.new.2 }
     {
         waits.seek();

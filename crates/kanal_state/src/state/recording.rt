@@ -6,7 +6,7 @@ ghost use Rattle.kanal_core.specs.Line.{Line};
 ghost use Rattle.kanal_events.specs.Steps.{Tells, is_no_memory};
 ghost use Rattle.kanal_events.specs.StepResult.{reply_of, told_of};
 ghost use Rattle.kanal_state.specs.Entries.{told_by};
-ghost use Rattle.kanal_state.specs.Makes.{IsKept, IsNoted};
+ghost use Rattle.kanal_state.specs.Makes.{AppendPost, StepAppendPost};
 
 use crate::{Call, History};
 use kanal_core::internal::{Ticket, Waiter};
@@ -110,9 +110,9 @@ pub(super) fn note<T: Drop, Y, M: EntryOf<Asked<T>, Y, Call<T>>, H: History<T>>(
     ensures stands { (old new : Line _) → H.stands history.old old
         → Tells old asked.now.value (told_by new (M.entry asked.now told.now))
         → H.stands history.new new }
-    ensures kept { IsKept H.words pass.old pass.new asked.now.value (M.entry asked.now told.now) }
+    ensures kept { AppendPost H.relations pass.old pass.new asked.now.value (M.entry asked.now told.now) }
     ensures ends { lacks_memory ≡ true → (l : Line _) → H.stands history.old l
-        → H.words.ends pass.new l }
+        → H.relations.reaches pass.new l }
 {
     if lacks_memory {
         history.show(log, pass);
@@ -134,9 +134,9 @@ pub(super) fn note_made<T: Drop, W: Drop, H: History<T>>(
         × Tells old asked.now.value (told_of new made.now) }
     ensures stands { (old new : Line _) → H.stands history.old old
         → Tells old asked.now.value (told_of new made.now) → H.stands history.new new }
-    ensures noted { IsNoted H.words pass.old pass.new asked.now.value made.now }
+    ensures noted { StepAppendPost H.relations pass.old pass.new asked.now.value made.now }
     ensures ends { is_no_memory (reply_of made.now) ≡ true
-        → (l : Line _) → H.stands history.old l → H.words.ends pass.new l }
+        → (l : Line _) → H.stands history.old l → H.relations.reaches pass.new l }
 {
     let lacks = made.lacks_memory();
     note::<T, StepResult<T, W>, OfCall, H>(history, log, pass, asked, made, lacks);

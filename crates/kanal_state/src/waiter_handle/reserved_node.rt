@@ -8,26 +8,26 @@ use std::marker::Model;
 
 /// Who left by notice: the end of its cell, and the message of its entry. Contracts see which cell that is.
 #[derive(Drop)]
-pub struct Leaver<T, H: History<T>> {
+pub struct LeftWait<T, H: History<T>> {
     pub(super) settler: Settler<T, H>,
     pub(super) message: Option<T>,
 }
 
-impl<T, H: History<T>> Model for Leaver<T, H> {
+impl<T, H: History<T>> Model for LeftWait<T, H> {
     ghost use Rattle.kanal_cell.specs.CellEnds.{settle_cell};
-    ghost use Rattle.kanal_state.specs.WaiterHandles.{Left};
+    ghost use Rattle.kanal_state.specs.WaiterHandles.{LeftEntry};
 
-    ghost Value = { Left T };
+    ghost Value = { LeftEntry T };
 
     ghost view = { λ l. record { cell = settle_cell l.settler.end; message = l.message } };
 }
 
 /// Those who left by notice, the last of them first, each in the reserved node that it brought.
-pub type Leavers<T, H> = LinkedList<Option<Leaver<T, H>>>;
+pub type LeftWaits<T, H> = LinkedList<Option<LeftWait<T, H>>>;
 
 /// A list of one place, so that those who left are strung together with no memory asked for.
 #[derive(Drop)]
 pub struct ReservedNode<T, H: History<T>> {
-    pub(super) place: Leavers<T, H>,
+    pub(super) place: LeftWaits<T, H>,
     ghost one_place: { length place ≡ 1 },
 }

@@ -7,4 +7,4 @@ use Rattle.kanal.proofs.messages.receive_until.Given as goal
 abbrev pub invariant-loop : goal.invariant-loop
 invariant-loop g l =
     (always_mut g.F.FnMut l.initial.call → always_mut g.F.FnMut l.call)
-    × ((messages : List _) × HandsEach g.H.History.words g.F.FnMut (Ok tt) l.fn.pass l.initial.call messages l.pass l.call)
+    × ((messages : List _) × HandsEach g.H.History.relations g.F.FnMut (Ok tt) l.fn.pass l.initial.call messages l.pass l.call)

@@ -38,7 +38,7 @@ pub fn new_handles<J: LogId>(
         None => ChannelInternal::unbounded(alloc),
     };
     let (log, mut history, pass) = GhostHistory::opened(opened);
-    let cleanup = history.cleanup(&log);
-    let (sender, receiver) = kanal::over(alloc, core, history, cleanup, log)?;
+    let internal_pass = history.internal_pass(&log);
+    let (sender, receiver) = kanal::over(alloc, core, history, internal_pass, log)?;
     Ok((sender, receiver, pass))
 }

@@ -1,6 +1,6 @@
 use Rattle.std.proofs.Common.{◌≡◌, ◌++◌, ap, ◌∙◌, subst}
 use mathlib.Core.List.{IsPrefix}
-use Rattle.kanal_log.specs.Views.{AreApart, Known, OwnsAllButQuiet}
+use Rattle.kanal_log.specs.Views.{AreDisjoint, Known, OwnsAllButQuiet}
 use Rattle.kanal_log.proofs.Readers.{prefix_trans}
 use Rattle.kanal_state.specs.declared.call.Call.{Call}
 use Rattle.kanal_state.specs.Calls.{IsSilent}
@@ -16,10 +16,10 @@ returns g c =
     let seen1 : IsPrefix c.args.one.log log = prefix_trans c.args.one.log c.learn.new.self.log log (subst (λ (k : Known (Call g.row.T.Denot)). IsPrefix k.log c.learn.new.self.log) one c.learn.ensures.this) c.learn-2.ensures.this in
     let seen2 : IsPrefix c.args.two.log log = prefix_trans c.args.two.log c.learn.new.self.log log (subst (λ (k : Known (Call g.row.T.Denot)). IsPrefix k.log c.learn.new.self.log) two c.learn.ensures.that) c.learn-2.ensures.this in
     let heard : IsPrefix c.args.receiver.log log = subst (λ (k : Known (Call g.row.T.Denot)). IsPrefix k.log log) other c.learn-2.ensures.that in
-    let apart12 : AreApart c.args.one.own c.args.two.own = c.owns_once.ensures.apart in
-    let apart13 : AreApart c.args.one.own c.args.receiver.own = subst (λ (k : Known (Call g.row.T.Denot)). AreApart k.own c.args.receiver.own) c.owns_once.ensures.same.0 c.owns_once-2.ensures.apart in
-    let apart23 : AreApart c.args.two.own c.args.receiver.own =
-    subst (λ (k : Known (Call g.row.T.Denot)). AreApart c.args.two.own k.own) c.owns_once-2.ensures.same.1 (subst (λ (k : Known (Call g.row.T.Denot)). AreApart k.own c.owns_once-2.new.other.own) c.owns_once.ensures.same.1 c.owns_once-3.ensures.apart) in
+    let apart12 : AreDisjoint c.args.one.own c.args.two.own = c.owns_once.ensures.apart in
+    let apart13 : AreDisjoint c.args.one.own c.args.receiver.own = subst (λ (k : Known (Call g.row.T.Denot)). AreDisjoint k.own c.args.receiver.own) c.owns_once.ensures.same.0 c.owns_once-2.ensures.apart in
+    let apart23 : AreDisjoint c.args.two.own c.args.receiver.own =
+    subst (λ (k : Known (Call g.row.T.Denot)). AreDisjoint c.args.two.own k.own) c.owns_once-2.ensures.same.1 (subst (λ (k : Known (Call g.row.T.Denot)). AreDisjoint k.own c.owns_once-2.new.other.own) c.owns_once.ensures.same.1 c.owns_once-3.ensures.apart) in
     let own : c.learn-2.new.self.own ≡ c.args.receiver.own ++ (c.args.two.own ++ c.args.one.own) =
     c.learn-2.ensures.own ∙ (ap (λ (k : Known (Call g.row.T.Denot)). k.own ++ c.learn.new.self.own) other
     ∙ ap (λ xs. c.args.receiver.own ++ xs) (c.learn.ensures.own ∙ (ap (λ (k : Known (Call g.row.T.Denot)). k.own ++ c.owns_once-2.new.self.own) two ∙ ap (λ (k : Known (Call g.row.T.Denot)). c.args.two.own ++ k.own) one))) in

@@ -1,11 +1,11 @@
 use Rattle.std.proofs.Common.{length, ◌-◌, ◌≤◌}
 use Rattle.std.specs.List.{AllWithin}
-use Rattle.kanal_recorded.specs.Merges.{IsAmong}
+use Rattle.kanal_recorded.specs.Merges.{NotesAmong}
 use Rattle.kanal_recorded.proofs.finish.are_among.Given as goal
 
 -- the lists of the passes before this one are of entries of their parties
 abbrev pub invariant-loop-first : goal.invariant-loop-first
-invariant-loop-first g l = (l.first ≤ length l.passes) × AllWithin (IsAmong l.entries) l.passes 0 l.first
+invariant-loop-first g l = (l.first ≤ length l.passes) × AllWithin (NotesAmong l.entries) l.passes 0 l.first
 
 -- the passes that were not compared
 abbrev pub decreases-loop-first : goal.decreases-loop-first

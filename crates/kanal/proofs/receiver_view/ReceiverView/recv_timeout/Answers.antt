@@ -5,7 +5,7 @@ use Rattle.kanal.proofs.receiver_view.ReceiverView.recv_timeout.Goals as goal
 
 pub returns : goal.returns
 returns g c = record {
-  received = by_caller (λ old new. ReceivesInTime g.H.History.words old new (g.C.Clock.answers c.args.clock.now)
+  received = by_caller (λ old new. ReceivesInTime g.H.History.relations old new (g.C.Clock.answers c.args.clock.now)
       (as_nanos c.args.duration) c.recv_timeout-answer.result)
-      c.begin-rt.ensures.before c.end.ensures.back c.begin-rt.ensures.owed c.recv_timeout-answer.ensures.received;
+      c.enter-rt.ensures.before c.exit.ensures.back c.enter-rt.ensures.owed c.recv_timeout-answer.ensures.received;
 }

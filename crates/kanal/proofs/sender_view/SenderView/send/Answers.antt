@@ -4,6 +4,6 @@ use Rattle.kanal.proofs.sender_view.SenderView.send.Goals as goal
 
 pub returns : goal.returns
 returns g c = record {
-  sent = by_caller (λ old new. Sends g.H.History.words old new c.args.message c.send-answer.result)
-      c.begin-rt.ensures.before c.end.ensures.back c.begin-rt.ensures.owed c.send-answer.ensures.sent;
+  sent = by_caller (λ old new. Sends g.H.History.relations old new c.args.message c.send-answer.result)
+      c.enter-rt.ensures.before c.exit.ensures.back c.enter-rt.ensures.owed c.send-answer.ensures.sent;
 }

@@ -6,6 +6,6 @@ use Rattle.kanal.proofs.sender_view.SenderView.send_option_timeout.Goals as goal
 
 pub returns-clause-sends : goal.returns-clause-sends
 returns-clause-sends g c =
-    by_caller (λ old new. IfSome c.args.option.now (λ m. SendsInTime g.H.History.words old new
+    by_caller (λ old new. IfSome c.args.option.now (λ m. SendsInTime g.H.History.relations old new
     (g.C.Clock.answers c.args.clock.now) (as_nanos c.args.duration) m c.send_option_timeout-answer.result))
-    c.begin-rt.ensures.before c.end.ensures.back c.begin-rt.ensures.owed c.send_option_timeout-answer.ensures.sends
+    c.enter-rt.ensures.before c.exit.ensures.back c.enter-rt.ensures.owed c.send_option_timeout-answer.ensures.sends

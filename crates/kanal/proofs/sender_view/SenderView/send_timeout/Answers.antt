@@ -5,7 +5,7 @@ use Rattle.kanal.proofs.sender_view.SenderView.send_timeout.Goals as goal
 
 pub returns : goal.returns
 returns g c = record {
-  sent = by_caller (λ old new. SendsInTime g.H.History.words old new (g.C.Clock.answers c.args.clock.now)
+  sent = by_caller (λ old new. SendsInTime g.H.History.relations old new (g.C.Clock.answers c.args.clock.now)
       (as_nanos c.args.duration) c.args.message c.send_timeout-answer.result)
-      c.begin-rt.ensures.before c.end.ensures.back c.begin-rt.ensures.owed c.send_timeout-answer.ensures.sent;
+      c.enter-rt.ensures.before c.exit.ensures.back c.enter-rt.ensures.owed c.send_timeout-answer.ensures.sent;
 }

@@ -6,11 +6,11 @@ use Rattle.kanal_state.proofs.Settling.{noted_answered, noted_settled}
 use Rattle.kanal_channel.proofs.shared.Shared.offer_now.Goals as goal
 
 pub unlock_tried-requires-clause-seen : goal.unlock_tried-requires-clause-seen
-unlock_tried-requires-clause-seen g c = noted_settled g.H.History.words g.met.H.History.sound c.args.pass.now c.call-made.new.pass (TrySend c.args.message) c.call-made.result c.call-made.ensures.noted
+unlock_tried-requires-clause-seen g c = noted_settled g.H.History.relations g.met.H.History.sound c.args.pass.now c.call-made.new.pass (TrySend c.args.message) c.call-made.result c.call-made.ensures.noted
 
 pub returns-clause-kept : goal.returns-clause-kept
 returns-clause-kept g c off =
-    let w = g.H.History.words in
+    let w = g.H.History.relations in
     let old = c.args.pass.now in
     let new = c.call-made.new.pass in
     let message = c.args.message in

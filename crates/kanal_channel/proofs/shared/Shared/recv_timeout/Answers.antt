@@ -10,7 +10,7 @@ use Rattle.kanal_channel.proofs.shared.Shared.recv_timeout.Goals as goal
 -- the deadline is so long after the moment that the clock answered at first
 pub returns : goal.returns
 returns g c =
-    let w = g.H.History.words in
+    let w = g.H.History.relations in
     let answered = g.C.Clock.answers c.args.clock.now in
     let old = c.args.pass.now in
     let new = c.recv_until.new.pass in

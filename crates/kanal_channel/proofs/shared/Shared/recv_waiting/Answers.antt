@@ -8,5 +8,5 @@ use Rattle.kanal_channel.proofs.shared.Shared.recv_waiting.Goals as goal
 pub returns-in-Replied : goal.returns-in-Replied
 returns-in-Replied g c =
     record {
-      received = finishes_replied g.H.History.words c.args.pass.now c.blocking.new.pass Recv received_by received_after (Err NoMemory) c.received_by.result c.in-Replied.reply c.in-Replied.ensures.come refl c.received_by.ensures;
+      received = finishes_replied g.H.History.relations c.args.pass.now c.blocking.new.pass Recv received_by received_after (Err NoMemory) c.received_by.result c.in-Replied.reply c.in-Replied.ensures.come refl c.received_by.ensures;
     }

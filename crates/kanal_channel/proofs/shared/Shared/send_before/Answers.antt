@@ -8,7 +8,7 @@ use Rattle.kanal_channel.proofs.shared.Shared.send_before.Goals as goal
 -- the deadline is so long after the moment that the clock answered at first
 pub returns-clause-sent : goal.returns-clause-sent
 returns-clause-sent g c =
-    let w = g.H.History.words in
+    let w = g.H.History.relations in
     let answered = g.C.Clock.answers c.args.clock.now in
     let old = c.args.pass.now in
     let new = c.send_until.new.pass in

@@ -1,12 +1,12 @@
 use Rattle.kanal_core.specs.Tickets.{number_of}
 use Rattle.kanal_state.specs.Counts.{ticket_of}
-use Rattle.kanal_cell.specs.Deadlines.{HasCome as IsLate}
+use Rattle.kanal_cell.specs.Deadlines.{DeadlineReached as IsLate}
 use Rattle.kanal_channel.proofs.Ending.{ended_passed}
 use Rattle.kanal_channel.proofs.shared.Shared.timed.Goals as goal
 
 pub returns-in-Err-outcome_until : goal.returns-in-Err-outcome_until
 returns-in-Err-outcome_until g c =
-    let w = g.H.History.words in
+    let w = g.H.History.relations in
     let answered = g.C.Clock.answers c.args.clock.now in
     let ticket = number_of (ticket_of c.in-Ok.counted) in
     let far = c.in-Err-outcome_until in

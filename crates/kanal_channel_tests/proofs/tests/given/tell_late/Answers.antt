@@ -1,5 +1,5 @@
 use Rattle.kanal_events.specs.StepResult.{made_of}
-use Rattle.kanal_state.specs.Words.{nothing_told, nothing_sound}
+use Rattle.kanal_state.specs.HistoryRelations.{nothing_told, nothing_sound}
 use Rattle.kanal_state.proofs.Settling.{noted_settled}
 use Rattle.kanal_channel_tests.proofs.tests.given.tell_late.Goals as goal
 

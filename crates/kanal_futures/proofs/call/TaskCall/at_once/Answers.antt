@@ -4,7 +4,7 @@ use Rattle.kanal_futures.proofs.call.TaskCall.at_once.Goals as goal
 
 pub new-requires : goal.new-requires
 new-requires g c =
-    let w = g.H.History.words in
+    let w = g.H.History.relations in
     let a = g.A.Asks in
     let pass = c.at_once.new.pass in
     let answer = c.in-Ok.answer in

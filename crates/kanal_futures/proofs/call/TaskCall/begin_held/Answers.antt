@@ -5,7 +5,7 @@ use Rattle.kanal_futures.proofs.call.TaskCall.begin_held.Goals as goal
 
 pub new-requires : goal.new-requires
 new-requires g c =
-    let w = g.H.History.words in
+    let w = g.H.History.relations in
     let a = g.A.Asks in
     let answer = c.by.result in
     let made = answered_replied w (a.event c.args.asked) a.read a.ended c.args.pass c.in-Ok.pass c.in-Ok.reply answer c.in-Ok.ensures.replied c.by.ensures in

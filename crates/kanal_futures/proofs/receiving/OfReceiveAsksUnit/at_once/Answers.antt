@@ -3,4 +3,4 @@ use Rattle.kanal_futures.proofs.receiving.OfReceiveAsksUnit.at_once.Goals as goa
 
 pub returns-in-Some-clause-made : goal.returns-in-Some-clause-made
 returns-in-Some-clause-made g c =
-    received_at_once g.H.History.words c.args.pass.now c.pop.new.pass c.in-Some.message c.in-Some.ensures.made c.in-Some.ensures.told
+    received_at_once g.H.History.relations c.args.pass.now c.pop.new.pass c.in-Some.message c.in-Some.ensures.made c.in-Some.ensures.told

@@ -14,4 +14,4 @@ returns-in-Ready-Some-clause-received g c =
     let before = stream_pass c.args.self.now in
     let began = call_begun c.args.self.now.receiving in
     let from : before ≡ Some got.0 = ap passes (subst (λ r. IfSome r (λ x. began ≡ Some (x.0, x.1))) polled.field-0-is polled.ensures.begun) in
-    received_on g.H.History.words got.0 got.2 before (stream_pass c.take.new.self) c.take.result from took.pass took.received
+    received_on g.H.History.relations got.0 got.2 before (stream_pass c.take.new.self) c.take.result from took.pass took.received

@@ -1,14 +1,14 @@
 use Rattle.std.proofs.Common.{ap, arith}
-use Rattle.kanal_log.specs.declared.rule.View.{View}
+use Rattle.kanal_log.specs.declared.rule.LogView.{LogView}
 use Rattle.atomic_table.specs.Table.{Me}
 use Rattle.kanal_log.proofs.Moves.{begins, founds}
 use Rattle.kanal_log.proofs.log.NewLog.new.Goals as goal
 
 pub of_words-requires : goal.of_words-requires
-of_words-requires g c = begins g.E.Entry.quiet
+of_words-requires g c = begins g.E.LogEntry.quiet
 
 pub split_seat-first-requires : goal.split_seat-first-requires
 split_seat-first-requires g c =
     let s = c.in_ok-table.seat in
     let e = c.in_ok-table.ensures in
-    (e.2, omega (arith, e.0), founds g.E.Entry.quiet s.id s.me.0 (ap (λ (m : Me (Unit {0}) (View g.row.E.Denot)). m.0.own) e.4))
+    (e.2, omega (arith, e.0), founds g.E.LogEntry.quiet s.id s.me.0 (ap (λ (m : Me (Unit {0}) (LogView g.row.E.Denot)). m.0.own) e.4))

@@ -7,8 +7,8 @@ invariant_of-self g c =
     let told = c.requires.told in
     legal-more g.J.LogId.capacity c.self.inside.writer c.args.self.now told.0 e c.self.view_is told.1 c.append_quiet_of.new.self c.self.invariant told.2 c.append_quiet_of.ensures.added
 
-pub invariant_of-cleanup : goal.invariant_of-cleanup
-invariant_of-cleanup g c =
+pub invariant_of-internal_pass : goal.invariant_of-internal_pass
+invariant_of-internal_pass g c =
     let e = g.M.EntryOf.entry c.args.about.now c.args.answer.now in
     let told = c.requires.told in
     shown-more g.J.LogId.capacity c.self.inside.writer c.args.self.now told.0 e c.self.view_is told.1 c.append_quiet_of.new.reader _ _ c.self.invariant told.2 c.append_quiet_of.ensures.shown

@@ -10,5 +10,5 @@ append_silent-requires g c =
 
 pub returns-clause-seen : goal.returns-clause-seen
 returns-clause-seen g c =
-    let w = g.H.History.cleans in
-    all_shown w g.H.History.shows c.append_silent.new.cleanup c.cleanup_prefix-prefix.result c.cleanup_prefix-prefix.ensures.settled _ (made_settled w g.met.H.History.cleans_sound c.self.inside.cleanup c.append_silent.new.cleanup _ c.append_silent.ensures.made)
+    let w = g.H.History.internal_relations in
+    all_shown w g.H.History.shows c.append_silent.new.internal_pass c.internal_prefix-prefix.result c.internal_prefix-prefix.ensures.settled _ (made_settled w g.met.H.History.internal_sound c.self.inside.internal_pass c.append_silent.new.internal_pass _ c.append_silent.ensures.made)

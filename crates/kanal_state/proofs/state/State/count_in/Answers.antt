@@ -11,10 +11,10 @@ into_parts-reply-requires g c =
 
 pub returns-clause-counted : goal.returns-clause-counted
 returns-clause-counted g c =
-    more_counted g.H.History.words c.args.pass.now c.make-made.new.pass c.args.side c.one_more.result c.make-made.result c.counted_by.result c.one_more.ensures c.make-made.ensures.noted
+    more_counted g.H.History.relations c.args.pass.now c.make-made.new.pass c.args.side c.one_more.result c.make-made.result c.counted_by.result c.one_more.ensures c.make-made.ensures.noted
     (c.counted_by.ensures ∙ ap counted_by c.into_parts-reply.ensures.reply)
 
 pub returns-clause-rest : goal.returns-clause-rest
 returns-clause-rest g c =
     let nobody = more_settles c.args.self.now.1 c.args.side c.one_more.result (told_of c.make-made.new.self.1 c.make-made.result) c.one_more.ensures c.make-made.ensures.step in
-    (nobody_leaves c.args.self.now.2 c.make-made.new.self.2 c.make-made.result nobody c.make-made.ensures.leave, c.make-made.ensures.cleanup)
+    (nobody_leaves c.args.self.now.2 c.make-made.new.self.2 c.make-made.result nobody c.make-made.ensures.leave, c.make-made.ensures.internal_pass)

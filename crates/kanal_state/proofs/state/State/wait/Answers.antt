@@ -7,7 +7,7 @@ use Rattle.kanal_state.proofs.state.State.wait.Goals as goal
 
 pub returns-clause-started : goal.returns-clause-started
 returns-clause-started g c =
-    let w = g.H.History.words in
+    let w = g.H.History.relations in
     let reply = c.wait-reply.result.0 in
     let clear = subst (λ kept. Keeps reply kept) c.in-Back.is c.wait-reply.ensures.kept in
     let asked = c.of-asked.result.value in

@@ -1,4 +1,4 @@
-use Rattle.kanal_state.specs.Words.{nothing_told, nothing_sound}
+use Rattle.kanal_state.specs.HistoryRelations.{nothing_told, nothing_sound}
 use Rattle.kanal_state.proofs.Settling.{noted_settled}
 use Rattle.kanal_channel_tests.proofs.tests.shared.served.serve_beside_a_notice.Goals as goal
 

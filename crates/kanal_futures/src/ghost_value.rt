@@ -7,34 +7,34 @@ ghost use Rattle.std.specs.Prelude.{◌≡◌};
 use std::marker::{Model, PhantomData};
 
 /// A value as it was. It has no bytes and owns nothing, so only a clause ties `value`.
-pub(crate) struct Earlier<T> {
+pub(crate) struct GhostValue<T> {
     marker: PhantomData<T>,
     pub(crate) ghost value: { T },
 }
 
-impl<T> Model for Earlier<T> {
+impl<T> Model for GhostValue<T> {
     ghost use base.Fml.{ftrue};
 
     ghost also_owns = { λ _. ftrue };
 }
 
-impl<T> Earlier<T> {
+impl<T> GhostValue<T> {
     /// The value as it is now.
-    pub(crate) fn of(x: &T) -> Earlier<T>
+    pub(crate) fn of(x: &T) -> GhostValue<T>
         ensures { result.value ≡ x.now }
     {
         let _ = x;
-        Earlier {
+        GhostValue {
             marker: PhantomData,
         }
     }
 }
 
-impl<T> Drop for Earlier<T> {
+impl<T> Drop for GhostValue<T> {
     fn drop(self) {
         let Self { marker: _ } = self;
     }
 }
 
 // It owns nothing and has no bytes, so it may go to any thread. That its type is `Send` is asked for the search.
-unsafe impl<T: Send> Send for Earlier<T> {}
+unsafe impl<T: Send> Send for GhostValue<T> {}

@@ -34,10 +34,10 @@ use denote.Triple.Entry.{on_entry, alive}
 use denote.Triple.Spec.{Meets, triple_of}
 use denote.Triple.Table.{entered}
 use denote.Triple.Walked.{says, Stays, stay_dropped, walk_of, ends_at, Goes-dropped, walk_Meets}
-use Rattle.kanal_futures.specs.contracts.earlier.Earlier.of.{ended, clauses}
-use Rattle.kanal_futures.specs.contracts.earlier.Earlier.of.Key.{name as #self}
-use Rattle.kanal_futures.proofs.earlier.Earlier.of.Statement as stated
-use Rattle.kanal_futures.proofs.earlier.Earlier.of.Code as code
+use Rattle.kanal_futures.specs.contracts.ghost_value.GhostValue.of.{ended, clauses}
+use Rattle.kanal_futures.specs.contracts.ghost_value.GhostValue.of.Key.{name as #self}
+use Rattle.kanal_futures.proofs.ghost_value.GhostValue.of.Statement as stated
+use Rattle.kanal_futures.proofs.ghost_value.GhostValue.of.Code as code
 
 module _ (Y : RattleType) where
   abbrev R : RattleType

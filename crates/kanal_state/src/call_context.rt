@@ -12,11 +12,11 @@ use std::sync::Wait;
 /// To contracts a caller is the pass of the channel's history, as it was before the call and as it is after
 /// it. The pass has no content where the channel has no history. A call by a pass of content is one of
 /// `channel`, which is lent the pass.
-pub trait Caller<P> {
+pub trait CallContext<P> {
     /// What the call waits by.
     type Runtime: Wait + Drop;
     /// What takes the pass back. It can't be let go otherwise.
-    type End;
+    type Exit;
 
     /// The pass before the call.
     ghost before: { Self → P };
@@ -25,22 +25,22 @@ pub trait Caller<P> {
     ghost after: { Self → P };
 
     /// The pass that is to come back.
-    ghost owed: { Self.End → P };
+    ghost owed: { Self.Exit → P };
 
     /// Begins a call: what it waits by, the pass, and what takes the pass back.
-    fn begin(self) -> (Self::Runtime, P, Self::End)
+    fn enter(self) -> (Self::Runtime, P, Self::Exit)
         ensures before { result.1 ≡ before self }
         ensures owed { owed result.2 ≡ after self };
 
     /// Ends the call, with its pass.
-    fn end(end: Self::End, pass: P)
+    fn exit(end: Self::Exit, pass: P)
         ensures back { pass ≡ owed end };
 }
 
-impl<'r, R: Wait> Caller<()> for &'r R {
+impl<'r, R: Wait> CallContext<()> for &'r R {
     type Runtime = &'r R;
 
-    type End = ();
+    type Exit = ();
 
     ghost before = { λ _. tt };
 
@@ -49,10 +49,10 @@ impl<'r, R: Wait> Caller<()> for &'r R {
     ghost owed = { λ _. tt };
 
     #[inline(always)]
-    fn begin(self) -> (&'r R, (), ()) {
+    fn enter(self) -> (&'r R, (), ()) {
         (self, (), ())
     }
 
     #[inline(always)]
-    fn end(_end: (), _pass: ()) {}
+    fn exit(_end: (), _pass: ()) {}
 }

@@ -3,8 +3,8 @@ use Rattle.std.proofs.Common.{◌≡◌, ℕ, ◌+◌, zero, suc, List, [], ◌�
 use Rattle.std.proofs.lemmas.Bool.{cases_Bool}
 use Rattle.kanal_core.specs.declared.internal.outcome.Ticket.{Ticket}
 use Rattle.kanal_core.specs.declared.internal.outcome.Waiter.{Waiter}
-use Rattle.kanal_core.specs.Channel.{Channel, after_drain, sealed}
-use Rattle.kanal_core.specs.Waiters.{receiver_first, same_ticket, sender_first, without}
+use Rattle.kanal_core.specs.Channel.{Channel, after_drain}
+use Rattle.kanal_core.specs.Waiters.{same_ticket, sender_first, without}
 use Rattle.kanal_core.specs.Calls.{WaitsLast}
 use Rattle.kanal_events.specs.declared.step_result.Kept.{Kept}
 use Rattle.kanal_events.specs.declared.step_result.Kept.TheVariants.{Ticket as Waiting, Back}
@@ -42,8 +42,9 @@ module _ {T W : Type 0} where
   pub none-drained : (old new : Channel T W) → new ≡ after_drain old → GivesNone old new
   none-drained old new e = rw e (record { next = refl; kept = λ ts k. kept-drained ts (sender_first old.waiters) old.waiters k })
 
-  pub none-sealed : (old new : Channel T W) → new ≡ sealed old → GivesNone old new
-  none-sealed old new e = rw e (record { next = refl; kept = λ ts k. kept-drained ts (receiver_first old.waiters) old.waiters k })
+  -- nor where all leave who wait, or nobody
+  pub none-left : (old new : Channel T W) (all : Bool) → new.next ≡ old.next → new.waiters ≡ cond all [] old.waiters → GivesNone old new
+  none-left old new all next stay = record { next = next; kept = λ ts k. subst (λ ws. AreKept ts ws) (sym stay) (kept-drained ts all old.waiters k) }
 
   kept-more : (ts : List Ticket) (t : Ticket) (ws : List (Waiter T W)) → AreKept ts ws → AreKept (ts ++ t ∷ []) ws
   kept-more ts t [] k = tt

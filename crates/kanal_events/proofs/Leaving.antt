@@ -1,12 +1,19 @@
 -- Who leaves the list of those that wait, by what the core says of each call.
-use Rattle.std.proofs.Common.{◌≡◌, ℕ, ◌-◌, Bool, true, false, ◌==◌, List, [], ◌∷◌, map, Option, None, Some, cond, refl, ap, sym, subst, ◌∙◌}
+use Rattle.std.proofs.Common.{◌≡◌, ◌≢◌, arith, Bool, true, false, ◌==◌, List, [], ◌∷◌, map, Option, None, Some, cond, refl, ap, sym, subst, ◌∙◌, inl}
 use Rattle.kanal_core.specs.declared.internal.outcome.Reason.{Reason}
 use Rattle.kanal_core.specs.declared.internal.outcome.Settled.{Settled}
 use Rattle.kanal_core.specs.declared.internal.outcome.Waiter.{Waiter}
-use Rattle.kanal_core.specs.Calls.{OldestLeft}
-use Rattle.kanal_core.specs.Channel.{Channel, after_drain, closed, ended_by, receiver_dropped, sealed, sender_dropped, taken_by}
+use Rattle.kanal_core.specs.Calls.{MovesTo, OldestLeft}
+use Rattle.kanal_core.specs.Channel.{Channel, after_drain, closed, ended_by, line_of, receiver_dropped, sealed, sender_dropped, settlement, taken_by}
+use Rattle.kanal_core.specs.Moves.{drop_receiver, drop_sender, seal}
 use Rattle.kanal_core.specs.Waiters.{receiver_first, sender_first}
-use Rattle.kanal_events.specs.Leaving.{Leave, at_most_one}
+use Rattle.kanal_events.specs.declared.event.Event.{Event}
+use Rattle.kanal_events.specs.declared.event.Event.TheVariants.{DropRx, DropTx, Seal}
+use Rattle.kanal_events.specs.declared.event.Reply.TheVariants.{Done}
+use Rattle.kanal_events.specs.declared.step_result.Leaving.TheVariants.{All}
+use Rattle.kanal_events.specs.Leaving.{IsStep, Leave, at_most_one}
+use Rattle.kanal_events.specs.Steps.{moving, step}
+use Rattle.kanal_events.proofs.Giving.{none-left}
 
 module _ {T W : Type 0} where
   -- at most the oldest leaves
@@ -33,20 +40,27 @@ module _ {T W : Type 0} where
   moved : (old : List (Waiter T W)) (gone is : List (Settled T W)) (new now : List (Waiter T W)) → is ≡ gone → now ≡ new → Leave old gone new → Leave old is now
   moved old gone is new now e f l = subst (λ ws. Leave old is ws) (sym f) (subst (λ ss. Leave old ss new) (sym e) l)
 
+  -- a step that moves the line so, and by which all leave who wait, or nobody
+  all-or-nobody : (all : Bool) (reason : Reason) (old after new : Channel T W) (event : Event T) (ended : List (Settled T W)) → after.next ≡ old.next → after.waiters ≡ cond all [] old.waiters
+      → step (line_of old) event ≡ moving (record { line = line_of new; settled = map settlement ended }) Done → new ≡ after → ended ≡ cond all (map (ended_by reason) old.waiters) [] → IsStep old event (record { leaving = All Done ended }) new
+  all-or-nobody all reason old after new event ended next stay told now is =
+      let stays = ap (λ (c : Channel T W). c.waiters) now ∙ stay in
+      record { told = inl (sym told); tickets = none-left old new all (ap (λ (c : Channel T W). c.next) now ∙ next) stays; leave = moved old.waiters _ ended _ new.waiters is stays (ended-if all reason old.waiters) }
+
   -- with the last sender all leave, and otherwise nobody
-  pub sender_leaves : (old new : Channel T W) (reason : Reason) (ended : List (Settled T W))
-      → new ≡ sender_dropped old → ended ≡ cond (old.senders == 1) (map (ended_by reason) old.waiters) [] → Leave old.waiters ended new.waiters
-  sender_leaves old new reason ended after is = moved old.waiters _ ended _ new.waiters is (ap (λ (c : Channel T W). c.waiters) after) (ended-if (old.senders == 1) reason old.waiters)
+  pub sender_leaves : (old new : Channel T W) (reason : Reason) (ended : List (Settled T W)) → MovesTo (drop_sender (line_of old)) (map settlement ended) (line_of new)
+      → new ≡ sender_dropped old → ended ≡ cond (old.senders == 1) (map (ended_by reason) old.waiters) [] → IsStep old DropTx (record { leaving = All Done ended }) new
+  sender_leaves old new reason ended moves = all-or-nobody (old.senders == 1) reason old (sender_dropped old) new DropTx ended refl refl (ap (λ m. moving m Done) moves)
 
   -- so with the last receiver
-  pub receiver_leaves : (old new : Channel T W) (reason : Reason) (ended : List (Settled T W))
-      → new ≡ receiver_dropped old → ended ≡ cond (old.receivers == 1) (map (ended_by reason) old.waiters) [] → Leave old.waiters ended new.waiters
-  receiver_leaves old new reason ended after is = moved old.waiters _ ended _ new.waiters is (ap (λ (c : Channel T W). c.waiters) after) (ended-if (old.receivers == 1) reason old.waiters)
+  pub receiver_leaves : (old new : Channel T W) (reason : Reason) (ended : List (Settled T W)) → MovesTo (drop_receiver (line_of old)) (map settlement ended) (line_of new)
+      → new ≡ receiver_dropped old → ended ≡ cond (old.receivers == 1) (map (ended_by reason) old.waiters) [] → IsStep old DropRx (record { leaving = All Done ended }) new
+  receiver_leaves old new reason ended moves = all-or-nobody (old.receivers == 1) reason old (receiver_dropped old) new DropRx ended refl refl (ap (λ m. moving m Done) moves)
 
   -- by a seal the receivers leave that wait
-  pub sealed_leaves : (old new : Channel T W) (reason : Reason) (ended : List (Settled T W))
-      → new ≡ sealed old → ended ≡ cond (receiver_first old.waiters) (map (ended_by reason) old.waiters) [] → Leave old.waiters ended new.waiters
-  sealed_leaves old new reason ended after is = moved old.waiters _ ended _ new.waiters is (ap (λ (c : Channel T W). c.waiters) after) (ended-if (receiver_first old.waiters) reason old.waiters)
+  pub sealed_leaves : (old new : Channel T W) (reason : Reason) (ended : List (Settled T W)) → old.senders ≢ 0 → MovesTo (seal (line_of old)) (map settlement ended) (line_of new)
+      → new ≡ sealed old → ended ≡ cond (receiver_first old.waiters) (map (ended_by reason) old.waiters) [] → IsStep old Seal (record { leaving = All Done ended }) new
+  sealed_leaves old new reason ended sender moves = all-or-nobody (receiver_first old.waiters) reason old (sealed old) new Seal ended refl refl (grind arith)
 
   -- by a close all leave
   pub closed_leaves : (old new : Channel T W) (reason : Reason) (ended : List (Settled T W))

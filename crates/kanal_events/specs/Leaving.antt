@@ -2,6 +2,7 @@
 use Rattle.std.specs.Prelude.{◌≡◌, List, [], ◌∷◌, ◌++◌, Option, None, Some, Result, Ok, Err}
 use Rattle.kanal_core.specs.declared.internal.outcome.Settled.{Settled}
 use Rattle.kanal_core.specs.declared.internal.outcome.Waiter.{Waiter}
+use Rattle.kanal_core.specs.Channel.{Channel, line_of}
 use Rattle.kanal_events.specs.declared.event.Event.{Event}
 use Rattle.kanal_events.specs.declared.step_result.Leaving.{Leaving}
 use Rattle.kanal_events.specs.declared.step_result.Leaving.TheVariants.{One, All, Shut, Drained}
@@ -9,8 +10,9 @@ use Rattle.kanal_events.specs.declared.step_result.Answered.{Answered}
 use Rattle.kanal_events.specs.declared.step_result.StepResult.{StepResult}
 use Rattle.kanal_events.specs.declared.step_result.Kept.{Kept}
 use Rattle.kanal_events.specs.declared.step_result.Kept.TheVariants.{Ticket as Waiting, Back}
-use Rattle.kanal_events.specs.StepResult.{made_of}
-use Rattle.kanal_events.specs.Steps.{message_of}
+use Rattle.kanal_events.specs.Given.{GivesNone}
+use Rattle.kanal_events.specs.StepResult.{made_of, told_of}
+use Rattle.kanal_events.specs.Steps.{Tells, message_of}
 
 module _ {T W : Type 0} where
   -- at most one who was settled, as a list
@@ -44,3 +46,9 @@ module _ {T W : Type 0} where
   abbrev pub WaitPost : List (Waiter T W) → Event T → W → Kept W → List (Waiter T W) → Type 0
   WaitPost old event w (Waiting ticket) new = new ≡ old ++ record { ticket = ticket; message = message_of event; w = w } ∷ []
   WaitPost old event w (Back back) new = (back ≡ w) × (new ≡ old)
+
+  -- the whole of a step that starts no wait: what the event told, that no ticket was given, and who left
+  pub record IsStep (old : Channel T W) (event : Event T) (made : StepResult T W) (new : Channel T W) : Type 0 where
+    pub told : Tells (line_of old) event (told_of (line_of new) made)
+    pub tickets : GivesNone old new
+    pub leave : Leave old.waiters (gone_of made) new.waiters

@@ -11,7 +11,7 @@ ghost use Rattle.kanal_core.specs.Waiters.{IsPlaced, waiter_of, without};
 ghost use Rattle.kanal_core.specs.Calls.{IsFull, IsEmpty};
 ghost use Rattle.kanal_events.specs.Steps.{Tells, answer as answer_of, is_no_memory, only};
 ghost use Rattle.kanal_events.specs.Given.{Gives, GivesNone};
-ghost use Rattle.kanal_events.specs.Leaving.{WaitPost, Leave, LeaveTried, gone_of};
+ghost use Rattle.kanal_events.specs.Leaving.{IsStep, WaitPost, Leave, LeaveTried, gone_of};
 ghost use Rattle.kanal_events.specs.StepResult.{Keeps, MustWait, Tries, drained_of, entered, got, is_drained, is_plain, may_wait, not_waiting, reply_of, told_of, withdrawn};
 
 use crate::event::{Ask, Event, Refusal, Reply, Side};
@@ -51,10 +51,7 @@ pub fn pop<T: Drop, W: Drop>(core: &mut ChannelInternal<T, W>) -> Option<T>
 /// Offers the message of a call that doesn't wait.
 #[tactic(auto, using(crate::proofs::Leaving::oldest_leaves))]
 fn try_send<T: Drop, W: Drop>(core: &mut ChannelInternal<T, W>, message: T) -> StepResult<T, W>
-    ensures told { Tells (line_of core.old) (Event.TrySend message)
-        (told_of (line_of core.new) result) }
-    ensures tickets { GivesNone core.old core.new }
-    ensures leave { Leave core.old.waiters (gone_of result) core.new.waiters }
+    ensures { IsStep core.old (Event.TrySend message) result core.new }
 {
     match core.offer(message) {
         Offer::Entered => StepResult::replied(Reply::Yes),
@@ -73,9 +70,7 @@ fn try_send<T: Drop, W: Drop>(core: &mut ChannelInternal<T, W>, message: T) -> S
 /// Asks for a message, for a call that doesn't wait.
 #[tactic(auto, using(crate::proofs::Leaving::oldest_leaves))]
 fn try_recv<T: Drop, W: Drop>(core: &mut ChannelInternal<T, W>) -> StepResult<T, W>
-    ensures told { Tells (line_of core.old) Event.TryRecv (told_of (line_of core.new) result) }
-    ensures tickets { GivesNone core.old core.new }
-    ensures leave { Leave core.old.waiters (gone_of result) core.new.waiters }
+    ensures { IsStep core.old Event.TryRecv result core.new }
 {
     match core.take() {
         Take::Got(message, settled) => StepResult::one(Reply::Got(message), settled),
@@ -88,9 +83,7 @@ fn try_recv<T: Drop, W: Drop>(core: &mut ChannelInternal<T, W>) -> StepResult<T,
 /// Asks for a message, for a call whose deadline has passed.
 #[tactic(auto, using(crate::proofs::Leaving::oldest_leaves))]
 fn recv_late<T: Drop, W: Drop>(core: &mut ChannelInternal<T, W>) -> StepResult<T, W>
-    ensures told { Tells (line_of core.old) Event.RecvLate (told_of (line_of core.new) result) }
-    ensures tickets { GivesNone core.old core.new }
-    ensures leave { Leave core.old.waiters (gone_of result) core.new.waiters }
+    ensures { IsStep core.old Event.RecvLate result core.new }
 {
     match core.take() {
         Take::Got(message, settled) => StepResult::one(Reply::Got(message), settled),
@@ -312,11 +305,8 @@ pub fn drain<T: Drop, W: Drop>(
 }
 
 /// Seals the channel.
-#[tactic(auto, using(crate::proofs::Leaving::sealed_leaves))]
 fn seal<T: Drop, W: Drop>(core: &mut ChannelInternal<T, W>) -> StepResult<T, W>
-    ensures told { Tells (line_of core.old) Event.Seal (told_of (line_of core.new) result) }
-    ensures tickets { GivesNone core.old core.new }
-    ensures leave { Leave core.old.waiters (gone_of result) core.new.waiters }
+    ensures { IsStep core.old Event.Seal result core.new }
 {
     match core.seal() {
         Ok(ended) => StepResult::all(Reply::Done, ended),
@@ -327,9 +317,7 @@ fn seal<T: Drop, W: Drop>(core: &mut ChannelInternal<T, W>) -> StepResult<T, W>
 /// Closes the channel.
 #[tactic(auto, using(crate::proofs::Leaving::closed_leaves))]
 fn close<T: Drop, W: Drop>(core: &mut ChannelInternal<T, W>) -> StepResult<T, W>
-    ensures told { Tells (line_of core.old) Event.Close (told_of (line_of core.new) result) }
-    ensures tickets { GivesNone core.old core.new }
-    ensures leave { Leave core.old.waiters (gone_of result) core.new.waiters }
+    ensures { IsStep core.old Event.Close result core.new }
 {
     match core.close() {
         Ok(closing) => StepResult::shut(closing),
@@ -339,9 +327,7 @@ fn close<T: Drop, W: Drop>(core: &mut ChannelInternal<T, W>) -> StepResult<T, W>
 
 /// Counts one more sender.
 fn add_sender<T: Drop, W: Drop>(core: &mut ChannelInternal<T, W>) -> StepResult<T, W>
-    ensures told { Tells (line_of core.old) Event.CloneTx (told_of (line_of core.new) result) }
-    ensures tickets { GivesNone core.old core.new }
-    ensures leave { Leave core.old.waiters (gone_of result) core.new.waiters }
+    ensures { IsStep core.old Event.CloneTx result core.new }
 {
     match core.add_sender() {
         Ok(()) => StepResult::replied(Reply::Done),
@@ -351,9 +337,7 @@ fn add_sender<T: Drop, W: Drop>(core: &mut ChannelInternal<T, W>) -> StepResult<
 
 /// Counts one more receiver.
 fn add_receiver<T: Drop, W: Drop>(core: &mut ChannelInternal<T, W>) -> StepResult<T, W>
-    ensures told { Tells (line_of core.old) Event.CloneRx (told_of (line_of core.new) result) }
-    ensures tickets { GivesNone core.old core.new }
-    ensures leave { Leave core.old.waiters (gone_of result) core.new.waiters }
+    ensures { IsStep core.old Event.CloneRx result core.new }
 {
     match core.add_receiver() {
         Ok(()) => StepResult::replied(Reply::Done),
@@ -364,9 +348,7 @@ fn add_receiver<T: Drop, W: Drop>(core: &mut ChannelInternal<T, W>) -> StepResul
 /// Counts one sender less.
 #[tactic(auto, using(crate::proofs::Leaving::sender_leaves))]
 fn drop_sender<T: Drop, W: Drop>(core: &mut ChannelInternal<T, W>) -> StepResult<T, W>
-    ensures told { Tells (line_of core.old) Event.DropTx (told_of (line_of core.new) result) }
-    ensures tickets { GivesNone core.old core.new }
-    ensures leave { Leave core.old.waiters (gone_of result) core.new.waiters }
+    ensures { IsStep core.old Event.DropTx result core.new }
 {
     StepResult::all(Reply::Done, core.drop_sender())
 }
@@ -374,9 +356,7 @@ fn drop_sender<T: Drop, W: Drop>(core: &mut ChannelInternal<T, W>) -> StepResult
 /// Counts one receiver less.
 #[tactic(auto, using(crate::proofs::Leaving::receiver_leaves))]
 fn drop_receiver<T: Drop, W: Drop>(core: &mut ChannelInternal<T, W>) -> StepResult<T, W>
-    ensures told { Tells (line_of core.old) Event.DropRx (told_of (line_of core.new) result) }
-    ensures tickets { GivesNone core.old core.new }
-    ensures leave { Leave core.old.waiters (gone_of result) core.new.waiters }
+    ensures { IsStep core.old Event.DropRx result core.new }
 {
     StepResult::all(Reply::Done, core.drop_receiver())
 }

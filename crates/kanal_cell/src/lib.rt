@@ -15,4 +15,4 @@ pub mod signal;
 
 pub use backoff::{Contention, LOCK_TRIES, WaitPolicy, Waiting};
 pub use clock::{Clock, SystemClock, TestClock, later};
-pub use pauses::{Pauses, pause, pause_once};
+pub use pauses::{Pauses, pause_once};

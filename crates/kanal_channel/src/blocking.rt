@@ -2,7 +2,7 @@
 //!
 //! A call takes the lock, makes one step on the state, and releases the lock. No other module starts a wait,
 //! for threads and for tasks. A wait that was started is owed: what became of it counts it out.
-ghost use Rattle.std.specs.Prelude.{◌≡◌, IfErr, IfOk, false, true};
+ghost use Rattle.std.specs.Prelude.{◌≡◌, IfErr, IfOk, IfSome, IsSome, false, true};
 ghost use Rattle.kanal_cell.specs.CellEnds.{wait_view};
 ghost use Rattle.kanal_cell.specs.CellRule.{MaySleep};
 ghost use Rattle.kanal_core.specs.Tickets.{number_of};
@@ -34,7 +34,7 @@ pub(crate) enum WaitOutcome<T> {
 }
 
 /// The wait of a call, with the end at which it is told. It is still to be counted out.
-pub(crate) type StartedWait<T, H> = (CountedWait, WaitEnd<WaitResult<T, H>>);
+pub type StartedWait<T, H> = (CountedWait, WaitEnd<WaitResult<T, H>>);
 
 impl<T: Drop, H: History<T>> Shared<T, H> {
     /// Makes a call that never waits for the other side, and counts no handle.
@@ -77,7 +77,7 @@ impl<T: Drop, H: History<T>> Shared<T, H> {
         requires quiet { IsQuiet locked }
         ensures come { BlockingPost H.relations never_late pass.old pass.new event result }
     {
-        match self.begin_held(locked, pass, event) {
+        match self.begin(locked, pass, event) {
             Ok((counted, end)) => {
                 let delivered = Waiting::new(end).outcome(rt, &self.policy);
                 WaitOutcome::Settled(self.learn(rt, pass, counted, delivered))
@@ -86,55 +86,41 @@ impl<T: Drop, H: History<T>> Shared<T, H> {
         }
     }
 
-    /// Begins the wait of a call under the lock that was got, and releases the lock. A channel with a buffer
-    /// looks once more after a pause before that, since the other side is often about to make a place, or to
-    /// bring a message.
+    /// Begins the wait of a call under the lock that was got, and releases the lock.
     ///
     /// # Errors
     /// The reply of a call that does not wait.
-    pub(crate) fn begin<R: Wait>(
+    #[inline(always)]
+    pub(crate) fn begin(
+        &self,
+        locked: Locked<'_, T, H>,
+        pass: &mut H::Pass,
+        event: Event<T>,
+    ) -> Result<StartedWait<T, H>, Reply<T>>
+        requires waits { may_wait event ≡ true }
+        requires quiet { IsQuiet locked }
+        ensures begun { IfOk result (λ begun. IsWaiting H.relations pass.old pass.new event begun.0) }
+        ensures fresh { IfOk result (λ begun. MaySleep (wait_view begun.1)) }
+        ensures replied { IfErr result (HasReplied H.relations pass.old pass.new event) }
+    {
+        let (locked, event) = self.start(locked, pass, event)?;
+        self.wait(locked, pass, event, ends(self.alloc))
+    }
+
+    /// Releases the lock, and takes it anew after a pause: the other side is often about to make a place, or to
+    /// bring a message.
+    #[inline]
+    pub(crate) fn pause_released<R: Wait>(
         &self,
         rt: &R,
         locked: Locked<'_, T, H>,
-        pass: &mut H::Pass,
-        event: Event<T>,
-    ) -> Result<StartedWait<T, H>, Reply<T>>
-        requires waits { may_wait event ≡ true }
+    ) -> Locked<'_, T, H>
         requires quiet { IsQuiet locked }
-        ensures begun { IfOk result (λ begun. IsWaiting H.relations pass.old pass.new event begun.0) }
-        ensures fresh { IfOk result (λ begun. MaySleep (wait_view begun.1)) }
-        ensures replied { IfErr result (HasReplied H.relations pass.old pass.new event) }
+        ensures quiet { IsQuiet result }
     {
-        if !self.has_buffer {
-            return self.begin_held(locked, pass, event);
-        }
-        let (locked, event) = self.start(locked, pass, event)?;
         locked.unlock_quiet();
         pause_once();
-        self.begin_held(self.lock(rt), pass, event)
-    }
-
-    /// The same, without a second look.
-    #[inline(always)]
-    fn begin_held(
-        &self,
-        locked: Locked<'_, T, H>,
-        pass: &mut H::Pass,
-        event: Event<T>,
-    ) -> Result<StartedWait<T, H>, Reply<T>>
-        requires waits { may_wait event ≡ true }
-        requires quiet { IsQuiet locked }
-        ensures begun { IfOk result (λ begun. IsWaiting H.relations pass.old pass.new event begun.0) }
-        ensures fresh { IfOk result (λ begun. MaySleep (wait_view begun.1)) }
-        ensures replied { IfErr result (HasReplied H.relations pass.old pass.new event) }
-    {
-        let (locked, event) = self.start(locked, pass, event)?;
-        let Some((end, waiter)) = ends(self.alloc) else {
-            locked.unlock_quiet();
-            return Err(event.refused(Refusal::NoMemory));
-        };
-        let counted = self.wait(locked, pass, event, waiter)?;
-        Ok((counted, end))
+        self.lock(rt)
     }
 
     /// Makes a call under the lock that was got. One that must wait comes back with the lock, and the pass has
@@ -147,8 +133,7 @@ impl<T: Drop, H: History<T>> Shared<T, H> {
     /// # Examples
     /// ```text
     /// let (locked, event) = shared.start(locked, &mut pass, Event::Recv)?;
-    /// let (end, waiter) = ends(alloc)?;
-    /// let counted = shared.wait(locked, &mut pass, event, waiter)?;
+    /// let (counted, end) = shared.wait(locked, &mut pass, event, ends(alloc))?;
     /// ```
     #[inline(always)]
     pub fn start<'a>(
@@ -178,30 +163,39 @@ impl<T: Drop, H: History<T>> Shared<T, H> {
         Err(reply.open(&released))
     }
 
-    /// Starts the wait of a call that the pass has seen must wait, with the waiter's handle, and releases the lock.
-    /// Example: `let counted = shared.wait(locked, &mut pass, event, waiter)?`.
+    /// Starts the wait of a call that the pass has seen must wait, with the ends of its cell, and releases the lock.
+    /// Example: `let (counted, end) = shared.wait(locked, &mut pass, event, ends(alloc))?`.
     ///
     /// # Errors
-    /// The reply of a call that was refused: nobody waits, and the waiter's handle is let go.
+    /// The reply of a call that was refused: there was no memory for a cell, or for the wait, or the tickets are
+    /// used up. Nobody waits, and the ends are let go.
     #[inline(always)]
     pub fn wait(
         &self,
         locked: Locked<'_, T, H>,
         pass: &mut H::Pass,
         event: Event<T>,
-        waiter: WaiterHandle<T, H>,
-    ) -> Result<CountedWait, Reply<T>>
+        cell: Option<(WaitEnd<WaitResult<T, H>>, WaiterHandle<T, H>)>,
+    ) -> Result<StartedWait<T, H>, Reply<T>>
         requires waits { may_wait event ≡ true }
         requires must { MustWait (line_under locked) event }
+        requires sees { SeesWait H.relations pass.old event }
         requires quiet { IsQuiet locked }
-        ensures waiting { IfOk result (IsWaiting H.relations pass.old pass.new event) }
+        requires fresh { IfSome cell (λ c. MaySleep (wait_view c.0)) }
+        ensures waiting { IfOk result (λ begun. IsWaiting H.relations pass.old pass.new event begun.0) }
+        ensures fresh { IfOk result (λ begun. MaySleep (wait_view begun.1)) }
+        ensures cell { IfOk result (λ _. IsSome cell) }
         ensures replied { IfErr result (HasReplied H.relations pass.old pass.new event) }
     {
         let mut locked = locked;
+        let Some((end, waiter)) = cell else {
+            locked.unlock_quiet();
+            return Err(event.refused(Refusal::NoMemory));
+        };
         let start = locked.state.wait(&self.log, pass, event, waiter);
         let released = locked.unlock_quiet();
         match start {
-            WaitStart::Waits(counted) => Ok(counted),
+            WaitStart::Waits(counted) => Ok((counted, end)),
             WaitStart::Refused(reply, waiter) => {
                 drop(waiter.open(&released));
                 Err(reply.open(&released))

@@ -15,9 +15,9 @@ mod sending;
 mod shared;
 mod timed;
 
-pub use kanal_cell::{Clock, SystemClock, TestClock, later};
+pub use blocking::StartedWait;
+pub use kanal_cell::{Clock, SystemClock, TestClock};
 pub use kanal_state::{
-    Core, Counted, CountedReceiver, CountedSender, CountedWait, FirstHandles, OfSide, ReceiveSide,
-    Released, SendSide, State, WaitResult, WaiterHandle,
+    Core, CountedReceiver, CountedSender, CountedWait, WaitResult, WaiterHandle,
 };
 pub use shared::{Locked, Pending, Shared};

@@ -14,7 +14,7 @@ ghost use Rattle.kanal_channel.specs.Locks.{IsQuiet};
 use crate::blocking::WaitOutcome;
 use crate::shared::{Locked, Shared};
 use crate::timed::received_in_time;
-use kanal_cell::{Clock, later, pause_once};
+use kanal_cell::{Clock, later};
 use kanal_core::error::{ReceiveError, ReceiveErrorTimeout};
 use kanal_events::event::{Event, Reply};
 use kanal_state::History;
@@ -87,9 +87,7 @@ impl<T: Drop, H: History<T>> Shared<T, H> {
         if !locked.state.is_empty() {
             return self.recv_waiting(rt, locked, pass);
         }
-        locked.unlock_quiet();
-        pause_once();
-        let mut locked = self.lock(rt);
+        let mut locked = self.pause_released(rt, locked);
         match locked.state.pop(&self.log, pass) {
             Some(message) => {
                 locked.unlock_quiet();
@@ -238,7 +236,12 @@ impl<T: Drop, H: History<T>> Shared<T, H> {
                 locked.unlock_quiet();
                 WaitOutcome::Replied(Reply::Got(message))
             },
-            None => self.timed(rt, locked, pass, Event::Recv, clock, deadline),
+            None => {
+                if self.has_buffer && locked.state.is_empty() {
+                    locked = self.pause_released(rt, locked);
+                }
+                self.timed(rt, locked, pass, Event::Recv, clock, deadline)
+            },
         }
     }
 

@@ -14,7 +14,7 @@ ghost use Rattle.kanal_channel.specs.Locks.{IsQuiet};
 use crate::blocking::WaitOutcome;
 use crate::shared::{Locked, Shared};
 use crate::timed::sent_in_time;
-use kanal_cell::{Clock, later, pause_once};
+use kanal_cell::{Clock, later};
 use kanal_core::error::{SendError, SendErrorTimeout};
 use kanal_events::event::{Event, Reply};
 use kanal_state::History;
@@ -24,7 +24,7 @@ use std::time;
 use std::time::Duration;
 
 /// Takes the option's message, which the caller knows to be there.
-fn applied<T: Drop>(option: &mut Option<T>) -> T
+fn taken<T: Drop>(option: &mut Option<T>) -> T
     requires { IsSome option.old }
     ensures was { option.old ≡ Some result }
     ensures emptied { option.new ≡ None }
@@ -101,9 +101,7 @@ impl<T: Drop, H: History<T>> Shared<T, H> {
         if !locked.state.is_full() {
             return self.send_waiting(rt, locked, pass, message);
         }
-        locked.unlock_quiet();
-        pause_once();
-        let mut locked = self.lock(rt);
+        let mut locked = self.pause_released(rt, locked);
         match locked.state.push(&self.log, pass, message) {
             Ok(()) => {
                 locked.unlock_quiet();
@@ -227,7 +225,7 @@ impl<T: Drop, H: History<T>> Shared<T, H> {
         ensures sent { result ≡ Ok true → option.new ≡ None }
         ensures kept { result ≢ Ok true → option.new ≡ option.old }
     {
-        let message = applied(option);
+        let message = taken(option);
         self.offer(rt, pass, message, option)
     }
 
@@ -293,7 +291,7 @@ impl<T: Drop, H: History<T>> Shared<T, H> {
         ensures sent { result ≡ Ok true → option.new ≡ None }
         ensures kept { result ≢ Ok true → option.new ≡ option.old }
     {
-        let message = applied(option);
+        let message = taken(option);
         self.offer_now(pass, message, option)
     }
 
@@ -356,7 +354,7 @@ impl<T: Drop, H: History<T>> Shared<T, H> {
         ensures sent { result ≡ Ok tt → option.new ≡ None }
         ensures kept { IfErr result (λ e. StartedNoWait e → option.new ≡ option.old) }
     {
-        let message = applied(option);
+        let message = taken(option);
         self.send_before(rt, pass, message, option, duration, clock)
     }
 
@@ -402,7 +400,12 @@ impl<T: Drop, H: History<T>> Shared<T, H> {
                 locked.unlock_quiet();
                 WaitOutcome::Replied(Reply::Sent)
             },
-            Err(message) => self.timed(rt, locked, pass, Event::Send(message), clock, deadline),
+            Err(message) => {
+                if self.has_buffer && locked.state.is_full() {
+                    locked = self.pause_released(rt, locked);
+                }
+                self.timed(rt, locked, pass, Event::Send(message), clock, deadline)
+            },
         }
     }
 }

@@ -70,7 +70,7 @@ impl<T: Drop, H: History<T>> Shared<T, H> {
         ensures passed { TimedPost H.relations (C.answers clock.now) deadline pass.old pass.new event
             result }
     {
-        let (counted, end) = match self.begin(rt, locked, pass, event) {
+        let (counted, end) = match self.begin(locked, pass, event) {
             Ok((counted, end)) => (counted, end),
             Err(reply) => return WaitOutcome::Replied(reply),
         };

@@ -4,7 +4,7 @@
 //! let it go.
 ghost use Rattle.std.specs.Prelude.{◌≡◌, IfErr, IfOk, Some, true};
 ghost use Rattle.futures.specs.Task.{Covers, Keeps};
-ghost use Rattle.kanal_cell.specs.CellRule.{HasNotLeft};
+ghost use Rattle.kanal_cell.specs.CellRule.{HasNotLeft, MaySleep};
 ghost use Rattle.kanal_cell.specs.CellEnds.{wait_view};
 ghost use Rattle.kanal_events.specs.StepResult.{may_wait};
 ghost use Rattle.kanal_state.specs.Makes.{HasReplied, HasWaited};
@@ -16,9 +16,9 @@ use crate::operation::{Asks, GhostStart};
 use crate::wakers::Wakers;
 use futures::task::{Context, Poll};
 use kanal_cell::signal::WaitEnd;
-use kanal_channel::{CountedWait, Locked, Shared, WaitResult};
+use kanal_channel::{CountedWait, Locked, Shared, StartedWait, WaitResult};
 use kanal_core::internal::{Outcome, Ticket};
-use kanal_events::event::{Event, Refusal, Reply};
+use kanal_events::event::{Event, Reply};
 use kanal_state::History;
 use std::marker::{Model, PhantomData};
 
@@ -219,21 +219,16 @@ impl Wakers {
         pass: &mut H::Pass,
         event: Event<T>,
         cx: &mut Context<'_>,
-    ) -> Result<(CountedWait, WaitEnd<WaitResult<T, H>>), Reply<T>>
+    ) -> Result<StartedWait<T, H>, Reply<T>>
         requires waits { may_wait event ≡ true }
         requires quiet { IsQuiet locked }
         ensures begun { IfOk result (λ begun. IsWaiting H.relations pass.old pass.new event begun.0) }
-        ensures unspent { IfOk result (λ begun. HasNotLeft (wait_view begun.1)) }
+        ensures fresh { IfOk result (λ begun. MaySleep (wait_view begun.1)) }
         ensures replied { IfErr result (HasReplied H.relations pass.old pass.new event) }
         ensures registered { IfOk result (λ _. Covers cx.new (λ s. s ≡ source_of self.now)) }
         ensures kept { Keeps cx.old cx.new }
     {
         let (locked, event) = shared.start(locked, pass, event)?;
-        let Some((end, waiter)) = self.cell(shared.alloc(), cx) else {
-            locked.unlock_quiet();
-            return Err(event.refused(Refusal::NoMemory));
-        };
-        let counted = shared.wait(locked, pass, event, waiter)?;
-        Ok((counted, end))
+        shared.wait(locked, pass, event, self.cell(shared.alloc(), cx))
     }
 }

@@ -3,7 +3,7 @@
 //! A waker wakes its task when it is dropped, so one that was displaced is kept.
 ghost use Rattle.std.specs.Prelude.{◌≡◌, IfSome};
 ghost use Rattle.futures.specs.Task.{Covers, Keeps};
-ghost use Rattle.kanal_cell.specs.CellRule.{HasNotLeft};
+ghost use Rattle.kanal_cell.specs.CellRule.{MaySleep};
 ghost use Rattle.kanal_cell.specs.CellEnds.{wait_view};
 
 use futures::task::{Context, Poll, Source, Waker};
@@ -44,7 +44,7 @@ impl Wakers {
         alloc: Global,
         cx: &mut Context<'_>,
     ) -> Option<(WaitEnd<WaitResult<T, H>>, WaiterHandle<T, H>)>
-        ensures unspent { IfSome result (λ cell. HasNotLeft (wait_view cell.0)) }
+        ensures fresh { IfSome result (λ cell. MaySleep (wait_view cell.0)) }
         ensures registered { IfSome result (λ _. Covers cx.new (λ s. s ≡ self.now.source.id)) }
         ensures kept { Keeps cx.old cx.new }
     {
@@ -82,9 +82,7 @@ impl Wakers {
             return false;
         };
         let waits = locked.state.renew(ticket, &mut self.spare);
-        let released = locked.unlock();
-        shared.tell_pending(pending, &released);
-        shared.drain_notices();
+        shared.unlock_pending(locked, pending);
         waits
     }
 }

@@ -2,7 +2,7 @@
 //! those who may not wait for the lock.
 //!
 //! A call lends the core to one step of `kanal_events` and has the call kept. A channel is generic in its history:
-//! `History` is what is kept of the calls, and contracts say in its words (`HistoryRelations`) what a pass tells. `NoHistory`
+//! `History` is what is kept of the calls, and contracts say by its `HistoryRelations` what a pass tells. `NoHistory`
 //! keeps nothing and has no bytes. A handle and a wait are counted by tokens, which are counted out by evidence of
 //! a call, or into the notices. Nothing here takes the lock, waits, or tells a waiter: `kanal_channel` does, with
 //! what leaves the core.
@@ -22,10 +22,7 @@ mod waiter_handle;
 
 pub use call::Call;
 pub use call_context::CallContext;
-pub use counted::{
-    Counted, CountedReceiver, CountedSender, CountedWait, FirstHandles, GoneHandles, GoneWaits,
-    Notices,
-};
+pub use counted::{Counted, CountedReceiver, CountedSender, CountedWait, FirstHandles, Notices};
 pub use history::History;
 pub use none::NoHistory;
 pub use released::{Deferred, Released};

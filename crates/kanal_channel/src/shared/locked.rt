@@ -8,9 +8,7 @@ ghost use Rattle.kanal_channel.specs.Locks.{IsQuiet, is_held, takes_nothing};
 
 use super::Shared;
 use kanal_cell::{Contention, LOCK_TRIES};
-use kanal_state::{
-    Deferred, DropResult, History, LeftWaits, ReceiveSide, Released, SendSide, State,
-};
+use kanal_state::{Deferred, DropResult, History, LeftWaits, ReceiveSide, SendSide, State};
 use std::snapshot::Snapshot;
 use std::sync::{MutexGuard, Wait};
 
@@ -18,7 +16,7 @@ use std::sync::{MutexGuard, Wait};
 ///
 /// While it is held no other call makes a step, and a drop leaves a notice.
 pub struct Locked<'a, T, H: History<T>> {
-    shared: &'a Shared<T, H>,
+    pub(super) shared: &'a Shared<T, H>,
     /// What the lock lends.
     pub state: MutexGuard<'a, State<T, H>>,
     internal_pass: Snapshot<H::InternalPass>,
@@ -52,7 +50,7 @@ impl<T: Drop, H: History<T>> Drop for Pending<T, H> {
 
 impl<T: Drop, H: History<T>> Pending<T, H> {
     /// Of a lock under which there was no notice.
-    /// Example: `shared.tell_pending(Pending::nothing(), &released)` tells nobody.
+    /// Example: `shared.unlock_pending(locked, Pending::nothing())` tells nobody.
     pub fn nothing() -> Self
         ensures nobody { takes_nothing result }
     {
@@ -68,41 +66,10 @@ impl<T: Drop, H: History<T>> Drop for Locked<'_, T, H> {
     }
 }
 
-impl<T: Drop, H: History<T>> Locked<'_, T, H> {
-    /// Releases the lock after a step that settled no wait, and looks for new notices. What left the core may be
-    /// opened then, by the answer.
-    /// Example: `let mut locked = shared.lock(&rt)`; then `locked.unlock_quiet()`.
+impl<'a, T: Drop, H: History<T>> Locked<'a, T, H> {
+    /// The guard: the lock is released by it, or tried anew.
     #[inline]
-    pub fn unlock_quiet(self) -> Released
-        requires quiet { IsQuiet self }
-    {
-        let shared = self.shared;
-        let released = self.unlock();
-        if !shared.is_quiet() {
-            shared.drain_notices();
-        }
-        released
-    }
-
-    /// Releases the lock after a call of a caller's pass: no internal call was made. What was settled may be
-    /// told then, by the answer.
-    ///
-    /// # Examples
-    /// ```text
-    /// let released = locked.unlock();
-    /// shared.tell_pending(pending, &released);
-    /// shared.drain_notices();
-    /// ```
-    #[inline]
-    pub fn unlock(self) -> Released
-        requires quiet { IsQuiet self }
-    {
-        self.unlock_after_internal()
-    }
-
-    /// Releases the lock after an internal call.
-    #[inline]
-    pub(super) fn unlock_after_internal(self) -> Released {
+    pub(super) fn into_guard(self) -> MutexGuard<'a, State<T, H>> {
         let Locked {
             shared: _,
             state,
@@ -110,26 +77,7 @@ impl<T: Drop, H: History<T>> Locked<'_, T, H> {
             held: _,
         } = self;
         drop(internal_pass);
-        Released::by(state)
-    }
-
-    /// Applies the notices under a lock that one try got. Where they take something out, the lock is released,
-    /// that is told, and the lock is tried once more; `None` where another has it then.
-    /// Example: `let locked = shared.try_lock_raw()?.apply_notices()?`.
-    #[cold]
-    pub fn apply_notices(self) -> Option<Self>
-        ensures quiet { IfSome result IsQuiet }
-    {
-        let shared = self.shared;
-        let mut locked = self;
-        match locked.take_pending().into_applied() {
-            None => Some(locked),
-            Some(applied) => {
-                let released = locked.unlock();
-                shared.tell_applied(applied, &released);
-                shared.try_lock_raw()
-            },
-        }
+        state
     }
 
     /// Applies the notices under a lock that one try got. What they take out goes back with the lock.
@@ -184,21 +132,6 @@ impl<T: Drop, H: History<T>> Shared<T, H> {
         unreachable!()
     }
 
-    /// Applies the notices. Where they take something out, the lock is released, and that is told.
-    #[cold]
-    fn apply_notices<'a>(
-        &'a self,
-        state: MutexGuard<'a, State<T, H>>,
-    ) -> Option<MutexGuard<'a, State<T, H>>> {
-        let mut state = state;
-        let Some(applied) = self.apply(&mut state) else {
-            return Some(state);
-        };
-        let released = Released::by(state);
-        self.tell_applied(applied, &released);
-        None
-    }
-
     /// Tries once to get the lock, and applies no notice; `None` where it is held.
     /// Example: `shared.try_lock_raw()` answers `None` while another has the lock.
     #[inline]
@@ -211,7 +144,7 @@ impl<T: Drop, H: History<T>> Shared<T, H> {
 
     /// The token of the lock that was got.
     #[inline]
-    fn locked<'a>(&'a self, state: MutexGuard<'a, State<T, H>>) -> Locked<'a, T, H>
+    pub(super) fn locked<'a>(&'a self, state: MutexGuard<'a, State<T, H>>) -> Locked<'a, T, H>
         ensures quiet { IsQuiet result }
     {
         let internal_pass = state.internal_pass();
@@ -228,8 +161,7 @@ impl<T: Drop, H: History<T>> Shared<T, H> {
     /// # Examples
     /// ```text
     /// let (mut locked, pending) = shared.try_lock()?;
-    /// let released = locked.unlock();
-    /// shared.tell_pending(pending, &released);
+    /// shared.unlock_pending(locked, pending);
     /// ```
     pub fn try_lock(&self) -> Option<(Locked<'_, T, H>, Pending<T, H>)>
         ensures quiet { IfSome result (λ held. IsQuiet held.0) }
@@ -259,7 +191,7 @@ impl<T: Drop, H: History<T>> Shared<T, H> {
     /// Applies all notices: first those of left waits, then the senders', then the receivers'. That
     /// there are some is forgotten before they are read: one that comes later is found later.
     #[cold]
-    fn apply(&self, state: &mut State<T, H>) -> Option<Applied<T, H>> {
+    pub(super) fn apply(&self, state: &mut State<T, H>) -> Option<Applied<T, H>> {
         self.notices.read();
         let gone = match self.notices.take_waits() {
             Some(waits) => Some(state.withdraw_left(&self.log, self.alloc, waits)),

@@ -2,7 +2,7 @@
 //! told, what left the core is dropped, and new notices are looked for.
 //!
 //! No other module tells a waiter what became of its wait, and whoever tells shows that the lock was released.
-ghost use Rattle.std.specs.Prelude.{◌≡◌};
+ghost use Rattle.std.specs.Prelude.{◌≡◌, IfSome};
 ghost use Rattle.kanal_events.specs.StepResult.{made_of, owed_by, reply_of, settled_of};
 ghost use Rattle.kanal_state.specs.HistoryRelations.{HaveSettled, HaveShown};
 ghost use Rattle.kanal_channel.specs.Locks.{IsQuiet};
@@ -12,12 +12,75 @@ use super::locked::{Applied, Locked, Pending};
 use kanal_core::internal::Waiter;
 use kanal_events::event::Reply;
 use kanal_events::step_result::{Answered, StepResult};
-use kanal_state::{Deferred, DropResult, History, Released, WaiterHandle};
+use kanal_state::{Deferred, DropResult, History, Released, State, WaiterHandle};
+use std::sync::MutexGuard;
 
 /// How often a call looks for notices after it released the lock.
 const LOOKS: u32 = 64;
 
+impl<T: Drop, H: History<T>> Locked<'_, T, H> {
+    /// Releases the lock after a step that settled no wait, and looks for new notices. What left the core may be
+    /// opened then, by the answer.
+    /// Example: `let mut locked = shared.lock(&rt)`; then `locked.unlock_quiet()`.
+    #[inline]
+    pub fn unlock_quiet(self) -> Released
+        requires quiet { IsQuiet self }
+    {
+        let shared = self.shared;
+        let released = self.unlock();
+        if !shared.is_quiet() {
+            shared.drain_notices();
+        }
+        released
+    }
+
+    /// Releases the lock after a call of a caller's pass: no internal call was made. What was settled may be
+    /// told then, by the answer.
+    /// Example: `let released = locked.unlock()`; then `made.open(&released)`.
+    #[inline]
+    pub fn unlock(self) -> Released
+        requires quiet { IsQuiet self }
+    {
+        self.unlock_after_internal()
+    }
+
+    /// Releases the lock after an internal call.
+    #[inline]
+    pub(super) fn unlock_after_internal(self) -> Released {
+        Released::by(self.into_guard())
+    }
+
+    /// Applies the notices under a lock that one try got. Where they take something out, the lock is released,
+    /// that is told, and the lock is tried once more; `None` where another has it then.
+    /// Example: `let locked = shared.try_lock_raw()?.apply_notices()?`.
+    #[cold]
+    pub fn apply_notices(self) -> Option<Self>
+        ensures quiet { IfSome result IsQuiet }
+    {
+        let shared = self.shared;
+        match shared.apply_notices(self.into_guard()) {
+            Some(state) => Some(shared.locked(state)),
+            None => shared.try_lock_raw(),
+        }
+    }
+}
+
 impl<T: Drop, H: History<T>> Shared<T, H> {
+    /// Applies the notices. Where they take something out, the lock is released, and that is told.
+    #[cold]
+    pub(super) fn apply_notices<'a>(
+        &'a self,
+        state: MutexGuard<'a, State<T, H>>,
+    ) -> Option<MutexGuard<'a, State<T, H>>> {
+        let mut state = state;
+        let Some(applied) = self.apply(&mut state) else {
+            return Some(state);
+        };
+        let released = Released::by(state);
+        self.tell_applied(applied, &released);
+        None
+    }
+
     /// Releases the lock after a step of the caller's, tells those whose waits it settled, drops what it
     /// cleared, and looks for new notices.
     pub(crate) fn unlock_and_wake(
@@ -32,9 +95,7 @@ impl<T: Drop, H: History<T>> Shared<T, H> {
         ensures same { pass.new ≡ pass.old }
     {
         let released = locked.unlock();
-        let reply = self.settle(pass, made.open(&released), &released);
-        self.drain_notices();
-        reply
+        self.settle(pass, made, &released)
     }
 
     /// The same, of a lock that one try got: what the notices took out is told first.
@@ -59,9 +120,7 @@ impl<T: Drop, H: History<T>> Shared<T, H> {
     {
         let released = locked.unlock();
         self.tell_pending(pending, &released);
-        let reply = self.settle(pass, made.open(&released), &released);
-        self.drain_notices();
-        reply
+        self.settle(pass, made, &released)
     }
 
     /// Releases the lock after a call that was answered at once, tells who is owed what it settled, and looks
@@ -96,6 +155,17 @@ impl<T: Drop, H: History<T>> Shared<T, H> {
         reply
     }
 
+    /// Releases a lock that one try got, after a step that settled no wait, tells what the notices took out, and looks
+    /// for new ones.
+    /// Example: `locked.state.renew(ticket, &mut waker)`; then `shared.unlock_pending(locked, pending)`.
+    pub fn unlock_pending(&self, locked: Locked<'_, T, H>, pending: Pending<T, H>)
+        requires quiet { IsQuiet locked }
+    {
+        let released = locked.unlock();
+        self.tell_pending(pending, &released);
+        self.drain_notices();
+    }
+
     /// Releases the lock after the drop of a handle as an internal call, and tells those whose waits that
     /// ended.
     pub(super) fn unlock_dropped(
@@ -125,18 +195,11 @@ impl<T: Drop, H: History<T>> Shared<T, H> {
         self.drain_notices();
     }
 
-    /// Tells those whose waits the call settled, and drops what it cleared.
-    ///
-    /// # Examples
-    /// ```text
-    /// let released = locked.unlock();
-    /// let reply = shared.settle(&mut pass, made.open(&released), &released);
-    /// shared.drain_notices();
-    /// ```
-    pub fn settle(
+    /// Tells those whose waits the call settled, drops what it cleared, and looks for new notices.
+    fn settle(
         &self,
         pass: &mut H::Pass,
-        made: StepResult<T, WaiterHandle<T, H>>,
+        made: Deferred<StepResult<T, WaiterHandle<T, H>>>,
         released: &Released,
     ) -> Reply<T>
         requires seen { HaveSettled H.relations pass.old (settled_of made) }
@@ -144,7 +207,9 @@ impl<T: Drop, H: History<T>> Shared<T, H> {
         ensures same { pass.new ≡ pass.old }
     {
         let prefix = H::prefix(&self.log, pass);
-        self.hand_out(prefix, made, released)
+        let reply = self.hand_out(prefix, made.open(released), released);
+        self.drain_notices();
+        reply
     }
 
     /// Tells those whose waits a call settled, with what was seen of it, and drops what it cleared.
@@ -169,9 +234,8 @@ impl<T: Drop, H: History<T>> Shared<T, H> {
     }
 
     /// Lets go of what left, and tells those whose waits ended.
-    /// Example: `shared.tell_pending(pending, &released)` after `locked.unlock()`.
     #[inline]
-    pub fn tell_pending(&self, pending: Pending<T, H>, released: &Released) {
+    fn tell_pending(&self, pending: Pending<T, H>, released: &Released) {
         if let Some(applied) = pending.into_applied() {
             self.tell_applied(applied, released);
         }

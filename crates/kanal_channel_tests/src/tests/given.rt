@@ -92,7 +92,10 @@ pub fn tell_late<R: Wait, T: Drop, F: FnOnce(), G: FnOnce()>(
             held();
             let released = locked.unlock();
             between();
-            let reply = shared.settle(&mut pass, answered.open(&released).into_made(), &released);
+            let (reply, owed) = answered.open(&released).into_parts();
+            if let Some(owed) = owed {
+                drop(owed.tell((), &released));
+            }
             shared.drain_notices();
             Some(reply)
         },

@@ -2,13 +2,11 @@
 //!
 //! The pauses of a round grow; a nap stands between two rounds. Whoever gets the lock meanwhile holds it for less
 //! than a microsecond, unless the system took the processor from it.
+use super::WaitPolicy;
 use crate::pauses::pause;
 use std::sync::Wait;
 use std::thread::Parker;
 use std::time::Duration;
-
-/// The first pause of a round, as a power of two of spins: each is twice as long as the one before.
-const FIRST_PAUSE: u32 = 6;
 
 /// How many tries a round has.
 const ROUND: u32 = 5;
@@ -19,11 +17,11 @@ const FIRST_NAP: u64 = 1_000;
 /// How long it naps each further time, in nanoseconds.
 const LATER_NAP: u64 = 20_000;
 
-/// A call that finds a lock held.
+/// A call that finds a lock held. Each pause of a round is twice as long as the one before.
 ///
 /// # Examples
 /// ```text
-/// let contention = Contention::new();
+/// let contention = Contention::new(&policy);
 /// for tries in 0..LOCK_TRIES {
 ///     contention.pause(&rt, tries);
 ///     ..
@@ -31,6 +29,7 @@ const LATER_NAP: u64 = 20_000;
 /// ```
 #[derive(Drop)]
 pub struct Contention {
+    first_pause: u32,
     napper: Parker,
 }
 
@@ -38,9 +37,10 @@ pub struct Contention {
 pub const LOCK_TRIES: u32 = 80;
 
 impl Contention {
-    /// Of a call that has found the lock held once.
-    pub fn new() -> Self {
+    /// Of a call that has found the lock of a channel with this policy held once.
+    pub fn new(policy: &WaitPolicy) -> Self {
         Contention {
+            first_pause: policy.first_pause(),
             napper: Parker::new(),
         }
     }
@@ -52,6 +52,6 @@ impl Contention {
             let nap = if tries == ROUND { FIRST_NAP } else { LATER_NAP };
             self.napper.park_timeout(rt, Duration::from_nanos(nap));
         }
-        pause(FIRST_PAUSE + turn);
+        pause(self.first_pause.saturating_add(turn));
     }
 }

@@ -1,4 +1,5 @@
-//! How a blocked call passes the time between its looks at its cell, and when it has looked enough.
+//! How a blocked call passes the time between its looks at its cell, when it has looked enough, and how long it first
+//! pauses at a held lock.
 //!
 //! A pause spins: it keeps the processor, and ends by itself. A yield hands the processor to any thread that is
 //! ready. A thread of the same channel gives it back within a microsecond; a thread that computes keeps it for
@@ -35,7 +36,13 @@ const LOW_COST: u64 = 2;
 /// How much credit a channel has at most.
 const MOST: u64 = 64;
 
-/// How the blocked calls of one channel wait before they sleep. All of them share it.
+/// The first pause of a call that finds the lock held, as a power of two of spins, where the buffer is short.
+const FIRST_PAUSE: u32 = 5;
+
+/// The same, where the buffer is long: whoever tries oftener takes the lock's line from who has the lock.
+const LONG_FIRST_PAUSE: u32 = 6;
+
+/// How the calls of one channel wait: for the lock, and for their outcome before they sleep. All of them share it.
 ///
 /// It is advice alone: whatever it says, a call looks at its cell before it sleeps.
 ///
@@ -46,6 +53,7 @@ const MOST: u64 = 64;
 /// ```
 #[derive(Drop)]
 pub struct WaitPolicy {
+    first_pause: u32,
     pauses: u32,
     cost: u64,
     credit: AtomicU64,
@@ -54,16 +62,22 @@ pub struct WaitPolicy {
 impl WaitPolicy {
     /// Of a channel whose buffer has so many places. It has no credit yet.
     pub fn new(places: usize) -> Self {
-        let (pauses, cost) = if places < LONG {
-            (PAUSES, COST)
+        let (first_pause, pauses, cost) = if places < LONG {
+            (FIRST_PAUSE, PAUSES, COST)
         } else {
-            (FEW_PAUSES, LOW_COST)
+            (LONG_FIRST_PAUSE, FEW_PAUSES, LOW_COST)
         };
         WaitPolicy {
+            first_pause,
             pauses,
             cost,
             credit: AtomicU64::new(0),
         }
+    }
+
+    /// The first pause of a call that finds the lock held, as a power of two of spins.
+    pub(super) fn first_pause(&self) -> u32 {
+        self.first_pause
     }
 
     /// Adds the credit of a wait that ended before it slept.

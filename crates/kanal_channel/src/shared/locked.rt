@@ -178,7 +178,7 @@ impl<T: Drop, H: History<T>> Shared<T, H> {
     /// Waits for a lock that was held: with pauses and naps between the tries, and then asleep.
     #[cold]
     fn lock_contended<R: Wait>(&self, rt: &R) -> MutexGuard<'_, State<T, H>> {
-        let contention = Contention::new();
+        let contention = Contention::new(&self.policy);
         for tries in 0..LOCK_TRIES {
             contention.pause(rt, tries);
             if let Some(state) = self.state.try_lock() {

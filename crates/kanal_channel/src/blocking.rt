@@ -10,7 +10,7 @@ ghost use Rattle.kanal_events.specs.StepResult.{MustWait, is_plain, may_wait};
 ghost use Rattle.kanal_state.specs.Counts.{counts_handle, ticket_of};
 ghost use Rattle.kanal_state.specs.Makes.{HasReplied, IsAnswered, SeesWait};
 ghost use Rattle.kanal_state.specs.Waits.{IsWaiting};
-ghost use Rattle.kanal_channel.specs.Locks.{IsQuiet, line_under};
+ghost use Rattle.kanal_channel.specs.Locks.{line_under};
 ghost use Rattle.kanal_channel.specs.Starts.{BlockingPost, never_late};
 
 use crate::shared::{Locked, Shared};
@@ -55,7 +55,6 @@ impl<T: Drop, H: History<T>> Shared<T, H> {
     ) -> Reply<T>
         requires plain { is_plain event ≡ true }
         requires uncounted { counts_handle event ≡ false }
-        requires quiet { IsQuiet locked }
         ensures answered { IsAnswered H.relations pass.old pass.new event result }
     {
         let mut locked = locked;
@@ -74,7 +73,6 @@ impl<T: Drop, H: History<T>> Shared<T, H> {
         event: Event<T>,
     ) -> WaitOutcome<T>
         requires waits { may_wait event ≡ true }
-        requires quiet { IsQuiet locked }
         ensures come { BlockingPost H.relations never_late pass.old pass.new event result }
     {
         match self.begin(locked, pass, event) {
@@ -98,7 +96,6 @@ impl<T: Drop, H: History<T>> Shared<T, H> {
         event: Event<T>,
     ) -> Result<StartedWait<T, H>, Reply<T>>
         requires waits { may_wait event ≡ true }
-        requires quiet { IsQuiet locked }
         ensures begun { IfOk result (λ begun. IsWaiting H.relations pass.old pass.new event begun.0) }
         ensures fresh { IfOk result (λ begun. MaySleep (wait_view begun.1)) }
         ensures replied { IfErr result (HasReplied H.relations pass.old pass.new event) }
@@ -109,15 +106,12 @@ impl<T: Drop, H: History<T>> Shared<T, H> {
 
     /// Releases the lock, and takes it anew after a pause: the other side is often about to make a place, or to
     /// bring a message.
-    #[inline]
+    #[inline(always)]
     pub(crate) fn pause_released<R: Wait>(
         &self,
         rt: &R,
         locked: Locked<'_, T, H>,
-    ) -> Locked<'_, T, H>
-        requires quiet { IsQuiet locked }
-        ensures quiet { IsQuiet result }
-    {
+    ) -> Locked<'_, T, H> {
         locked.unlock_quiet();
         pause_once();
         self.lock(rt)
@@ -143,11 +137,10 @@ impl<T: Drop, H: History<T>> Shared<T, H> {
         event: Event<T>,
     ) -> Result<(Locked<'a, T, H>, Event<T>), Reply<T>>
         requires waits { may_wait event ≡ true }
-        requires quiet { IsQuiet locked }
         ensures replied { IfErr result (HasReplied H.relations pass.old pass.new event) }
         ensures must { IfOk result (λ back. MustWait (line_under back.0) event) }
         ensures sees { IfOk result (λ _. SeesWait H.relations pass.new event) }
-        ensures back { IfOk result (λ back. IsQuiet back.0 × (back.1 ≡ event)) }
+        ensures back { IfOk result (λ back. back.1 ≡ event) }
         ensures extends { IfOk result (λ _. H.relations.extends pass.old pass.new) }
     {
         let mut locked = locked;
@@ -167,8 +160,8 @@ impl<T: Drop, H: History<T>> Shared<T, H> {
     /// Example: `let (counted, end) = shared.wait(locked, &mut pass, event, ends(alloc))?`.
     ///
     /// # Errors
-    /// The reply of a call that was refused: there was no memory for a cell, or for the wait, or the tickets are
-    /// used up. Nobody waits, and the ends are let go.
+    /// The reply of a call that was refused: there was no memory for a cell, or for the wait. Nobody waits, and
+    /// the ends are let go.
     #[inline(always)]
     pub fn wait(
         &self,
@@ -180,7 +173,6 @@ impl<T: Drop, H: History<T>> Shared<T, H> {
         requires waits { may_wait event ≡ true }
         requires must { MustWait (line_under locked) event }
         requires sees { SeesWait H.relations pass.old event }
-        requires quiet { IsQuiet locked }
         requires fresh { IfSome cell (λ c. MaySleep (wait_view c.0)) }
         ensures waiting { IfOk result (λ begun. IsWaiting H.relations pass.old pass.new event begun.0) }
         ensures fresh { IfOk result (λ begun. MaySleep (wait_view begun.1)) }

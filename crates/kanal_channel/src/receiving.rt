@@ -9,7 +9,6 @@ ghost use Rattle.std.specs.Vec.{vec_capacity, vec_len};
 ghost use Rattle.kanal_state.specs.Handles.{Drains, Receives, ReceivesInTime, TriesToReceive, TriesToReceiveNow};
 ghost use Rattle.kanal_state.specs.Makes.{HasTooLittleRoom};
 ghost use Rattle.kanal_channel.specs.Deadlines.{TimedPost};
-ghost use Rattle.kanal_channel.specs.Locks.{IsQuiet};
 
 use crate::blocking::WaitOutcome;
 use crate::shared::{Locked, Shared};
@@ -62,7 +61,6 @@ impl<T: Drop, H: History<T>> Shared<T, H> {
         locked: Locked<'_, T, H>,
         pass: &mut H::Pass,
     ) -> Result<T, ReceiveError>
-        requires quiet { IsQuiet locked }
         ensures received { Receives H.relations pass.old pass.new result }
     {
         if self.has_buffer {
@@ -81,7 +79,6 @@ impl<T: Drop, H: History<T>> Shared<T, H> {
         locked: Locked<'_, T, H>,
         pass: &mut H::Pass,
     ) -> Result<T, ReceiveError>
-        requires quiet { IsQuiet locked }
         ensures received { Receives H.relations pass.old pass.new result }
     {
         if !locked.state.is_empty() {
@@ -106,7 +103,6 @@ impl<T: Drop, H: History<T>> Shared<T, H> {
         locked: Locked<'_, T, H>,
         pass: &mut H::Pass,
     ) -> Result<T, ReceiveError>
-        requires quiet { IsQuiet locked }
         ensures received { Receives H.relations pass.old pass.new result }
     {
         match self.blocking(rt, locked, pass, Event::Recv) {
@@ -151,7 +147,6 @@ impl<T: Drop, H: History<T>> Shared<T, H> {
         locked: Locked<'_, T, H>,
         pass: &mut H::Pass,
     ) -> Result<Option<T>, ReceiveError>
-        requires quiet { IsQuiet locked }
         ensures received { TriesToReceive H.relations pass.old pass.new result }
     {
         asked_by(self.call_held(locked, pass, Event::TryRecv))

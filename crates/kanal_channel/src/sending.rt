@@ -9,7 +9,6 @@ ghost use Rattle.kanal_state.specs.Makes.{Comes};
 ghost use Rattle.kanal_state.specs.Refusals.{StartedNoWait};
 ghost use Rattle.kanal_state.specs.Results.{entered_by};
 ghost use Rattle.kanal_channel.specs.Deadlines.{TimedPost};
-ghost use Rattle.kanal_channel.specs.Locks.{IsQuiet};
 
 use crate::blocking::WaitOutcome;
 use crate::shared::{Locked, Shared};
@@ -75,7 +74,6 @@ impl<T: Drop, H: History<T>> Shared<T, H> {
         pass: &mut H::Pass,
         message: T,
     ) -> Result<(), SendError>
-        requires quiet { IsQuiet locked }
         ensures sent { Sends H.relations pass.old pass.new message result }
     {
         if self.has_buffer {
@@ -95,7 +93,6 @@ impl<T: Drop, H: History<T>> Shared<T, H> {
         pass: &mut H::Pass,
         message: T,
     ) -> Result<(), SendError>
-        requires quiet { IsQuiet locked }
         ensures sent { Sends H.relations pass.old pass.new message result }
     {
         if !locked.state.is_full() {
@@ -120,7 +117,6 @@ impl<T: Drop, H: History<T>> Shared<T, H> {
         pass: &mut H::Pass,
         message: T,
     ) -> Result<(), SendError>
-        requires quiet { IsQuiet locked }
         ensures sent { Sends H.relations pass.old pass.new message result }
     {
         match self.blocking(rt, locked, pass, Event::Send(message)) {
@@ -192,7 +188,6 @@ impl<T: Drop, H: History<T>> Shared<T, H> {
         back: &mut Option<T>,
     ) -> Result<bool, SendError>
         requires empty { back.old ≡ None }
-        requires quiet { IsQuiet locked }
         ensures sent { TriesToSend H.relations pass.old pass.new message result }
         ensures entered { result ≡ Ok true → back.new ≡ None }
         ensures kept { result ≢ Ok true → back.new ≡ Some message }

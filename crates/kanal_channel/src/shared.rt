@@ -130,9 +130,10 @@ impl<T: Drop, H: History<T>> Shared<T, H> {
     /// Example: `shared.drop_handle(counted)`: the last sender ends the receivers that wait.
     pub fn drop_handle<S: OfSide>(&self, counted: Counted<S>) {
         match self.try_lock() {
-            Some((mut locked, pending)) => {
-                let gone = locked.state.drop_handle(&self.log, counted);
-                self.unlock_dropped(locked, pending, gone);
+            Some((locked, pending)) => {
+                let mut state = locked.into_guard();
+                let gone = state.drop_handle(&self.log, counted);
+                self.unlock_dropped(state, pending, gone);
             },
             None => {
                 self.notices.add_handle(counted);
@@ -145,9 +146,10 @@ impl<T: Drop, H: History<T>> Shared<T, H> {
     /// Example: `shared.leave(counted)` withdraws the wait, or leaves a notice where the lock is held.
     pub fn leave(&self, counted: CountedWait) {
         match self.try_lock() {
-            Some((mut locked, pending)) => {
-                let found = locked.state.leave(&self.log, counted);
-                self.unlock_left(locked, pending, found);
+            Some((locked, pending)) => {
+                let mut state = locked.into_guard();
+                let found = state.leave(&self.log, counted);
+                self.unlock_left(state, pending, found);
             },
             None => {
                 self.notices.add_wait(counted);

@@ -8,7 +8,6 @@ ghost use Rattle.kanal_events.specs.StepResult.{may_wait};
 ghost use Rattle.kanal_state.specs.Counts.{ticket_of};
 ghost use Rattle.kanal_state.specs.Results.{receive_in_time, send_in_time};
 ghost use Rattle.kanal_channel.specs.Deadlines.{WithdrawPost, TimedPost, answer_in_time, back_in_time};
-ghost use Rattle.kanal_channel.specs.Locks.{IsQuiet};
 
 use crate::blocking::WaitOutcome;
 use crate::shared::{Locked, Shared};
@@ -66,7 +65,6 @@ impl<T: Drop, H: History<T>> Shared<T, H> {
         deadline: u64,
     ) -> WaitOutcome<T>
         requires waits { may_wait event ≡ true }
-        requires quiet { IsQuiet locked }
         ensures passed { TimedPost H.relations (C.answers clock.now) deadline pass.old pass.new event
             result }
     {

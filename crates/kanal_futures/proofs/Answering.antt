@@ -1,6 +1,6 @@
 -- The answers of a call in a task, for what it came to.
-use Rattle.std.proofs.Common.{◌≡◌, Option, Some, None, Ok, refl, inl, inr}
-use Rattle.std.specs.Option.{IfSome}
+use Rattle.std.proofs.Common.{◌≡◌, Option, Some, None, Result, Ok, Err, IfOk, refl, inl, inr}
+use Rattle.std.specs.Option.{IfSome, IsSome}
 use Rattle.kanal_core.specs.declared.internal.outcome.Outcome.{Outcome}
 use Rattle.kanal_events.specs.declared.event.Event.{Event}
 use Rattle.kanal_events.specs.declared.event.Reply.{Reply}
@@ -24,3 +24,9 @@ module _ {T P : Type 0} (w : HistoryRelations T P) (old new : P) where
   pub received_on : (before after : Option P) (taken : Option T) → before ≡ Some old → after ≡ Some new → IfSome taken (λ m. Receives w old new (Ok m)) → IfSome taken (λ m. HasReceived w before after (Ok m))
   received_on before after None from to received = tt
   received_on before after (Some m) from to received = record { old = old; new = new; from = from; to = to; receives = received }
+
+-- what holds of a cell that was made holds where a wait was started with it
+pub with_cell : {A E X : Type 0} (C : Type 0) (begun : Result A E) (cell : Option X) → IfOk begun (λ _. IsSome cell) → IfSome cell (λ _. C) → IfOk begun (λ _. C)
+with_cell C (Err e) cell some held = tt
+with_cell C (Ok b) (Some x) some held = held
+with_cell C (Ok b) None some held = absurd (cc)

@@ -1,6 +1,5 @@
 -- Where a call in a task is, what it began with, and what is left of a poll.
 use Rattle.std.specs.Prelude.{◌≡◌, ℕ, Bool, true, false, Option, Some, None}
-use Rattle.kanal_channel.specs.Locks.{IsQuiet}
 use Rattle.kanal_futures.specs.declared.operation.GhostStart.{GhostStart}
 use Rattle.kanal_futures.specs.declared.progress.Progress.{Progress}
 use Rattle.kanal_futures.specs.declared.progress.Progress.TheVariants.{Zero, Waiting, Done}
@@ -54,6 +53,6 @@ module _ {T H M A P B S C O : Type 0} where
 
   -- a call that was taken out is in the rest alone, and one that was not taken out was made
   abbrev pub RestMatches : Rest T H M P B S C → Progress T H M A P B S C O → Type 0
-  RestMatches (Held locked pass asked) state = (begun_by state ≡ None) × IsQuiet locked
+  RestMatches (Held locked pass asked) state = begun_by state ≡ None
   RestMatches (Refused pass asked) state = begun_by state ≡ None
   RestMatches Begun state = is_fresh state ≡ false

@@ -6,7 +6,6 @@ ghost use Rattle.std.specs.Prelude.{◌≡◌, ⊤, IfErr, IfNone, IfOk, IfSome,
 ghost use Rattle.std.specs.Option.{is_none};
 ghost use Rattle.futures.specs.Task.{Covers, Keeps};
 ghost use Rattle.futures.specs.Poll.{IfReady, OnPending};
-ghost use Rattle.kanal_channel.specs.Locks.{IsQuiet};
 ghost use Rattle.kanal_futures.specs.Tasks.{RestMatches, begun_with, is_fresh, passes};
 ghost use Rattle.kanal_futures.specs.Futures.{IsPoll, IsPolled, call_begun, call_kept, call_source, call_waits};
 
@@ -172,7 +171,6 @@ impl<'a, T: Drop, H: History<T>, M: Drop, A: Asks<T, M>> TaskCall<'a, T, H, M, A
         cx: &mut Context<'_>,
     ) -> Poll<TaskAnswer<T, H, M, A>>
         requires over { call_begun self.old ≡ None }
-        requires quiet { IsQuiet locked }
         ensures polled { IsPolled (pass, asked) cx.old cx.new self.old self.new result }
     {
         if self.shared.is_quiet() {
@@ -209,7 +207,6 @@ impl<'a, T: Drop, H: History<T>, M: Drop, A: Asks<T, M>> TaskCall<'a, T, H, M, A
         cx: &mut Context<'_>,
     ) -> Poll<TaskAnswer<T, H, M, A>>
         requires over { call_begun self.old ≡ None }
-        requires quiet { IsQuiet locked }
         ensures polled { IsPolled (pass, asked) cx.old cx.new self.old self.new result }
     {
         let begun = self.wakers.begin(self.shared, locked, pass, asked, cx);

@@ -6,7 +6,6 @@ ghost use Rattle.kanal_core.specs.declared.internal.outcome.Outcome.{Outcome};
 ghost use Rattle.kanal_events.specs.declared.event.Event.{Event};
 ghost use Rattle.kanal_events.specs.declared.event.Reply.{Reply};
 ghost use Rattle.kanal_events.specs.StepResult.{may_wait};
-ghost use Rattle.kanal_channel.specs.Locks.{IsQuiet};
 ghost use Rattle.kanal_futures.specs.Answers.{Answers};
 
 use crate::ghost_value::GhostValue;
@@ -49,8 +48,7 @@ pub trait Asks<T, M> {
         T: Drop,
         ensures made { IfOk result (λ answer.
             Answers H.relations (event asked) read ended pass.old pass.new answer) }
-        ensures refused { IfErr result (λ back. (back ≡ asked) × (pass.new ≡ pass.old)) }
-        ensures quiet { IsQuiet locked.old → IsQuiet locked.new };
+        ensures refused { IfErr result (λ back. (back ≡ asked) × (pass.new ≡ pass.old)) };
 
     /// The answer of this reply.
     fn by(reply: Reply<T>) -> Self::Answer

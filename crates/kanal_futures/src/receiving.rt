@@ -2,7 +2,6 @@
 //!
 //! What a receive alone does stands here: how a message leaves by itself, and how it is answered.
 ghost use Rattle.std.specs.Prelude.{◌≡◌, ◌∷◌, [], IfErr, IfOk, Err, Some, codes, false, true};
-ghost use Rattle.kanal_channel.specs.Locks.{IsQuiet};
 ghost use Rattle.kanal_core.specs.declared.error.ReceiveError.{ReceiveError};
 ghost use Rattle.kanal_events.specs.declared.event.Event.TheVariants.{Recv};
 ghost use Rattle.kanal_events.specs.StepResult.{may_wait};
@@ -58,12 +57,11 @@ impl<T> Asks<T, ()> for OfReceive {
         ensures made { IfOk result (λ answer.
             Answers H.relations Recv received_by received_after pass.old pass.new answer) }
         ensures refused { IfErr result (λ back. (back ≡ _asked) × (pass.new ≡ pass.old)) }
-        ensures quiet { IsQuiet locked.old → IsQuiet locked.new }
     {
-        match locked.state.pop(log, pass) {
-            Some(message) => Ok(Ok(message)),
-            None => Err(()),
-        }
+        let Some(message) = locked.state.pop(log, pass) else {
+            return Err(());
+        };
+        Ok(Ok(message))
     }
 
     #[inline]

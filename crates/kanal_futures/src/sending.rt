@@ -2,7 +2,6 @@
 //!
 //! What a send alone does stands here: how its message enters by itself, and how it is answered.
 ghost use Rattle.std.specs.Prelude.{◌≡◌, ◌∷◌, [], IfErr, IfOk, Err, Some, codes, true};
-ghost use Rattle.kanal_channel.specs.Locks.{IsQuiet};
 ghost use Rattle.kanal_core.specs.declared.error.SendError.{SendError};
 ghost use Rattle.kanal_events.specs.declared.event.Event.TheVariants.{Send};
 ghost use Rattle.kanal_events.specs.StepResult.{may_wait};
@@ -58,7 +57,6 @@ impl<T> Asks<T, T> for OfSend {
         ensures made { IfOk result (λ answer.
             Answers H.relations (Send asked) sent_by sent_after pass.old pass.new answer) }
         ensures refused { IfErr result (λ back. (back ≡ asked) × (pass.new ≡ pass.old)) }
-        ensures quiet { IsQuiet locked.old → IsQuiet locked.new }
     {
         locked.state.push(log, pass, asked)?;
         Ok(Ok(()))

@@ -9,7 +9,6 @@ ghost use Rattle.kanal_cell.specs.CellEnds.{wait_view};
 ghost use Rattle.kanal_events.specs.StepResult.{may_wait};
 ghost use Rattle.kanal_state.specs.Makes.{HasReplied, HasWaited};
 ghost use Rattle.kanal_state.specs.Waits.{IsWaiting};
-ghost use Rattle.kanal_channel.specs.Locks.{IsQuiet};
 ghost use Rattle.kanal_futures.specs.Tasks.{opened, source_of};
 
 use crate::operation::{Asks, GhostStart};
@@ -192,7 +191,6 @@ impl Wakers {
         asked: M,
         cx: &mut Context<'_>,
     ) -> Result<Replied<T, H, M>, Started<T, H, M, A>>
-        requires quiet { IsQuiet locked }
         ensures begun { IfOk result (λ r. opened r.0 ≡ (pass, asked)) }
         ensures replied { IfOk result (λ r. HasReplied H.relations pass r.1 (A.event asked) r.2) }
         ensures waits { IfErr result (λ s. s ≡ (pass, asked)) }
@@ -221,7 +219,6 @@ impl Wakers {
         cx: &mut Context<'_>,
     ) -> Result<StartedWait<T, H>, Reply<T>>
         requires waits { may_wait event ≡ true }
-        requires quiet { IsQuiet locked }
         ensures begun { IfOk result (λ begun. IsWaiting H.relations pass.old pass.new event begun.0) }
         ensures fresh { IfOk result (λ begun. MaySleep (wait_view begun.1)) }
         ensures replied { IfErr result (HasReplied H.relations pass.old pass.new event) }

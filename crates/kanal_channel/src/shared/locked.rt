@@ -3,24 +3,37 @@
 //! Whoever gets the lock has all notices applied before its own step. A call that may wait for the lock then
 //! releases it where they took something out, tells that, and waits for the lock anew; one that may not makes its
 //! step at once. No other module takes the lock or the notices.
-ghost use Rattle.std.specs.Prelude.{◌≡◌, false, IfSome};
-ghost use Rattle.kanal_channel.specs.Locks.{IsQuiet, is_held, takes_nothing};
+ghost use Rattle.std.specs.Prelude.{◌≡◌, false};
+ghost use Rattle.kanal_channel.specs.Locks.{is_held, takes_nothing};
 
 use super::Shared;
 use kanal_cell::{Contention, LOCK_TRIES};
 use kanal_state::{Deferred, DropResult, History, LeftWaits, ReceiveSide, SendSide, State};
+use std::marker::Model;
 use std::snapshot::Snapshot;
 use std::sync::{MutexGuard, Wait};
 
 /// The lock of a channel, which has to be released: the prover refuses a call that lets it go.
 ///
-/// While it is held no other call makes a step, and a drop leaves a notice.
+/// While it is held no other call makes a step, and a drop leaves a notice. A step that it lends its state to
+/// makes no internal call: that is its invariant. Contracts see the line, and that it has to be released.
 pub struct Locked<'a, T, H: History<T>> {
     pub(super) shared: &'a Shared<T, H>,
     /// What the lock lends.
     pub state: MutexGuard<'a, State<T, H>>,
     internal_pass: Snapshot<H::InternalPass>,
     held: bool,
+}
+
+impl<'a, T, H: History<T>> Model for Locked<'a, T, H> {
+    ghost use Rattle.std.specs.Prelude.{◌≡◌, Bool};
+    ghost use Rattle.kanal_core.specs.Line.{Line};
+
+    ghost Value = { Line T × Bool };
+
+    ghost view = { λ l. (l.state.value.1, l.held) };
+
+    ghost invariant = { λ l. l.state.value.0 ≡ l.internal_pass.value };
 }
 
 /// What applying the notices took out of the core. It has to be told.
@@ -62,12 +75,12 @@ impl<T: Drop, H: History<T>> Drop for Locked<'_, T, H> {
     fn drop(self)
         requires given_back { is_held self ≡ false }
     {
-        drop(self.unlock_after_internal());
+        drop(self.into_guard());
     }
 }
 
 impl<'a, T: Drop, H: History<T>> Locked<'a, T, H> {
-    /// The guard: the lock is released by it, or tried anew.
+    /// The guard: the lock is released by it, or an internal call is made under it.
     #[inline]
     pub(super) fn into_guard(self) -> MutexGuard<'a, State<T, H>> {
         let Locked {
@@ -82,9 +95,7 @@ impl<'a, T: Drop, H: History<T>> Locked<'a, T, H> {
 
     /// Applies the notices under a lock that one try got. What they take out goes back with the lock.
     #[cold]
-    fn take_pending(&mut self) -> Pending<T, H>
-        ensures quiet { IsQuiet self.new }
-    {
+    fn take_pending(&mut self) -> Pending<T, H> {
         let applied = self.shared.apply(&mut self.state);
         self.internal_pass = self.state.internal_pass();
         Pending { applied }
@@ -95,9 +106,7 @@ impl<T: Drop, H: History<T>> Shared<T, H> {
     /// Waits for the lock, with no notice left to apply.
     /// Example: `let mut locked = shared.lock(&rt)`; then `locked.unlock_quiet()`.
     #[inline]
-    pub fn lock<R: Wait>(&self, rt: &R) -> Locked<'_, T, H>
-        ensures quiet { IsQuiet result }
-    {
+    pub fn lock<R: Wait>(&self, rt: &R) -> Locked<'_, T, H> {
         let state = self.guard(rt);
         self.locked(state)
     }
@@ -135,18 +144,14 @@ impl<T: Drop, H: History<T>> Shared<T, H> {
     /// Tries once to get the lock, and applies no notice; `None` where it is held.
     /// Example: `shared.try_lock_raw()` answers `None` while another has the lock.
     #[inline]
-    pub fn try_lock_raw(&self) -> Option<Locked<'_, T, H>>
-        ensures quiet { IfSome result IsQuiet }
-    {
+    pub fn try_lock_raw(&self) -> Option<Locked<'_, T, H>> {
         let state = self.state.try_lock()?;
         Some(self.locked(state))
     }
 
     /// The token of the lock that was got.
     #[inline]
-    pub(super) fn locked<'a>(&'a self, state: MutexGuard<'a, State<T, H>>) -> Locked<'a, T, H>
-        ensures quiet { IsQuiet result }
-    {
+    pub(super) fn locked<'a>(&'a self, state: MutexGuard<'a, State<T, H>>) -> Locked<'a, T, H> {
         let internal_pass = state.internal_pass();
         Locked {
             shared: self,
@@ -163,9 +168,7 @@ impl<T: Drop, H: History<T>> Shared<T, H> {
     /// let (mut locked, pending) = shared.try_lock()?;
     /// shared.unlock_pending(locked, pending);
     /// ```
-    pub fn try_lock(&self) -> Option<(Locked<'_, T, H>, Pending<T, H>)>
-        ensures quiet { IfSome result (λ held. IsQuiet held.0) }
-    {
+    pub fn try_lock(&self) -> Option<(Locked<'_, T, H>, Pending<T, H>)> {
         let mut locked = self.try_lock_raw()?;
         let pending = if self.is_quiet() {
             Pending::nothing()

@@ -2,10 +2,9 @@
 //! told, what left the core is dropped, and new notices are looked for.
 //!
 //! No other module tells a waiter what became of its wait, and whoever tells shows that the lock was released.
-ghost use Rattle.std.specs.Prelude.{◌≡◌, IfSome};
+ghost use Rattle.std.specs.Prelude.{◌≡◌};
 ghost use Rattle.kanal_events.specs.StepResult.{made_of, owed_by, reply_of, settled_of};
 ghost use Rattle.kanal_state.specs.HistoryRelations.{HaveSettled, HaveShown};
-ghost use Rattle.kanal_channel.specs.Locks.{IsQuiet};
 
 use super::Shared;
 use super::locked::{Applied, Locked, Pending};
@@ -23,9 +22,7 @@ impl<T: Drop, H: History<T>> Locked<'_, T, H> {
     /// opened then, by the answer.
     /// Example: `let mut locked = shared.lock(&rt)`; then `locked.unlock_quiet()`.
     #[inline]
-    pub fn unlock_quiet(self) -> Released
-        requires quiet { IsQuiet self }
-    {
+    pub fn unlock_quiet(self) -> Released {
         let shared = self.shared;
         let released = self.unlock();
         if !shared.is_quiet() {
@@ -34,19 +31,10 @@ impl<T: Drop, H: History<T>> Locked<'_, T, H> {
         released
     }
 
-    /// Releases the lock after a call of a caller's pass: no internal call was made. What was settled may be
-    /// told then, by the answer.
+    /// Releases the lock. What the step settled may be told then, by the answer.
     /// Example: `let released = locked.unlock()`; then `made.open(&released)`.
     #[inline]
-    pub fn unlock(self) -> Released
-        requires quiet { IsQuiet self }
-    {
-        self.unlock_after_internal()
-    }
-
-    /// Releases the lock after an internal call.
-    #[inline]
-    pub(super) fn unlock_after_internal(self) -> Released {
+    pub fn unlock(self) -> Released {
         Released::by(self.into_guard())
     }
 
@@ -54,9 +42,7 @@ impl<T: Drop, H: History<T>> Locked<'_, T, H> {
     /// that is told, and the lock is tried once more; `None` where another has it then.
     /// Example: `let locked = shared.try_lock_raw()?.apply_notices()?`.
     #[cold]
-    pub fn apply_notices(self) -> Option<Self>
-        ensures quiet { IfSome result IsQuiet }
-    {
+    pub fn apply_notices(self) -> Option<Self> {
         let shared = self.shared;
         match shared.apply_notices(self.into_guard()) {
             Some(state) => Some(shared.locked(state)),
@@ -89,7 +75,6 @@ impl<T: Drop, H: History<T>> Shared<T, H> {
         pass: &mut H::Pass,
         made: Deferred<StepResult<T, WaiterHandle<T, H>>>,
     ) -> Reply<T>
-        requires quiet { IsQuiet locked }
         requires seen { HaveSettled H.relations pass.old (settled_of made) }
         ensures reply { result ≡ reply_of made }
         ensures same { pass.new ≡ pass.old }
@@ -113,7 +98,6 @@ impl<T: Drop, H: History<T>> Shared<T, H> {
         pass: &mut H::Pass,
         made: Deferred<StepResult<T, WaiterHandle<T, H>>>,
     ) -> Reply<T>
-        requires quiet { IsQuiet locked }
         requires seen { HaveSettled H.relations pass.old (settled_of made) }
         ensures reply { result ≡ reply_of made }
         ensures same { pass.new ≡ pass.old }
@@ -139,7 +123,6 @@ impl<T: Drop, H: History<T>> Shared<T, H> {
         pass: &mut H::Pass,
         answered: Deferred<Answered<T, WaiterHandle<T, H>>>,
     ) -> Reply<T>
-        requires quiet { IsQuiet locked }
         requires seen { HaveSettled H.relations pass.old (settled_of (made_of answered)) }
         ensures reply { result ≡ reply_of (made_of answered) }
         ensures same { pass.new ≡ pass.old }
@@ -158,9 +141,7 @@ impl<T: Drop, H: History<T>> Shared<T, H> {
     /// Releases a lock that one try got, after a step that settled no wait, tells what the notices took out, and looks
     /// for new ones.
     /// Example: `locked.state.renew(ticket, &mut waker)`; then `shared.unlock_pending(locked, pending)`.
-    pub fn unlock_pending(&self, locked: Locked<'_, T, H>, pending: Pending<T, H>)
-        requires quiet { IsQuiet locked }
-    {
+    pub fn unlock_pending(&self, locked: Locked<'_, T, H>, pending: Pending<T, H>) {
         let released = locked.unlock();
         self.tell_pending(pending, &released);
         self.drain_notices();
@@ -170,11 +151,11 @@ impl<T: Drop, H: History<T>> Shared<T, H> {
     /// ended.
     pub(super) fn unlock_dropped(
         &self,
-        locked: Locked<'_, T, H>,
+        state: MutexGuard<'_, State<T, H>>,
         pending: Pending<T, H>,
         gone: DropResult<T, H>,
     ) {
-        let released = locked.unlock_after_internal();
+        let released = Released::by(state);
         self.tell_pending(pending, &released);
         self.tell_dropped(gone, &released);
         self.drain_notices();
@@ -183,11 +164,11 @@ impl<T: Drop, H: History<T>> Shared<T, H> {
     /// Releases the lock after a wait was left by an internal call, and lets its entry go.
     pub(super) fn unlock_left(
         &self,
-        locked: Locked<'_, T, H>,
+        state: MutexGuard<'_, State<T, H>>,
         pending: Pending<T, H>,
         found: Option<Deferred<Waiter<T, WaiterHandle<T, H>>>>,
     ) {
-        let released = locked.unlock_after_internal();
+        let released = Released::by(state);
         self.tell_pending(pending, &released);
         if let Some(waiter) = found {
             drop(waiter.open(&released));

@@ -3,8 +3,8 @@ use Rattle.kanal_channel.proofs.Draining.{noted_drains}
 use Rattle.kanal_state.proofs.Settling.{noted_settled}
 use Rattle.kanal_channel.proofs.shared.Shared.drain_into.Goals as goal
 
-pub unlock_and_wake-requires-clause-seen : goal.unlock_and_wake-requires-clause-seen
-unlock_and_wake-requires-clause-seen g c = noted_settled g.H.History.relations g.met.H.History.sound c.args.pass.now c.drain-made.new.pass Drain c.drain-made.result c.drain-made.ensures.noted
+pub unlock_and_wake-requires : goal.unlock_and_wake-requires
+unlock_and_wake-requires g c = record { seen = noted_settled g.H.History.relations g.met.H.History.sound c.args.pass.now c.drain-made.new.pass Drain c.drain-made.result c.drain-made.ensures.noted }
 
 pub returns-clause-drained : goal.returns-clause-drained
 returns-clause-drained g c =

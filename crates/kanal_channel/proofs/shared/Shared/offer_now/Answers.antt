@@ -5,8 +5,8 @@ use Rattle.kanal_channel.proofs.Backs.{refused_stays}
 use Rattle.kanal_state.proofs.Settling.{noted_answered, noted_settled}
 use Rattle.kanal_channel.proofs.shared.Shared.offer_now.Goals as goal
 
-pub unlock_tried-requires-clause-seen : goal.unlock_tried-requires-clause-seen
-unlock_tried-requires-clause-seen g c = noted_settled g.H.History.relations g.met.H.History.sound c.args.pass.now c.call-made.new.pass (TrySend c.args.message) c.call-made.result c.call-made.ensures.noted
+pub unlock_tried-requires : goal.unlock_tried-requires
+unlock_tried-requires g c = record { seen = noted_settled g.H.History.relations g.met.H.History.sound c.args.pass.now c.call-made.new.pass (TrySend c.args.message) c.call-made.result c.call-made.ensures.noted }
 
 pub returns-clause-kept : goal.returns-clause-kept
 returns-clause-kept g c off =

@@ -2,9 +2,9 @@ use Rattle.kanal_events.specs.StepResult.{made_of}
 use Rattle.kanal_state.proofs.Settling.{noted_replied, noted_settled, refused_replied}
 use Rattle.kanal_channel.proofs.shared.Shared.start.Goals as goal
 
-pub unlock_answered-requires-clause-seen : goal.unlock_answered-requires-clause-seen
-unlock_answered-requires-clause-seen g c =
-    noted_settled g.H.History.relations g.met.H.History.sound c.args.pass.now c.start.new.pass c.args.event (made_of c.in-Ok.answered) c.in-Ok.ensures.tried.0
+pub unlock_answered-requires : goal.unlock_answered-requires
+unlock_answered-requires g c =
+    record { seen = noted_settled g.H.History.relations g.met.H.History.sound c.args.pass.now c.start.new.pass c.args.event (made_of c.in-Ok.answered) c.in-Ok.ensures.tried.0 }
 
 pub returns-in-Ok-clause-replied : goal.returns-in-Ok-clause-replied
 returns-in-Ok-clause-replied g c =

@@ -1,15 +1,18 @@
-//! Messages that have another thread look, while they are dropped, whether the lock of their channel
-//! is free.
+//! What runs with the lock released: drops of messages, which have another thread look whether the lock is
+//! free, and the calls of loops, which try it.
 use crate::tests::given::{common, equal, holds, new_task};
 use futures::task::Poll;
+use kanal::bounded;
 use kanal_channel::Shared;
+use kanal_core::error::ReceiveError;
 use kanal_futures::send_future;
 use kanal_state::NoHistory;
 use std::alloc::{AllocGlobal, Global};
 use std::process::Abort;
-use std::sync::Arc;
+use std::random::RandomSource;
 use std::sync::atomic::AtomicBool;
 use std::sync::atomic::Ordering::SeqCst;
+use std::sync::{Arc, Wait};
 use std::thread;
 use std::thread::{JoinHandle, Threads};
 
@@ -99,16 +102,44 @@ fn a_close_drops_its_messages_after_the_release(rt: HostRuntime) {
     holds(&rt, look.found_free.load(SeqCst));
 }
 
-/// The second message waits behind the first; the look takes the first.
+/// The second message waits behind the first, which the look takes. Its future is dropped, under the lock where
+/// it is to leave a notice.
+fn leave<R: Threads + Wait + Abort + RandomSource + AllocGlobal>(rt: &R, by_notice: bool) {
+    let (shared, look, message, thread) = start_look(rt);
+    let task = new_task(rt);
+    let first = Message { look: None };
+    equal(rt, shared.send(rt, &mut (), first), Ok(()));
+    let mut sending = send_future(&shared, message);
+    equal(rt, task.poll(&mut sending), Poll::Pending);
+    if by_notice {
+        let locked = shared.lock(rt);
+        drop(sending);
+        locked.unlock_quiet();
+    } else {
+        drop(sending);
+    }
+    thread.join(rt);
+    holds(rt, look.found_free.load(SeqCst));
+}
+
 #[test]
 fn a_future_that_leaves_drops_its_message_after_the_release(rt: HostRuntime) {
-    let (shared, look, message, thread) = start_look(&rt);
-    let task = new_task(&rt);
-    let first = Message { look: None };
-    equal(&rt, shared.send(&rt, &mut (), first), Ok(()));
-    let mut sending = send_future(&shared, message);
-    equal(&rt, task.poll(&mut sending), Poll::Pending);
-    drop(sending);
-    thread.join(&rt);
-    holds(&rt, look.found_free.load(SeqCst));
+    leave(&rt, false);
+    leave(&rt, true);
+}
+
+#[test]
+fn loops_call_with_the_lock_released(rt: HostRuntime) {
+    let (sender, receiver) = bounded::<u64>(rt.alloc(), 2).expect(&rt, "a channel");
+    let other = receiver.clone(&rt).expect(&rt, "one more");
+    equal(&rt, sender.send(&rt, 1), Ok(()));
+    equal(&rt, sender.send(&rt, 2), Ok(()));
+    let ended = receiver.try_for_each(&rt, |_message| Err::<(), _>(other.try_recv_realtime()));
+    equal(&rt, ended, Ok(Err(Ok(Some(2)))));
+    equal(&rt, sender.send(&rt, 3), Ok(()));
+    drop(sender);
+    let mut found = Ok(None);
+    let ended = receiver.for_each(&rt, |_message| found = other.try_recv_realtime());
+    equal(&rt, ended, Ok(()));
+    equal(&rt, found, Err(ReceiveError::SendClosed));
 }

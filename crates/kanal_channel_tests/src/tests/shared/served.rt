@@ -1,12 +1,13 @@
 //! Calls that serve or end a wait of the other side, each seen by the task that waits.
 use crate::tests::given::{channel, equal, handles, holds, new_task, tell_late};
 use futures::task::Poll;
-use kanal::AsyncSender;
+use kanal::{AsyncReceiver, AsyncSender};
 use kanal_channel::Shared;
 use kanal_core::error::{ReceiveError, SendError};
 use kanal_events::event::{Event, Reply};
 use kanal_futures::{receive_future, send_future};
 use kanal_state::NoHistory;
+use std::alloc::AllocGlobal;
 use std::process::Abort;
 use std::sync::Wait;
 
@@ -52,47 +53,57 @@ fn the_last_handle_under_the_lock_ends_who_waits(rt: HostRuntime) {
     holds(&rt, task.poll(&mut sending).is_ready());
 }
 
-/// Drops the sender under the lock, and releases the lock without a look.
-fn drop_unlooked<R: Wait>(rt: &R, shared: &Shared<u64, NoHistory>, sender: AsyncSender<u64>) {
-    let locked = shared.lock(rt);
+/// A receiver whose sender was dropped under the lock, which was released without a look.
+fn left_alone<R: Wait + Abort + AllocGlobal>(rt: &R) -> AsyncReceiver<u64> {
+    let (sender, receiver) = handles::<u64>(rt, 1);
+    let locked = receiver.channel().lock(rt);
     drop(sender);
     locked.unlock();
+    receiver
 }
 
 #[test]
 fn a_call_applies_the_notices_that_it_finds(rt: HostRuntime) {
-    let (sender, receiver) = handles::<u64>(&rt, 1);
-    let shared = receiver.channel();
-    drop_unlooked(&rt, shared, sender);
-    equal(
-        &rt,
-        shared.try_recv(&rt, &mut ()),
-        Err(ReceiveError::SendClosed),
-    );
+    let ended = left_alone(&rt).channel().try_recv(&rt, &mut ());
+    equal(&rt, ended, Err(ReceiveError::SendClosed));
+}
+
+#[test]
+fn realtime_forms_apply_the_notices_that_they_find(rt: HostRuntime) {
+    let ended = left_alone(&rt).channel().try_recv_realtime(&mut ());
+    equal(&rt, ended, Err(ReceiveError::SendClosed));
+    let ended = left_alone(&rt).channel().try_send_realtime(&mut (), 7);
+    equal(&rt, ended, Err(SendError::Sealed));
 }
 
 #[test]
 fn polls_apply_the_notices_that_they_find(rt: HostRuntime) {
-    let (sender, receiver) = handles::<u64>(&rt, 1);
+    let task = new_task(&rt);
+    let receiver = left_alone(&rt);
+    let ended = task.poll(&mut receive_future(receiver.channel()));
+    equal(&rt, ended, Poll::Ready(Err(ReceiveError::SendClosed)));
+    let task = new_task(&rt);
+    let receiver = left_alone(&rt);
+    let ended = task.poll(&mut send_future(receiver.channel(), 7));
+    equal(&rt, ended, Poll::Ready(Err(SendError::Sealed)));
+}
+
+/// A sender is dropped under the lock of a poll that renews its wait: the way out ends that wait.
+#[test]
+fn the_way_out_of_a_poll_applies_a_notice(rt: HostRuntime) {
+    let (sender, receiver) = handles::<u64>(&rt, 0);
     let shared = receiver.channel();
-    drop_unlooked(&rt, shared, sender);
     let task = new_task(&rt);
     let mut receiving = receive_future(shared);
-    equal(
-        &rt,
-        task.poll(&mut receiving),
-        Poll::Ready(Err(ReceiveError::SendClosed)),
-    );
-    let (sender, receiver) = handles::<u64>(&rt, 1);
-    let shared = receiver.channel();
-    drop_unlooked(&rt, shared, sender);
-    let task = new_task(&rt);
-    let mut sending = send_future(shared, 7);
-    equal(
-        &rt,
-        task.poll(&mut sending),
-        Poll::Ready(Err(SendError::Sealed)),
-    );
+    equal(&rt, task.poll(&mut receiving), Poll::Pending);
+    let Some((locked, left)) = shared.try_lock() else {
+        return equal(&rt, "the lock is held", "the lock is free");
+    };
+    drop(sender);
+    shared.unlock_pending(locked, left);
+    holds(&rt, task.is_woken());
+    let ended = task.poll(&mut receiving);
+    equal(&rt, ended, Poll::Ready(Err(ReceiveError::SendClosed)));
 }
 
 /// Three futures wait; two are dropped under the lock, and the third still waits after it, alone.

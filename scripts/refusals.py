@@ -42,14 +42,14 @@ def without_parameters(text):
 
 
 def owner_of(lines, at):
-    """What the methods of the impl round this line are called after: `Type`, or `TypeTrait`; None for a function of a module."""
+    """What methods of the impl round this line are called after: `Type`, or `TypeTrait` but for `Drop`; else None."""
     for line in reversed(lines[:at]):
         if line.startswith("}"):
             return None
         if head := IMPL.match(line):
             words = re.findall(r"\w+", without_parameters(head[1]).split(" where ")[0])
             words = [it for it in words if it not in ("mut", "dyn", "crate", "std", "super")]
-            return words[-1] + words[-3] if "for" in words[1:-1] else words[-1]
+            return words[-1] + words[-3] if "for" in words[1:-1] and words[-3] != "Drop" else words[-1]
     return None
 
 
@@ -68,7 +68,8 @@ def functions_of(text, module, known):
     for first, line in enumerate(lines):
         if begun := BEGUN.match(line):
             owner = owner_of(lines, first) if begun[1] else None
-            alike = [it for it in known if it.split("::")[-1] == begun[2]]
+            # A `+` is in the names of drops that the checker makes for types of other crates.
+            alike = [it for it in known if it.split("::")[-1] == begun[2] and "+" not in it]
             own = [it for it in alike if it.split("::")[-2] == (owner or module)]
             # What an impl is of stands behind its type's name, as in `OfReceiveAsksUnit`.
             own = own or [it for it in alike if owner and it.split("::")[-2].startswith(owner)]

@@ -42,11 +42,8 @@ fn handles_of_each_side_are_dropped_while_the_lock_is_held(rt: HostRuntime) {
     let (sender, receiver) = handles::<u64>(&rt, 1);
     let second = receiver.clone(&rt).expect(&rt, "one more");
     let shared = sender.channel();
-    equal(
-        &rt,
-        drop_held(&rt, shared, (receiver, second), ()),
-        (1, 2, 0),
-    );
+    let held = drop_held(&rt, shared, (receiver, second), ());
+    equal(&rt, held, (1, 2, 0));
     equal(&rt, counts(&rt, shared), (1, 0));
     let sent = shared.send(&rt, &mut (), 7);
     equal(&rt, sent, Err(SendError::ReceiveClosed));

@@ -9,6 +9,7 @@ use kanal_futures::{receive_future, send_future};
 use kanal_state::NoHistory;
 use std::alloc::AllocGlobal;
 use std::process::Abort;
+use std::random::RandomSource;
 use std::sync::Wait;
 
 #[test]
@@ -27,19 +28,32 @@ fn realtime_forms_serve_who_waits(rt: HostRuntime) {
     equal(&rt, task.poll(&mut sending), Poll::Ready(Ok(())));
 }
 
+/// The last sender is dropped under the lock of a call, or of a poll that renews its wait: the way out ends a
+/// receive.
+fn last_sender_goes<R: Wait + Abort + RandomSource + AllocGlobal>(rt: &R, in_poll: bool) {
+    let (sender, receiver) = handles::<u64>(rt, 0);
+    let shared = receiver.channel();
+    let task = new_task(rt);
+    let mut receiving = receive_future(shared);
+    equal(rt, task.poll(&mut receiving), Poll::Pending);
+    if in_poll {
+        let (locked, left) = shared.try_lock().expect(rt, "a free lock");
+        drop(sender);
+        shared.unlock_pending(locked, left);
+    } else {
+        let locked = shared.lock(rt);
+        drop(sender);
+        locked.unlock_quiet();
+    }
+    holds(rt, task.is_woken());
+    let ended = task.poll(&mut receiving);
+    equal(rt, ended, Poll::Ready(Err(ReceiveError::SendClosed)));
+}
+
 #[test]
 fn the_last_handle_under_the_lock_ends_who_waits(rt: HostRuntime) {
-    let (sender, receiver) = handles::<u64>(&rt, 0);
-    let shared = receiver.channel();
-    let task = new_task(&rt);
-    let mut receiving = receive_future(shared);
-    equal(&rt, task.poll(&mut receiving), Poll::Pending);
-    let locked = shared.lock(&rt);
-    drop(sender);
-    locked.unlock_quiet();
-    holds(&rt, task.is_woken());
-    let ended = task.poll(&mut receiving);
-    equal(&rt, ended, Poll::Ready(Err(ReceiveError::SendClosed)));
+    last_sender_goes(&rt, false);
+    last_sender_goes(&rt, true);
     // And that of the last receiver ends a send.
     let (sender, receiver) = handles::<u64>(&rt, 0);
     let shared = sender.channel();
@@ -63,13 +77,9 @@ fn left_alone<R: Wait + Abort + AllocGlobal>(rt: &R) -> AsyncReceiver<u64> {
 }
 
 #[test]
-fn a_call_applies_the_notices_that_it_finds(rt: HostRuntime) {
+fn calls_apply_the_notices_that_they_find(rt: HostRuntime) {
     let ended = left_alone(&rt).channel().try_recv(&rt, &mut ());
     equal(&rt, ended, Err(ReceiveError::SendClosed));
-}
-
-#[test]
-fn realtime_forms_apply_the_notices_that_they_find(rt: HostRuntime) {
     let ended = left_alone(&rt).channel().try_recv_realtime(&mut ());
     equal(&rt, ended, Err(ReceiveError::SendClosed));
     let ended = left_alone(&rt).channel().try_send_realtime(&mut (), 7);
@@ -86,24 +96,6 @@ fn polls_apply_the_notices_that_they_find(rt: HostRuntime) {
     let receiver = left_alone(&rt);
     let ended = task.poll(&mut send_future(receiver.channel(), 7));
     equal(&rt, ended, Poll::Ready(Err(SendError::Sealed)));
-}
-
-/// A sender is dropped under the lock of a poll that renews its wait: the way out ends that wait.
-#[test]
-fn the_way_out_of_a_poll_applies_a_notice(rt: HostRuntime) {
-    let (sender, receiver) = handles::<u64>(&rt, 0);
-    let shared = receiver.channel();
-    let task = new_task(&rt);
-    let mut receiving = receive_future(shared);
-    equal(&rt, task.poll(&mut receiving), Poll::Pending);
-    let Some((locked, left)) = shared.try_lock() else {
-        return equal(&rt, "the lock is held", "the lock is free");
-    };
-    drop(sender);
-    shared.unlock_pending(locked, left);
-    holds(&rt, task.is_woken());
-    let ended = task.poll(&mut receiving);
-    equal(&rt, ended, Poll::Ready(Err(ReceiveError::SendClosed)));
 }
 
 /// Three futures wait; two are dropped under the lock, and the third still waits after it, alone.

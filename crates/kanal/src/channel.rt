@@ -7,10 +7,10 @@ use crate::async_receiver::AsyncReceiver;
 use crate::async_sender::AsyncSender;
 use crate::receiver::Receiver;
 use crate::sender::Sender;
-use kanal_channel::{Core, Shared};
+use kanal_channel::Shared;
 use kanal_core::error::NewError;
 use kanal_core::internal::ChannelInternal;
-use kanal_state::{History, NoHistory};
+use kanal_state::{Core, History, NoHistory};
 use std::alloc::Global;
 use std::sync::Arc;
 

@@ -17,7 +17,4 @@ mod timed;
 
 pub use blocking::StartedWait;
 pub use kanal_cell::{Clock, SystemClock, TestClock};
-pub use kanal_state::{
-    Core, CountedReceiver, CountedSender, CountedWait, WaitResult, WaiterHandle,
-};
 pub use shared::{Locked, Pending, Shared};

@@ -326,7 +326,7 @@ impl<T: Drop, H: History<T>> Shared<T, H> {
     /// The caller knows that the option holds a message.
     ///
     /// # Errors
-    /// As `send_timeout`. The option holds the message then, but for a wait whose end kept it.
+    /// As `send_timeout`. The option holds the message then.
     ///
     /// # Examples
     /// ```text

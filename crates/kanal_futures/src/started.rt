@@ -15,10 +15,10 @@ use crate::operation::{Asks, GhostStart};
 use crate::wakers::Wakers;
 use futures::task::{Context, Poll};
 use kanal_cell::signal::WaitEnd;
-use kanal_channel::{CountedWait, Locked, Shared, StartedWait, WaitResult};
+use kanal_channel::{Locked, Shared, StartedWait};
 use kanal_core::internal::{Outcome, Ticket};
 use kanal_events::event::{Event, Reply};
-use kanal_state::History;
+use kanal_state::{CountedWait, History, WaitResult};
 use std::marker::{Model, PhantomData};
 
 /// A call that was answered at once: what it began with, the pass, and the reply.

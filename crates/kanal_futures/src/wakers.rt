@@ -9,9 +9,9 @@ ghost use Rattle.kanal_cell.specs.CellEnds.{wait_view};
 use futures::task::{Context, Poll, Source, Waker};
 use kanal_cell::signal;
 use kanal_cell::signal::WaitEnd;
-use kanal_channel::{Shared, WaitResult, WaiterHandle};
+use kanal_channel::Shared;
 use kanal_core::internal::Ticket;
-use kanal_state::History;
+use kanal_state::{History, WaitResult, WaiterHandle};
 use std::alloc::Global;
 
 /// The name of what a task waits for, and a waker that is in no entry: the next poll's, or the one that it

@@ -89,8 +89,8 @@ impl<T, J: LogId> Pass<T, J> {
         self.reader.learn(log, reader);
     }
 
-    /// A pass that has all of the right to add calls owns each call that it has seen, but for internal calls,
-    /// which put no message, ask for none and clear none. It changes nothing, and waits for nobody.
+    /// A pass that has all of the right to add calls owns each send, receive, drain and close that it has seen. It
+    /// changes nothing, and waits for nobody.
     /// Example: `one.owns_all(&log)` where all other passes came back by `learn`.
     pub fn owns_all(&mut self, log: &GhostLog<Call<T>, J>)
         requires whole { IsWhole self.old.share }

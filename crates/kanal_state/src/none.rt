@@ -36,7 +36,7 @@ impl<T> History<T> for NoHistory {
     #[inline(always)]
     fn append<X, Y, M: EntryOf<X, Y, Call<T>>>(
         &mut self,
-        _board: &(),
+        _log: &(),
         _pass: &mut (),
         _about: &X,
         _answer: &Y,
@@ -45,26 +45,26 @@ impl<T> History<T> for NoHistory {
     #[inline(always)]
     fn append_silent<X, Y, M: EntryOf<X, Y, Call<T>>>(
         &mut self,
-        _board: &(),
+        _log: &(),
         _internal_pass: &mut (),
         _about: &X,
         _answer: &Y,
     ) {}
 
     #[inline(always)]
-    fn internal_prefix(_board: &(), _internal_pass: &mut ()) {}
+    fn internal_prefix(_log: &(), _internal_pass: &mut ()) {}
 
     #[inline(always)]
-    fn show(&mut self, _board: &(), _pass: &mut ()) {}
+    fn show(&mut self, _log: &(), _pass: &mut ()) {}
 
     #[inline(always)]
-    fn prefix(_board: &(), _pass: &mut ()) {}
+    fn prefix(_log: &(), _pass: &mut ()) {}
 
     #[inline(always)]
-    fn again(_board: &(), _prefix: &mut ()) {}
+    fn again(_log: &(), _prefix: &mut ()) {}
 
     #[inline(always)]
-    fn learn(_board: &(), _pass: &mut (), _prefix: ()) {}
+    fn learn(_log: &(), _pass: &mut (), _prefix: ()) {}
 
     ghost sound = { nothing_sound };
 

@@ -6,10 +6,10 @@ ghost use Rattle.kanal_events.specs.StepResult.{may_wait};
 
 use futures::test::MockTask;
 use kanal::{AsyncReceiver, AsyncSender};
-use kanal_channel::{CountedReceiver, CountedSender, Shared};
+use kanal_channel::Shared;
 use kanal_core::internal::ChannelInternal;
 use kanal_events::event::{Ask, Event, Reply, Side};
-use kanal_state::NoHistory;
+use kanal_state::{CountedReceiver, CountedSender, NoHistory};
 use std::alloc::AllocGlobal;
 use std::fmt::Debug;
 use std::process::Abort;

@@ -136,8 +136,8 @@ impl<T: Drop, H: History<T>> Shared<T, H> {
                 self.unlock_dropped(state, pending, gone);
             },
             None => {
-                self.notices.add_handle(counted);
-                self.drain_notices();
+                let due = self.notices.add_handle(counted);
+                self.drain_notices(due);
             },
         }
     }
@@ -152,8 +152,8 @@ impl<T: Drop, H: History<T>> Shared<T, H> {
                 self.unlock_left(state, pending, found);
             },
             None => {
-                self.notices.add_wait(counted);
-                self.drain_notices();
+                let due = self.notices.add_wait(counted);
+                self.drain_notices(due);
             },
         }
     }

@@ -10,6 +10,7 @@ use Rattle.kanal_state.specs.declared.counted.Counted.{Counted}
 use Rattle.kanal_state.specs.declared.counted.CountedWait.{CountedWait}
 use Rattle.kanal_state.specs.declared.counted.notices.GoneHandles.{GoneHandles}
 use Rattle.kanal_state.specs.declared.counted.notices.GoneWaits.{GoneWaits}
+use Rattle.kanal_state.specs.declared.counted.notices.MustDrain.{MustDrain}
 use Rattle.kanal_state.specs.declared.counted.notices.Notices.{Notices}
 
 -- the tag of which a token is made says that it has to be counted out
@@ -37,6 +38,10 @@ ticket_of counted = counted.ticket
 -- whether the waits that were left are sought
 abbrev pub are_sought : GoneWaits → Bool
 are_sought gone = gone.are_sought
+
+-- whether new notices still have to be drained
+abbrev pub is_due : MustDrain → Bool
+is_due look = look.due
 
 -- whether the channel of the notices is there
 abbrev pub has_channel : Notices → Bool

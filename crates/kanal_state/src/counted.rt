@@ -25,7 +25,7 @@ use boxcar::tag::{Names, Tag};
 use kanal_core::internal::{Outcome, Ticket, Waiter};
 use kanal_events::event::Event;
 use kanal_events::step_result::StepResult;
-pub use notices::{GoneHandles, GoneWaits, Notices};
+pub use notices::{GoneHandles, GoneWaits, MustDrain, Notices};
 use std::marker::PhantomData;
 use std::snapshot::Snapshot;
 

@@ -22,7 +22,9 @@ mod waiter_handle;
 
 pub use call::Call;
 pub use call_context::CallContext;
-pub use counted::{Counted, CountedReceiver, CountedSender, CountedWait, FirstHandles, Notices};
+pub use counted::{
+    Counted, CountedReceiver, CountedSender, CountedWait, FirstHandles, MustDrain, Notices,
+};
 pub use history::History;
 pub use none::NoHistory;
 pub use released::{Deferred, Released};

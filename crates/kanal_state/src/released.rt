@@ -51,7 +51,7 @@ impl<X> Deferred<X> {
     /// # Examples
     /// ```text
     /// let made = locked.state.call(log, &mut pass, Event::Close);
-    /// let released = locked.release();
+    /// let (released, due) = locked.unlock();
     /// made.open(&released)   answers  what the close told
     /// ```
     #[inline(always)]

@@ -8,7 +8,9 @@ ghost use Rattle.kanal_channel.specs.Locks.{is_held, takes_nothing};
 
 use super::Shared;
 use kanal_cell::{Contention, LOCK_TRIES};
-use kanal_state::{Deferred, DropResult, History, LeftWaits, ReceiveSide, SendSide, State};
+use kanal_state::{
+    Deferred, DropResult, History, LeftWaits, MustDrain, ReceiveSide, SendSide, State,
+};
 use std::marker::Model;
 use std::snapshot::Snapshot;
 use std::sync::{MutexGuard, Wait};
@@ -63,8 +65,7 @@ impl<T: Drop, H: History<T>> Drop for Pending<T, H> {
 
 impl<T: Drop, H: History<T>> Pending<T, H> {
     /// Of a lock under which there was no notice.
-    /// Example: `shared.unlock_pending(locked, Pending::nothing())` tells nobody.
-    pub fn nothing() -> Self
+    fn nothing() -> Self
         ensures nobody { takes_nothing result }
     {
         Pending { applied: None }
@@ -214,6 +215,12 @@ impl<T: Drop, H: History<T>> Shared<T, H> {
                 receivers,
             }),
         }
+    }
+
+    /// Whether there are notices, which have to be drained then.
+    #[inline]
+    pub(super) fn has_notices(&self, due: MustDrain) -> bool {
+        self.notices.has_some(due)
     }
 
     /// Whether there are no notices.

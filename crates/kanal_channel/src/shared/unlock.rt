@@ -11,7 +11,7 @@ use super::locked::{Applied, Locked, Pending};
 use kanal_core::internal::Waiter;
 use kanal_events::event::Reply;
 use kanal_events::step_result::{Answered, StepResult};
-use kanal_state::{Deferred, DropResult, History, Released, State, WaiterHandle};
+use kanal_state::{Deferred, DropResult, History, MustDrain, Released, State, WaiterHandle};
 use std::sync::MutexGuard;
 
 /// How often a call looks for notices after it released the lock.
@@ -24,18 +24,16 @@ impl<T: Drop, H: History<T>> Locked<'_, T, H> {
     #[inline]
     pub fn unlock_quiet(self) -> Released {
         let shared = self.shared;
-        let released = self.unlock();
-        if !shared.is_quiet() {
-            shared.drain_notices();
-        }
+        let (released, due) = self.unlock();
+        shared.drain_notices(due);
         released
     }
 
-    /// Releases the lock. What the step settled may be told then, by the answer.
-    /// Example: `let released = locked.unlock()`; then `made.open(&released)`.
+    /// Releases the lock. What the step settled may be told then, and new notices have to be drained.
+    /// Example: `let (released, due) = locked.unlock()`; then `made.open(&released)`, and `shared.drain_notices(due)`.
     #[inline]
-    pub fn unlock(self) -> Released {
-        Released::by(self.into_guard())
+    pub fn unlock(self) -> (Released, MustDrain) {
+        unlock_guard(self.into_guard())
     }
 
     /// Applies the notices under a lock that one try got. Where they take something out, the lock is released,
@@ -49,6 +47,16 @@ impl<T: Drop, H: History<T>> Locked<'_, T, H> {
             None => shared.try_lock_raw(),
         }
     }
+}
+
+/// The same, of the guard of a lock under which an internal call was made.
+#[inline]
+fn unlock_guard<T: Drop, H: History<T>>(
+    state: MutexGuard<'_, State<T, H>>,
+) -> (Released, MustDrain) {
+    let released = Released::by(state);
+    let due = MustDrain::after(&released);
+    (released, due)
 }
 
 impl<T: Drop, H: History<T>> Shared<T, H> {
@@ -79,8 +87,8 @@ impl<T: Drop, H: History<T>> Shared<T, H> {
         ensures reply { result ≡ reply_of made }
         ensures same { pass.new ≡ pass.old }
     {
-        let released = locked.unlock();
-        self.settle(pass, made, &released)
+        let (released, due) = locked.unlock();
+        self.settle(pass, made, &released, due)
     }
 
     /// The same, of a lock that one try got: what the notices took out is told first.
@@ -102,22 +110,15 @@ impl<T: Drop, H: History<T>> Shared<T, H> {
         ensures reply { result ≡ reply_of made }
         ensures same { pass.new ≡ pass.old }
     {
-        let released = locked.unlock();
+        let (released, due) = locked.unlock();
         self.tell_pending(pending, &released);
-        self.settle(pass, made, &released)
+        self.settle(pass, made, &released, due)
     }
 
     /// Releases the lock after a call that was answered at once, tells who is owed what it settled, and looks
     /// for new notices if there are some.
-    ///
-    /// # Examples
-    /// ```text
-    /// if let Ok(answered) = locked.state.start(shared.log(), &mut pass, Event::Recv) {
-    ///     shared.unlock_answered(locked, &mut pass, answered)   answers  the reply
-    /// }
-    /// ```
     #[inline]
-    pub fn unlock_answered(
+    pub(crate) fn unlock_answered(
         &self,
         locked: Locked<'_, T, H>,
         pass: &mut H::Pass,
@@ -127,14 +128,12 @@ impl<T: Drop, H: History<T>> Shared<T, H> {
         ensures reply { result ≡ reply_of (made_of answered) }
         ensures same { pass.new ≡ pass.old }
     {
-        let released = locked.unlock();
+        let (released, due) = locked.unlock();
         let (reply, owed) = answered.open(&released).into_parts();
         if let Some(owed) = owed {
             drop(owed.tell(H::prefix(&self.log, pass), &released));
         }
-        if !self.is_quiet() {
-            self.drain_notices();
-        }
+        self.drain_notices(due);
         reply
     }
 
@@ -142,9 +141,9 @@ impl<T: Drop, H: History<T>> Shared<T, H> {
     /// for new ones.
     /// Example: `locked.state.renew(ticket, &mut waker)`; then `shared.unlock_pending(locked, pending)`.
     pub fn unlock_pending(&self, locked: Locked<'_, T, H>, pending: Pending<T, H>) {
-        let released = locked.unlock();
+        let (released, due) = locked.unlock();
         self.tell_pending(pending, &released);
-        self.drain_notices();
+        self.drain_notices(due);
     }
 
     /// Releases the lock after the drop of a handle as an internal call, and tells those whose waits that
@@ -155,10 +154,10 @@ impl<T: Drop, H: History<T>> Shared<T, H> {
         pending: Pending<T, H>,
         gone: DropResult<T, H>,
     ) {
-        let released = Released::by(state);
+        let (released, due) = unlock_guard(state);
         self.tell_pending(pending, &released);
         self.tell_dropped(gone, &released);
-        self.drain_notices();
+        self.drain_notices(due);
     }
 
     /// Releases the lock after a wait was left by an internal call, and lets its entry go.
@@ -168,12 +167,12 @@ impl<T: Drop, H: History<T>> Shared<T, H> {
         pending: Pending<T, H>,
         found: Option<Deferred<Waiter<T, WaiterHandle<T, H>>>>,
     ) {
-        let released = Released::by(state);
+        let (released, due) = unlock_guard(state);
         self.tell_pending(pending, &released);
         if let Some(waiter) = found {
             drop(waiter.open(&released));
         }
-        self.drain_notices();
+        self.drain_notices(due);
     }
 
     /// Tells those whose waits the call settled, drops what it cleared, and looks for new notices.
@@ -182,6 +181,7 @@ impl<T: Drop, H: History<T>> Shared<T, H> {
         pass: &mut H::Pass,
         made: Deferred<StepResult<T, WaiterHandle<T, H>>>,
         released: &Released,
+        due: MustDrain,
     ) -> Reply<T>
         requires seen { HaveSettled H.relations pass.old (settled_of made) }
         ensures reply { result ≡ reply_of made }
@@ -189,7 +189,7 @@ impl<T: Drop, H: History<T>> Shared<T, H> {
     {
         let prefix = H::prefix(&self.log, pass);
         let reply = self.hand_out(prefix, made.open(released), released);
-        self.drain_notices();
+        self.drain_notices(due);
         reply
     }
 
@@ -247,10 +247,18 @@ impl<T: Drop, H: History<T>> Shared<T, H> {
         let _reply = self.hand_out(prefix, made, released);
     }
 
+    /// Drains new notices, after the lock was released or one was left.
+    /// Example: `shared.drain_notices(due)`, after `let (released, due) = locked.unlock()`.
+    #[inline]
+    pub fn drain_notices(&self, due: MustDrain) {
+        if self.has_notices(due) {
+            self.drain_slow();
+        }
+    }
+
     /// Applies notices while there are some and the lock is free, and looks at most 64 times.
-    /// Example: `let released = locked.unlock()`; then `shared.drain_notices()`.
     #[cold]
-    pub fn drain_notices(&self) {
+    fn drain_slow(&self) {
         for _ in 0..LOOKS {
             if self.is_quiet() {
                 return;
@@ -258,7 +266,7 @@ impl<T: Drop, H: History<T>> Shared<T, H> {
             let Some((locked, pending)) = self.try_lock() else {
                 return;
             };
-            let released = locked.unlock();
+            let released = Released::by(locked.into_guard());
             self.tell_pending(pending, &released);
         }
     }

@@ -90,13 +90,13 @@ pub fn tell_late<R: Wait, T: Drop, F: FnOnce(), G: FnOnce()>(
     match locked.state.start(shared.log(), &mut pass, event) {
         Ok(answered) => {
             held();
-            let released = locked.unlock();
+            let (released, due) = locked.unlock();
             between();
             let (reply, owed) = answered.open(&released).into_parts();
             if let Some(owed) = owed {
                 drop(owed.tell((), &released));
             }
-            shared.drain_notices();
+            shared.drain_notices(due);
             Some(reply)
         },
         Err(_event) => {

@@ -7,6 +7,7 @@ ghost use Rattle.std.specs.Prelude.{◌≡◌, ◌<◌, false, true, IfNone, IfS
 ghost use Rattle.kanal_state.specs.Counts.{are_sought, gone_handles, has_channel};
 
 use super::{Counted, CountedWait, Stands, stands};
+use crate::released::Released;
 use crate::side::OfSide;
 use kanal_events::event::Side;
 use std::marker::PhantomData;
@@ -71,6 +72,35 @@ impl GoneWaits {
         let GoneWaits {
             are_sought: _are_sought,
         } = self;
+    }
+}
+
+/// That new notices have to be drained, since one was left or the lock was released. The prover refuses to let it
+/// go.
+pub struct MustDrain {
+    due: bool,
+}
+
+impl Drop for MustDrain {
+    fn drop(self)
+        requires drained { is_due self ≡ false }
+    {
+        self.end();
+    }
+}
+
+impl MustDrain {
+    /// After the lock was released.
+    /// Example: `let due = MustDrain::after(&released)`.
+    #[inline]
+    pub fn after(_released: &Released) -> Self {
+        MustDrain { due: true }
+    }
+
+    /// They are drained, by who asked whether there are some.
+    #[inline]
+    fn end(self) {
+        let MustDrain { due: _due } = self;
     }
 }
 
@@ -150,12 +180,21 @@ impl Notices {
         }
     }
 
+    /// Whether there are some, which have to be drained then.
+    /// Example: `notices.has_some(due)` answers `true` after a handle was added.
+    #[inline]
+    pub fn has_some(&self, due: MustDrain) -> bool {
+        due.end();
+        !self.is_quiet()
+    }
+
     /// Counts a handle out into the notices of its side.
-    /// Example: `notices.add_handle(counted)`.
-    pub fn add_handle<S: OfSide>(&self, counted: Counted<S>) {
+    /// Example: `let due = notices.add_handle(counted)`.
+    pub fn add_handle<S: OfSide>(&self, counted: Counted<S>) -> MustDrain {
         counted.notice();
         self.counter(S::side()).fetch_add(1, SeqCst);
         self.some.fetch_add(1, SeqCst);
+        MustDrain { due: true }
     }
 
     /// Takes all handles of a side.
@@ -177,11 +216,12 @@ impl Notices {
     }
 
     /// Counts a wait out into the notices.
-    /// Example: `notices.add_wait(counted)`.
-    pub fn add_wait(&self, counted: CountedWait) {
+    /// Example: `let due = notices.add_wait(counted)`.
+    pub fn add_wait(&self, counted: CountedWait) -> MustDrain {
         counted.notice();
         self.waits.fetch_add(1, SeqCst);
         self.some.fetch_add(1, SeqCst);
+        MustDrain { due: true }
     }
 
     /// How many waits were left.

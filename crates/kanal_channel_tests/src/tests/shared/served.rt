@@ -9,7 +9,6 @@ use kanal_futures::{receive_future, send_future};
 use kanal_state::NoHistory;
 use std::alloc::AllocGlobal;
 use std::process::Abort;
-use std::random::RandomSource;
 use std::sync::Wait;
 
 #[test]
@@ -28,73 +27,51 @@ fn realtime_forms_serve_who_waits(rt: HostRuntime) {
     equal(&rt, task.poll(&mut sending), Poll::Ready(Ok(())));
 }
 
-/// The last sender is dropped under the lock of a call, or of a poll that renews its wait: the way out ends a
-/// receive.
-fn last_sender_goes<R: Wait + Abort + RandomSource + AllocGlobal>(rt: &R, in_poll: bool) {
-    let (sender, receiver) = handles::<u64>(rt, 0);
-    let shared = receiver.channel();
-    let task = new_task(rt);
-    let mut receiving = receive_future(shared);
-    equal(rt, task.poll(&mut receiving), Poll::Pending);
-    if in_poll {
-        let (locked, left) = shared.try_lock().expect(rt, "a free lock");
-        drop(sender);
-        shared.unlock_pending(locked, left);
-    } else {
-        let locked = shared.lock(rt);
-        drop(sender);
-        locked.unlock_quiet();
-    }
-    holds(rt, task.is_woken());
-    let ended = task.poll(&mut receiving);
-    equal(rt, ended, Poll::Ready(Err(ReceiveError::SendClosed)));
-}
-
-#[test]
-fn the_last_handle_under_the_lock_ends_who_waits(rt: HostRuntime) {
-    last_sender_goes(&rt, false);
-    last_sender_goes(&rt, true);
-    // And that of the last receiver ends a send.
-    let (sender, receiver) = handles::<u64>(&rt, 0);
-    let shared = sender.channel();
-    let task = new_task(&rt);
-    let mut sending = send_future(shared, 7);
-    equal(&rt, task.poll(&mut sending), Poll::Pending);
-    let locked = shared.lock(&rt);
-    drop(receiver);
-    locked.unlock_quiet();
-    holds(&rt, task.is_woken());
-    holds(&rt, task.poll(&mut sending).is_ready());
-}
-
-/// A receiver whose sender was dropped under the lock, which was released without a look.
-fn left_alone<R: Wait + Abort + AllocGlobal>(rt: &R) -> AsyncReceiver<u64> {
+/// What is found of a receiver whose sender was dropped under the lock, which was released without a look.
+fn left_alone<R: Wait + Abort + AllocGlobal, A, F: FnOnce(&AsyncReceiver<u64>) -> A>(
+    rt: &R,
+    find: F,
+) -> A
+    requires find { F.IsAlwaysCallable find }
+{
     let (sender, receiver) = handles::<u64>(rt, 1);
     let locked = receiver.channel().lock(rt);
     drop(sender);
-    locked.unlock();
-    receiver
+    let (_released, due) = locked.unlock();
+    let found = find(&receiver);
+    receiver.channel().drain_notices(due);
+    found
 }
 
 #[test]
 fn calls_apply_the_notices_that_they_find(rt: HostRuntime) {
-    let ended = left_alone(&rt).channel().try_recv(&rt, &mut ());
+    let ended = left_alone(&rt, |receiver| receiver.channel().try_recv(&rt, &mut ()));
     equal(&rt, ended, Err(ReceiveError::SendClosed));
-    let ended = left_alone(&rt).channel().try_recv_realtime(&mut ());
+    let ended = left_alone(
+        &rt,
+        |receiver| receiver.channel().try_recv_realtime(&mut ()),
+    );
     equal(&rt, ended, Err(ReceiveError::SendClosed));
-    let ended = left_alone(&rt).channel().try_send_realtime(&mut (), 7);
+    let ended = left_alone(
+        &rt,
+        |receiver| receiver.channel().try_send_realtime(&mut (), 7),
+    );
     equal(&rt, ended, Err(SendError::Sealed));
 }
 
 #[test]
 fn polls_apply_the_notices_that_they_find(rt: HostRuntime) {
     let task = new_task(&rt);
-    let receiver = left_alone(&rt);
-    let ended = task.poll(&mut receive_future(receiver.channel()));
+    let ended = left_alone(
+        &rt,
+        |receiver| task.poll(&mut receive_future(receiver.channel())),
+    );
     equal(&rt, ended, Poll::Ready(Err(ReceiveError::SendClosed)));
     let task = new_task(&rt);
-    let receiver = left_alone(&rt);
-    let ended = task.poll(&mut send_future(receiver.channel(), 7));
+    let ended = left_alone(
+        &rt,
+        |receiver| task.poll(&mut send_future(receiver.channel(), 7)),
+    );
     equal(&rt, ended, Poll::Ready(Err(SendError::Sealed)));
 }
 

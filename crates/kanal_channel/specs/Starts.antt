@@ -1,10 +1,15 @@
--- What a call came to that waits where it must.
-use Rattle.std.specs.Prelude.{Option}
+-- What a call came to that waits where it must, and how its wait is given up.
+use Rattle.std.specs.Prelude.{◌≡◌, true, Option}
+use Rattle.kanal_cell.specs.declared.signal.rule.CellView.{CellView}
 use Rattle.kanal_events.specs.declared.event.Event.{Event}
 use Rattle.kanal_state.specs.Makes.{HasReplied, HasWaited}
 use Rattle.kanal_state.specs.HistoryRelations.{HistoryRelations}
 use Rattle.kanal_channel.specs.declared.blocking.WaitOutcome.{WaitOutcome}
 use Rattle.kanal_channel.specs.declared.blocking.WaitOutcome.TheVariants.{Replied, Settled, Withdrawn}
+
+-- the wait was given up at its cell
+abbrev pub HasLeftCell : CellView → Type 0
+HasLeftCell view = view.set.left ≡ true
 
 module _ {T : Type 0} where
   -- no wait of the call is taken back

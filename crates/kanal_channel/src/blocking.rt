@@ -3,7 +3,7 @@
 //! A call takes the lock, makes one step on the state, and releases the lock. No other module starts a wait,
 //! for threads and for tasks. A wait that was started is owed: what became of it counts it out.
 ghost use Rattle.std.specs.Prelude.{◌≡◌, IfErr, IfOk, IfSome, IsSome, false, true};
-ghost use Rattle.kanal_cell.specs.CellEnds.{wait_view};
+ghost use Rattle.kanal_cell.specs.CellEnds.{wait_cell, wait_view};
 ghost use Rattle.kanal_cell.specs.CellRule.{MaySleep};
 ghost use Rattle.kanal_core.specs.Tickets.{number_of};
 ghost use Rattle.kanal_events.specs.StepResult.{MustWait, is_plain, may_wait};
@@ -177,6 +177,7 @@ impl<T: Drop, H: History<T>> Shared<T, H> {
         ensures waiting { IfOk result (λ begun. IsWaiting H.relations pass.old pass.new event begun.0) }
         ensures fresh { IfOk result (λ begun. MaySleep (wait_view begun.1)) }
         ensures cell { IfOk result (λ _. IsSome cell) }
+        ensures own { IfOk result (λ begun. IfSome cell (λ c. wait_cell begun.1 ≡ wait_cell c.0)) }
         ensures replied { IfErr result (HasReplied H.relations pass.old pass.new event) }
     {
         let mut locked = locked;

@@ -5,15 +5,20 @@
 //! settled. A call that may not wait leaves a notice where the lock is held, which whoever gets the lock next
 //! applies. `locked` alone takes the notices, and `unlock` alone releases the lock and tells.
 ghost use Rattle.std.specs.Prelude.{◌≡◌, IsErrOf};
+ghost use Rattle.kanal_cell.specs.CellEnds.{wait_view};
 ghost use Rattle.kanal_core.specs.Channel.{line_of};
+ghost use Rattle.kanal_channel.specs.Starts.{HasLeftCell};
 
 mod locked;
 mod unlock;
 
 use kanal_cell::WaitPolicy;
+use kanal_cell::signal::WaitEnd;
 use kanal_core::error::NewError;
 use kanal_core::mutex::Mutex;
-use kanal_state::{Core, Counted, CountedWait, FirstHandles, History, Notices, OfSide, State};
+use kanal_state::{
+    Core, Counted, CountedWait, FirstHandles, History, Notices, OfSide, State, WaitResult,
+};
 pub use locked::{Locked, Pending};
 use std::alloc::Global;
 use std::sync::Arc;
@@ -142,9 +147,11 @@ impl<T: Drop, H: History<T>> Shared<T, H> {
         }
     }
 
-    /// A future that waits goes away: it waits for nobody.
-    /// Example: `shared.leave(counted)` withdraws the wait, or leaves a notice where the lock is held.
-    pub fn leave(&self, counted: CountedWait) {
+    /// A future that waits goes away, and has left its cell: it waits for nobody.
+    /// Example: `shared.leave(counted, end)` withdraws the wait, or leaves a notice where the lock is held.
+    pub fn leave(&self, counted: CountedWait, end: WaitEnd<WaitResult<T, H>>)
+        requires left { HasLeftCell (wait_view end) }
+    {
         match self.try_lock() {
             Some((locked, pending)) => {
                 let mut state = locked.into_guard();
@@ -156,5 +163,6 @@ impl<T: Drop, H: History<T>> Shared<T, H> {
                 self.drain_notices(due);
             },
         }
+        drop(end);
     }
 }

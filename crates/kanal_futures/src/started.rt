@@ -9,6 +9,7 @@ ghost use Rattle.kanal_cell.specs.CellEnds.{wait_view};
 ghost use Rattle.kanal_events.specs.StepResult.{may_wait};
 ghost use Rattle.kanal_state.specs.Makes.{HasReplied, HasWaited};
 ghost use Rattle.kanal_state.specs.Waits.{IsWaiting};
+ghost use Rattle.kanal_channel.specs.Starts.{HasLeftCell};
 ghost use Rattle.kanal_futures.specs.Tasks.{opened, source_of};
 
 use crate::operation::{Asks, GhostStart};
@@ -160,8 +161,8 @@ impl<T: Drop, H: History<T>, M: Drop, A: Asks<T, M>> Started<T, H, M, A> {
             asks: _,
         } = self;
         match end.leave() {
-            Some(delivered) => let_go(shared, counted, delivered),
-            None => shared.leave(counted),
+            Some(delivered) => let_go(shared, counted, end, delivered),
+            None => shared.leave(counted, end),
         }
         drop(opening);
         drop(pass);
@@ -172,10 +173,14 @@ impl<T: Drop, H: History<T>, M: Drop, A: Asks<T, M>> Started<T, H, M, A> {
 fn let_go<T: Drop, H: History<T>>(
     shared: &Shared<T, H>,
     counted: CountedWait,
+    end: WaitEnd<WaitResult<T, H>>,
     delivered: WaitResult<T, H>,
-) {
-    if let Some(counted) = counted.told(&delivered) {
-        shared.leave(counted);
+)
+    requires left { HasLeftCell (wait_view end) }
+{
+    match counted.told(&delivered) {
+        Some(counted) => shared.leave(counted, end),
+        None => drop(end),
     }
     drop(delivered);
 }

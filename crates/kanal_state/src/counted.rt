@@ -223,7 +223,7 @@ impl CountedWait {
     /// # Examples
     /// ```text
     /// if let Some(counted) = counted.told(&delivered) {
-    ///     shared.leave(counted);
+    ///     shared.leave(counted, end);
     /// }
     /// ```
     #[inline]

@@ -3,8 +3,8 @@
 //! A notice counts a token out; who takes the handles' notices has the tokens again, one after the other, and has to
 //! count each out by a call, or puts it back. Of waits alone it is kept that they are sought. Notices go with their
 //! channel alone, so none is added where nobody looks.
-ghost use Rattle.std.specs.Prelude.{◌≡◌, ◌<◌, false, true, IfNone, IfSome};
-ghost use Rattle.kanal_state.specs.Counts.{are_sought, gone_handles, has_channel};
+ghost use Rattle.std.specs.Prelude.{◌≡◌, ◌+◌, false, true, IfNone, IfSome};
+ghost use Rattle.kanal_state.specs.Counts.{are_sought, gone_handles, has_channel, is_due};
 
 use super::{Counted, CountedWait, Stands, stands};
 use crate::released::Released;
@@ -35,7 +35,7 @@ impl<S> GoneHandles<S> {
     /// The next of them, if there is one.
     pub(crate) fn next(&mut self) -> Option<Counted<S>>
         ensures none { IfNone result (gone_handles self.new ≡ 0) }
-        ensures fewer { IfSome result (λ _. gone_handles self.new < gone_handles self.old) }
+        ensures fewer { IfSome result (λ _. gone_handles self.new + 1 ≡ gone_handles self.old) }
     {
         if self.count == 0 {
             return None;

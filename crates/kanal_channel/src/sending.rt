@@ -326,7 +326,7 @@ impl<T: Drop, H: History<T>> Shared<T, H> {
     /// The caller knows that the option holds a message.
     ///
     /// # Errors
-    /// As `send_timeout`. The option holds the message then.
+    /// As `send_timeout`. The option holds the message then; clause `kept` says so where no wait began.
     ///
     /// # Examples
     /// ```text

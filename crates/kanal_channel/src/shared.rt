@@ -29,7 +29,7 @@ use std::sync::Arc;
 /// It goes with its state and its notices together.
 pub struct Shared<T, H: History<T>> {
     pub(crate) log: H::Log,
-    pub(crate) state: Mutex<State<T, H>>,
+    state: Mutex<State<T, H>>,
     pub(crate) alloc: Global,
     pub(crate) has_buffer: bool,
     pub(crate) policy: WaitPolicy,
@@ -147,7 +147,7 @@ impl<T: Drop, H: History<T>> Shared<T, H> {
         }
     }
 
-    /// A future that waits goes away, and has left its cell: it waits for nobody.
+    /// Gives up the wait of a future that has left its cell. It waits for nobody.
     /// Example: `shared.leave(counted, end)` withdraws the wait, or leaves a notice where the lock is held.
     pub fn leave(&self, counted: CountedWait, end: WaitEnd<WaitResult<T, H>>)
         requires left { HasLeftCell (wait_view end) }

@@ -39,9 +39,9 @@ ticket_of counted = counted.ticket
 abbrev pub are_sought : GoneWaits → Bool
 are_sought gone = gone.are_sought
 
--- whether new notices still have to be drained
+-- whether notices still have to be looked for
 abbrev pub is_due : MustDrain → Bool
-is_due look = look.due
+is_due must = must.due
 
 -- whether the channel of the notices is there
 abbrev pub has_channel : Notices → Bool

@@ -6,6 +6,7 @@ ghost use Rattle.std.specs.Prelude.{◌≡◌};
 ghost use Rattle.kanal_state.specs.Deferred.{IsOnlyValue};
 
 use crate::History;
+use crate::counted::MustDrain;
 use crate::state::State;
 use std::marker::Model;
 use std::sync::MutexGuard;
@@ -15,12 +16,12 @@ use std::sync::MutexGuard;
 pub struct Released(());
 
 impl Released {
-    /// Releases the lock.
-    /// Example: `let released = Released::by(guard)`; then `owed.tell(prefix, &released)`.
+    /// Releases the lock; notices that were left meanwhile have to be looked for.
+    /// Example: `let (released, due) = Released::by(guard)`; then `owed.tell(prefix, &released)`.
     #[inline(always)]
-    pub fn by<T: Drop, H: History<T>>(guard: MutexGuard<'_, State<T, H>>) -> Self {
+    pub fn by<T: Drop, H: History<T>>(guard: MutexGuard<'_, State<T, H>>) -> (Self, MustDrain) {
         drop(guard);
-        Released(())
+        (Released(()), MustDrain::new())
     }
 }
 

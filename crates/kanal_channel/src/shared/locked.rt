@@ -217,7 +217,7 @@ impl<T: Drop, H: History<T>> Shared<T, H> {
         }
     }
 
-    /// Whether there are notices, which have to be drained then.
+    /// Whether there are notices, as who must drain them asks.
     #[inline]
     pub(super) fn has_notices(&self, due: MustDrain) -> bool {
         self.notices.has_some(due)

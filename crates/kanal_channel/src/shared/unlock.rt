@@ -29,11 +29,11 @@ impl<T: Drop, H: History<T>> Locked<'_, T, H> {
         released
     }
 
-    /// Releases the lock. What the step settled may be told then, and new notices have to be drained.
+    /// Releases the lock. What the step settled may be told then, and notices have to be looked for.
     /// Example: `let (released, due) = locked.unlock()`; then `made.open(&released)`, and `shared.drain_notices(due)`.
     #[inline]
     pub fn unlock(self) -> (Released, MustDrain) {
-        unlock_guard(self.into_guard())
+        Released::by(self.into_guard())
     }
 
     /// Applies the notices under a lock that one try got. Where they take something out, the lock is released,
@@ -49,16 +49,6 @@ impl<T: Drop, H: History<T>> Locked<'_, T, H> {
     }
 }
 
-/// The same, of the guard of a lock under which an internal call was made.
-#[inline]
-fn unlock_guard<T: Drop, H: History<T>>(
-    state: MutexGuard<'_, State<T, H>>,
-) -> (Released, MustDrain) {
-    let released = Released::by(state);
-    let due = MustDrain::after(&released);
-    (released, due)
-}
-
 impl<T: Drop, H: History<T>> Shared<T, H> {
     /// Applies the notices. Where they take something out, the lock is released, and that is told.
     #[cold]
@@ -70,8 +60,9 @@ impl<T: Drop, H: History<T>> Shared<T, H> {
         let Some(applied) = self.apply(&mut state) else {
             return Some(state);
         };
-        let released = Released::by(state);
+        let (released, due) = Released::by(state);
         self.tell_applied(applied, &released);
+        self.drain_notices(due);
         None
     }
 
@@ -91,7 +82,8 @@ impl<T: Drop, H: History<T>> Shared<T, H> {
         self.settle(pass, made, &released, due)
     }
 
-    /// The same, of a lock that one try got: what the notices took out is told first.
+    /// Releases a lock that one try got, after a step of the caller's: tells what the notices took out and then those
+    /// whose waits the step settled, drops what it cleared, and looks for new notices.
     ///
     /// # Examples
     /// ```text
@@ -154,7 +146,7 @@ impl<T: Drop, H: History<T>> Shared<T, H> {
         pending: Pending<T, H>,
         gone: DropResult<T, H>,
     ) {
-        let (released, due) = unlock_guard(state);
+        let (released, due) = Released::by(state);
         self.tell_pending(pending, &released);
         self.tell_dropped(gone, &released);
         self.drain_notices(due);
@@ -167,7 +159,7 @@ impl<T: Drop, H: History<T>> Shared<T, H> {
         pending: Pending<T, H>,
         found: Option<Deferred<Waiter<T, WaiterHandle<T, H>>>>,
     ) {
-        let (released, due) = unlock_guard(state);
+        let (released, due) = Released::by(state);
         self.tell_pending(pending, &released);
         if let Some(waiter) = found {
             drop(waiter.open(&released));
@@ -247,7 +239,8 @@ impl<T: Drop, H: History<T>> Shared<T, H> {
         let _reply = self.hand_out(prefix, made, released);
     }
 
-    /// Drains new notices, after the lock was released or one was left.
+    /// Looks for notices after the lock was released or one was left, and applies them while the lock is free, at most
+    /// 64 times.
     /// Example: `shared.drain_notices(due)`, after `let (released, due) = locked.unlock()`.
     #[inline]
     pub fn drain_notices(&self, due: MustDrain) {
@@ -256,18 +249,18 @@ impl<T: Drop, H: History<T>> Shared<T, H> {
         }
     }
 
-    /// Applies notices while there are some and the lock is free, and looks at most 64 times.
+    /// The same, where there are some.
     #[cold]
     fn drain_slow(&self) {
         for _ in 0..LOOKS {
-            if self.is_quiet() {
-                return;
-            }
             let Some((locked, pending)) = self.try_lock() else {
                 return;
             };
-            let released = Released::by(locked.into_guard());
+            let (released, due) = locked.unlock();
             self.tell_pending(pending, &released);
+            if !self.has_notices(due) {
+                return;
+            }
         }
     }
 }

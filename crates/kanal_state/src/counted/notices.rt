@@ -7,7 +7,6 @@ ghost use Rattle.std.specs.Prelude.{◌≡◌, ◌+◌, false, true, IfNone, IfS
 ghost use Rattle.kanal_state.specs.Counts.{are_sought, gone_handles, has_channel, is_due};
 
 use super::{Counted, CountedWait, Stands, stands};
-use crate::released::Released;
 use crate::side::OfSide;
 use kanal_events::event::Side;
 use std::marker::PhantomData;
@@ -75,8 +74,7 @@ impl GoneWaits {
     }
 }
 
-/// That new notices have to be drained, since one was left or the lock was released. The prover refuses to let it
-/// go.
+/// That notices have to be looked for, since one was left or the lock was released. The prover refuses to let it go.
 pub struct MustDrain {
     due: bool,
 }
@@ -90,14 +88,13 @@ impl Drop for MustDrain {
 }
 
 impl MustDrain {
-    /// After the lock was released.
-    /// Example: `let due = MustDrain::after(&released)`.
+    /// After a release, or a notice.
     #[inline]
-    pub fn after(_released: &Released) -> Self {
+    pub(crate) fn new() -> Self {
         MustDrain { due: true }
     }
 
-    /// They are drained, by who asked whether there are some.
+    /// It is met by who asks whether there are some.
     #[inline]
     fn end(self) {
         let MustDrain { due: _due } = self;
@@ -180,7 +177,7 @@ impl Notices {
         }
     }
 
-    /// Whether there are some, which have to be drained then.
+    /// Whether there are some, as who must drain them asks.
     /// Example: `notices.has_some(due)` answers `true` after a handle was added.
     #[inline]
     pub fn has_some(&self, due: MustDrain) -> bool {
@@ -194,7 +191,7 @@ impl Notices {
         counted.notice();
         self.counter(S::side()).fetch_add(1, SeqCst);
         self.some.fetch_add(1, SeqCst);
-        MustDrain { due: true }
+        MustDrain::new()
     }
 
     /// Takes all handles of a side.
@@ -221,7 +218,7 @@ impl Notices {
         counted.notice();
         self.waits.fetch_add(1, SeqCst);
         self.some.fetch_add(1, SeqCst);
-        MustDrain { due: true }
+        MustDrain::new()
     }
 
     /// How many waits were left.

@@ -16,37 +16,37 @@ use Rattle.kanal.specs.declared.receiver_view.ReceiverView.{ReceiverView}
 use Rattle.kanal.specs.declared.sender.Sender.{Sender}
 use Rattle.kanal.specs.declared.sender_view.SenderView.{SenderView}
 
-module _ {T H P B S C : Type 0} where
+module _ {T Hist Pass Log Prefix Internal : Type 0} where
   -- a sender for threads, as one for tasks
-  abbrev pub sender_for_tasks : Sender T H P B S C → AsyncSender T H P B S C
+  abbrev pub sender_for_tasks : Sender T Hist Pass Log Prefix Internal → AsyncSender T Hist Pass Log Prefix Internal
   sender_for_tasks s = s.inner
 
   -- the sender that a view is over
-  abbrev pub viewed_sender : SenderView T H P B S C → AsyncSender T H P B S C
+  abbrev pub viewed_sender : SenderView T Hist Pass Log Prefix Internal → AsyncSender T Hist Pass Log Prefix Internal
   viewed_sender v = v.sender.now
 
   -- what a sender shares with a receiver
-  abbrev pub handle_of_sender : AsyncSender T H P B S C → Handle T H SendSide P B S C
+  abbrev pub handle_of_sender : AsyncSender T Hist Pass Log Prefix Internal → Handle T Hist SendSide Pass Log Prefix Internal
   handle_of_sender s = s.handle
 
   -- a receiver for threads, as one for tasks
-  abbrev pub receiver_for_tasks : Receiver T H P B S C → AsyncReceiver T H P B S C
+  abbrev pub receiver_for_tasks : Receiver T Hist Pass Log Prefix Internal → AsyncReceiver T Hist Pass Log Prefix Internal
   receiver_for_tasks r = r.inner
 
   -- what a receiver shares with a sender
-  abbrev pub handle_of_receiver : AsyncReceiver T H P B S C → Handle T H ReceiveSide P B S C
+  abbrev pub handle_of_receiver : AsyncReceiver T Hist Pass Log Prefix Internal → Handle T Hist ReceiveSide Pass Log Prefix Internal
   handle_of_receiver r = r.handle
 
   -- the receiver that a view is over
-  abbrev pub viewed_receiver : ReceiverView T H P B S C → AsyncReceiver T H P B S C
+  abbrev pub viewed_receiver : ReceiverView T Hist Pass Log Prefix Internal → AsyncReceiver T Hist Pass Log Prefix Internal
   viewed_receiver v = v.receiver.now
 
   -- the pass by which a receiver's messages come
-  abbrev pub pass_of : {R : Type 0} → Messages T R H P B S C → P
+  abbrev pub pass_of : {R : Type 0} → Messages T R Hist Pass Log Prefix Internal → Pass
   pass_of m = m.pass
 
   -- how many turns a loop over a receiver's messages has at most
-  abbrev pub turns_left : {R : Type 0} → Messages T R H P B S C → ℕ
+  abbrev pub turns_left : {R : Type 0} → Messages T R Hist Pass Log Prefix Internal → ℕ
   turns_left m = forever_left m.turns
 
 module _ {T P A : Type 0} (w : HistoryRelations T P) (old new : P) where

@@ -1,7 +1,6 @@
 //! The receiver of a channel for tasks, over which the receiver for threads and the view are made.
 //!
-//! A call is the channel's call by its caller's pass, of which the body knows nothing; a call that takes no caller
-//! is made by the pass of no content.
+//! Calls are generic in the caller's pass; a call that takes no caller is made by the pass of no content.
 ghost use Rattle.std.specs.Prelude.{◌≡◌, Some, IfErr, IsErrOf, OnErr, Ok, false, codes};
 ghost use Rattle.std.specs.Vec.{vec_capacity, vec_len};
 ghost use Rattle.kanal.specs.Handles.{Clones, handle_of_receiver, receiver_for_tasks, viewed_receiver};
@@ -24,8 +23,7 @@ use std::sync::{Arc, Wait};
 
 /// Receives messages of a channel in a task.
 ///
-/// The channel's receive side is gone when the last receiver of either kind was dropped. A drop waits
-/// for nobody.
+/// The channel's receive side is gone when the last receiver of either kind was dropped. A drop never waits.
 #[derive(Drop)]
 pub struct AsyncReceiver<T, H: History<T> = NoHistory> {
     handle: Handle<T, H, ReceiveSide>,
@@ -58,7 +56,7 @@ impl<T: Drop, H: History<T>> AsyncReceiver<T, H> {
         })
     }
 
-    /// The same receiver for threads: the counts stay. It waits for nobody.
+    /// The same receiver for threads: the counts stay. It never waits.
     ///
     /// # Examples
     /// ```text
@@ -70,7 +68,7 @@ impl<T: Drop, H: History<T>> AsyncReceiver<T, H> {
         Receiver::new(self)
     }
 
-    /// What a thread does with this receiver: the counts stay. It waits for nobody.
+    /// What a thread does with this receiver: the counts stay. It never waits.
     ///
     /// # Examples
     /// ```text
@@ -205,7 +203,7 @@ impl<T: Drop, H: History<T, Pass = ()>> AsyncReceiver<T, H> {
         receive_future(self.channel())
     }
 
-    /// The messages, one receive after the other, until one is refused. It waits for nobody.
+    /// The messages, one receive after the other, until one is refused. It never waits.
     ///
     /// # Examples
     /// ```text
@@ -219,7 +217,7 @@ impl<T: Drop, H: History<T, Pass = ()>> AsyncReceiver<T, H> {
         receive_stream(self.channel(), ())
     }
 
-    /// Receives the front message, if there is one and the lock is free: it waits for nobody.
+    /// Receives the front message, if there is one and the lock is free: it never waits.
     /// `Ok(None)` says that there is none or the lock was held.
     ///
     /// # Errors

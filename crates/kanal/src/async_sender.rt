@@ -1,7 +1,6 @@
 //! The sender of a channel for tasks, over which the sender for threads and the view are made.
 //!
-//! A call is the channel's call by its caller's pass, of which the body knows nothing; a call that takes no caller
-//! is made by the pass of no content.
+//! Calls are generic in the caller's pass; a call that takes no caller is made by the pass of no content.
 ghost use Rattle.std.specs.Prelude.{◌≡◌, ◌≢◌, IfSome, IsSome, None, Ok, Some, true, codes};
 ghost use Rattle.kanal.specs.Handles.{Clones, handle_of_sender, sender_for_tasks, viewed_sender};
 ghost use Rattle.kanal_events.specs.declared.event.Side.{Side};
@@ -21,8 +20,7 @@ use std::sync::{Arc, Wait};
 
 /// Sends messages to a channel from a task.
 ///
-/// The channel's send side is gone when the last sender of either kind was dropped. A drop waits for
-/// nobody.
+/// The channel's send side is gone when the last sender of either kind was dropped. A drop never waits.
 #[derive(Drop)]
 pub struct AsyncSender<T, H: History<T> = NoHistory> {
     handle: Handle<T, H, SendSide>,
@@ -55,7 +53,7 @@ impl<T: Drop, H: History<T>> AsyncSender<T, H> {
         })
     }
 
-    /// The same sender for threads: the counts stay. It waits for nobody.
+    /// The same sender for threads: the counts stay. It never waits.
     ///
     /// # Examples
     /// ```text
@@ -67,7 +65,7 @@ impl<T: Drop, H: History<T>> AsyncSender<T, H> {
         Sender::new(self)
     }
 
-    /// What a thread does with this sender: the counts stay. It waits for nobody.
+    /// What a thread does with this sender: the counts stay. It never waits.
     ///
     /// # Examples
     /// ```text
@@ -191,7 +189,7 @@ impl<T: Drop, H: History<T, Pass = ()>> AsyncSender<T, H> {
         send_future(self.channel(), message)
     }
 
-    /// Sends the message where there is a place for it and the lock is free: it waits for nobody.
+    /// Sends the message where there is a place for it and the lock is free: it never waits.
     /// `Ok(false)` says that there is no place or the lock was held, and the message was dropped.
     ///
     /// # Errors
@@ -208,7 +206,7 @@ impl<T: Drop, H: History<T, Pass = ()>> AsyncSender<T, H> {
     }
 
     /// Sends the option's message where there is a place for it and the lock is free, and empties
-    /// the option exactly then: it waits for nobody.
+    /// the option exactly then: it never waits.
     ///
     /// The caller knows that the option holds a message.
     ///

@@ -55,7 +55,7 @@ pub fn over<T: Drop, H: History<T>>(
 
 /// Makes a channel whose buffer holds so many messages; at 0 each send waits for its receive.
 ///
-/// All memory of the buffer is asked for here. It waits for nobody.
+/// All memory of the buffer is asked for here. It never waits.
 ///
 /// # Errors
 /// `TooLarge` exactly for `usize::MAX`, and `NoMemory` where there is no memory for the channel.
@@ -73,7 +73,7 @@ pub fn bounded<T: Drop>(alloc: Global, size: usize) -> Result<(Sender<T>, Receiv
     Ok((sender.to_sync(), receiver.to_sync()))
 }
 
-/// Makes a channel without limit, whose buffer grows as messages are sent. It waits for nobody.
+/// Makes a channel without limit, whose buffer grows as messages are sent. It never waits.
 ///
 /// # Errors
 /// `NoMemory` where there is no memory for the channel.
@@ -91,7 +91,7 @@ pub fn unbounded<T: Drop>(alloc: Global) -> Result<(Sender<T>, Receiver<T>), New
     Ok((sender.to_sync(), receiver.to_sync()))
 }
 
-/// Makes a channel as `bounded`, with its first handles for tasks. It waits for nobody.
+/// Makes a channel as `bounded`, with its first handles for tasks. It never waits.
 ///
 /// # Errors
 /// `TooLarge` exactly for `usize::MAX`, and `NoMemory` where there is no memory for the channel.
@@ -111,7 +111,7 @@ pub fn bounded_async<T: Drop>(
     handles(alloc, ChannelInternal::new(alloc, size)?)
 }
 
-/// Makes a channel as `unbounded`, with its first handles for tasks. It waits for nobody.
+/// Makes a channel as `unbounded`, with its first handles for tasks. It never waits.
 ///
 /// # Errors
 /// `NoMemory` where there is no memory for the channel.

@@ -1,7 +1,6 @@
 //! A handle of one side, which both kinds are: it holds the channel, and counts itself.
 //!
-//! What is asked of a channel through either side stands here once. It alone has a handle's drop. A call is the
-//! channel's call by its caller's pass, of which the body knows nothing.
+//! What is asked of a channel through either side stands here once. It alone has a handle's drop.
 ghost use Rattle.kanal.specs.Handles.{Clones};
 ghost use Rattle.kanal_events.specs.declared.event.Ask.{Ask};
 ghost use Rattle.kanal_state.specs.Handles.{Asks, Closes, Seals};
@@ -15,7 +14,7 @@ use std::sync::{Arc, Wait};
 
 /// What the handles of a side share, for threads and for tasks: the questions, `seal` and `close`.
 ///
-/// It counts as one handle of its side until it is dropped. A drop waits for nobody.
+/// It counts as one handle of its side until it is dropped. A drop never waits.
 pub struct Handle<T, H: History<T>, S: OfSide> {
     shared: Arc<Shared<T, H>>,
     counted: Counted<S>,

@@ -1,14 +1,7 @@
-//! kanal: one channel for many producers and many consumers.
+//! kanal: one channel for many producers and many consumers, in threads and in tasks.
 //!
-//! A channel has a buffer of chosen size, of none, or without limit. Handles of its two sides are
-//! cloned and dropped, for threads and for tasks, and each kind is made of the other. A thread's blocked
-//! call sleeps until its wait is settled; a task's future is polled, and waits for nobody.
-//!
-//! A handle counts itself and hands on each call to its channel; no lock is taken here.
-//!
-//! Each handle has a history, `NoHistory` where none is named. A call's contract says which step of a line of
-//! messages it was, in the words of every history. Its body is proved for every caller, of whose pass it knows
-//! nothing: so the prover refuses one that makes a second call.
+//! A handle counts itself and hands on each call to its channel; no lock is taken here. A call's contract says
+//! which step of a line of messages it was, in the words of every history.
 #![tactic(auto)]
 
 pub use kanal_cell::signal;

@@ -86,7 +86,7 @@ pub(crate) fn try_for_each<
     answer
 }
 
-/// The same, by this pass.
+/// Receives them by this pass.
 fn receive_until<T: Drop, E: Drop, H: History<T>, R: Wait, F: FnMut(T) -> Result<(), E>>(
     rt: &R,
     receiver: &AsyncReceiver<T, H>,

@@ -25,8 +25,7 @@ use std::{fmt, time};
 /// those of `AsyncReceiver`, by `Deref`: `try_recv` and its kin, `drain_into`, the questions, `seal` and
 /// `close`.
 ///
-/// The channel's receive side is gone when the last receiver of either kind was dropped. A drop waits
-/// for nobody.
+/// The channel's receive side is gone when the last receiver of either kind was dropped. A drop never waits.
 #[derive(Drop)]
 pub struct Receiver<T, H: History<T> = NoHistory> {
     inner: AsyncReceiver<T, H>,
@@ -40,7 +39,7 @@ impl<T: Drop, H: History<T>> Receiver<T, H> {
         Receiver { inner }
     }
 
-    /// The same receiver for tasks: the counts stay. It waits for nobody.
+    /// The same receiver for tasks: the counts stay. It never waits.
     ///
     /// # Examples
     /// ```text
@@ -53,7 +52,7 @@ impl<T: Drop, H: History<T>> Receiver<T, H> {
         inner
     }
 
-    /// This receiver as one for tasks: the counts stay. It waits for nobody.
+    /// This receiver as one for tasks: the counts stay. It never waits.
     ///
     /// # Examples
     /// ```text

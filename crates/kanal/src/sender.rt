@@ -1,8 +1,7 @@
-//! The sender of a channel for threads.
+//! The sender of a channel for threads: the sender for tasks, by `Deref`, with the calls that wait.
 //!
-//! It is the sender for tasks, by `Deref`, and adds the calls that wait where that one's is a future, the clones
-//! and the conversions. Nothing is done here but handing on. Where a call is refused its message is dropped, but
-//! for the call that is lent an option.
+//! Nothing is done here but handing on. Where a call is refused its message is dropped, but for the call that is
+//! lent an option.
 ghost use Rattle.std.specs.Prelude.{◌≡◌, IfErr, IfSome, IsSome, None, Ok, Some, codes};
 ghost use Rattle.std.specs.Duration.{as_nanos};
 ghost use Rattle.kanal.specs.Handles.{Clones, sender_for_tasks};
@@ -23,8 +22,7 @@ use std::{fmt, time};
 /// It is an `AsyncSender` whose calls wait where that one's are futures. The other calls are those of
 /// `AsyncSender`, by `Deref`: `try_send` and its kin, the questions, `seal` and `close`.
 ///
-/// The channel's send side is gone when the last sender of either kind was dropped. A drop waits for
-/// nobody.
+/// The channel's send side is gone when the last sender of either kind was dropped. A drop never waits.
 #[derive(Drop)]
 pub struct Sender<T, H: History<T> = NoHistory> {
     inner: AsyncSender<T, H>,
@@ -38,7 +36,7 @@ impl<T: Drop, H: History<T>> Sender<T, H> {
         Sender { inner }
     }
 
-    /// The same sender for tasks: the counts stay. It waits for nobody.
+    /// The same sender for tasks: the counts stay. It never waits.
     ///
     /// # Examples
     /// ```text
@@ -51,7 +49,7 @@ impl<T: Drop, H: History<T>> Sender<T, H> {
         inner
     }
 
-    /// This sender as one for tasks: the counts stay. It waits for nobody.
+    /// This sender as one for tasks: the counts stay. It never waits.
     ///
     /// # Examples
     /// ```text

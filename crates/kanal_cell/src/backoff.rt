@@ -1,8 +1,7 @@
-//! How a blocked call waits: it looks for its outcome with pauses, and a few times with yields, and then sleeps
-//! until it is told or its deadline comes.
+//! How a blocked call waits: it looks for its outcome with pauses, then with yields, and then sleeps.
 //!
-//! Its name is kanal's, after the spinning that is its first part. No other module puts a thread to sleep for an
-//! outcome. It sleeps on the word of its cell and asks for no memory, so a wait that has begun is never refused.
+//! No other module puts a thread to sleep for an outcome. It sleeps on the word of its cell and asks for no memory,
+//! so a wait that has begun is never refused.
 ghost use Rattle.std.specs.Prelude.{◌≡◌, ◌≤◌, IfErr};
 ghost use Rattle.kanal_cell.specs.CellRule.{MaySleep};
 ghost use Rattle.kanal_cell.specs.CellEnds.{wait_view};
@@ -17,7 +16,7 @@ use crate::clock::Clock;
 use crate::signal::WaitEnd;
 use awake::{Asleep, Awake};
 pub use contention::{Contention, LOCK_TRIES};
-use policy::Looks;
+use policy::Backoff;
 pub use policy::WaitPolicy;
 use std::sync::Wait;
 use std::time;
@@ -130,7 +129,7 @@ fn sleep<P: Drop, R: Wait>(rt: &R, awake: Awake<P>) -> P {
     }
 }
 
-/// The same, while the clock is below the deadline.
+/// Sleeps until the outcome is there or the deadline has come.
 #[cold]
 fn sleep_until<P: Drop, R: Wait + time::Clock, C: Clock>(
     rt: &R,
@@ -149,26 +148,26 @@ fn sleep_until<P: Drop, R: Wait + time::Clock, C: Clock>(
 
 /// Looks for the outcome, as the channel's policy says.
 fn look<P: Drop>(policy: &WaitPolicy, awake: Awake<P>) -> Result<P, Awake<P>> {
-    let mut looks = Looks::new(policy);
+    let mut backoff = Backoff::new(policy);
     let mut awake = awake;
     for _ in 0..LOOKS {
         if awake.is_settled() {
             match awake.poll() {
                 Ok(outcome) => {
-                    looks.end();
+                    backoff.end();
                     return Ok(outcome);
                 },
                 Err(back) => awake = back,
             }
         }
-        if !looks.go_on() {
+        if !backoff.snooze() {
             return Err(awake);
         }
     }
     Err(awake)
 }
 
-/// The same, while the clock is below the deadline, and once after that.
+/// Looks for the outcome while the clock is below the deadline, and once after that.
 fn look_until<P: Drop, C: Clock>(
     policy: &WaitPolicy,
     awake: Awake<P>,
@@ -177,13 +176,13 @@ fn look_until<P: Drop, C: Clock>(
 ) -> Looked<P>
     ensures late { LooksBy (C.answers clock.now) deadline result }
 {
-    let mut looks = Looks::new(policy);
+    let mut backoff = Backoff::new(policy);
     let mut awake = awake;
     for _ in 0..LOOKS {
         let moment = clock.now();
         match awake.poll() {
             Ok(outcome) => {
-                looks.end();
+                backoff.end();
                 return Looked::Outcome(outcome);
             },
             Err(back) => awake = back,
@@ -191,7 +190,7 @@ fn look_until<P: Drop, C: Clock>(
         if moment >= deadline {
             return Looked::Late(awake, moment);
         }
-        if !looks.go_on() {
+        if !backoff.snooze() {
             return Looked::Early(awake);
         }
     }
@@ -210,8 +209,8 @@ fn park<P: Drop, R: Wait>(rt: &R, asleep: Asleep<P>) -> P {
     unreachable!()
 }
 
-/// The same, while the clock is below the deadline, and looks once after that. It sleeps for at most
-/// a millisecond of real time before it reads the clock again, and for no longer than is left.
+/// Sleeps until the outcome is there or the deadline has come, and looks once after that. It sleeps for at most a
+/// millisecond of real time before it reads the clock again, and for no longer than is left.
 fn park_until<P: Drop, R: Wait + time::Clock, C: Clock>(
     rt: &R,
     asleep: Asleep<P>,

@@ -1,7 +1,6 @@
 //! Clocks for timed calls: the trait by which one is handed in, the system's, and one for tests.
 //!
-//! A timed call reads its clock with the lock released. Of a clock's word `answers` a timed call knows one thing,
-//! that it holds of what `now` answered: so a clause that says it of a moment can be met by such a moment alone.
+//! A timed call reads its clock with the lock released. `answers t` holds only of moments that `now` answered.
 ghost use Rattle.std.specs.Prelude.{◌≡◌, ◌≤◌, ◌<◌, ◌+◌, ◌^◌, MatchOption, ℕ};
 ghost use Rattle.std.specs.Duration.{as_nanos};
 
@@ -116,10 +115,10 @@ impl Clock for TestClock {
 ///
 /// # Examples
 /// ```text
-/// later(7, Duration::from_nanos(5))          answers  Some(12)
-/// later(u64::MAX, Duration::from_nanos(1))   answers  None
+/// deadline_after(7, Duration::from_nanos(5))          answers  Some(12)
+/// deadline_after(u64::MAX, Duration::from_nanos(1))   answers  None
 /// ```
-pub fn later(moment: u64, duration: Duration) -> Option<u64>
+pub fn deadline_after(moment: u64, duration: Duration) -> Option<u64>
     ensures sum { MatchOption result (2 ^ 64 ≤ moment + as_nanos duration)
         (λ late. (late ≡ moment + as_nanos duration) × (late < 2 ^ 64)) }
 {

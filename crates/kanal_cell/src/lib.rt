@@ -1,9 +1,7 @@
-//! The hand-over cell: one outcome goes from a settler to a waiter, who may be in another thread; and how a blocked
-//! call waits at it.
+//! The hand-over cell: one outcome goes from a settler to a waiter; and how a blocked call waits at it.
 //!
-//! `signal` has the two ends, the same cell as plain data, and its law; none of its calls waits. `backoff` is how a
-//! blocked call waits at the waiting end, `clock` has the clocks by which a timed one measures. Nothing here knows
-//! of a channel, and nothing starts a thread.
+//! `signal` has the two ends and their law, `backoff` waits, `clock` measures. Nothing here knows of a channel, and
+//! nothing starts a thread.
 #![tactic(auto)]
 
 mod backoff;
@@ -14,5 +12,5 @@ mod pointer;
 pub mod signal;
 
 pub use backoff::{Contention, LOCK_TRIES, WaitPolicy, Waiting};
-pub use clock::{Clock, SystemClock, TestClock, later};
-pub use pauses::{Pauses, pause_once};
+pub use clock::{Clock, SystemClock, TestClock, deadline_after};
+pub use pauses::{PollBackoff, pause_once};

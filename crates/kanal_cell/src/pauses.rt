@@ -1,8 +1,7 @@
-//! Pauses by spins alone: nobody gives the processor away in them.
+//! Pauses by spins alone, which keep the processor.
 //!
-//! A call that finds the lock held pauses between its tries, and one that finds no place in a buffer, or no
-//! message in it, before it looks once more. A poll has one try, and pauses before it asks for another poll;
-//! nothing else may make a poll wait.
+//! A call pauses between its tries of a held lock, and before it looks at the buffer once more. Nothing else may
+//! make a poll wait.
 use std::hint;
 
 /// The longest pause, as a power of two of spins.
@@ -45,19 +44,19 @@ pub fn pause_once() {
 ///
 /// # Examples
 /// ```text
-/// let mut pauses = Pauses::new();
+/// let mut pauses = PollBackoff::new();
 /// pauses.pause();   spins 16 times
 /// pauses.pause();   spins 64 times
 /// ```
 #[derive(Copy, Clone)]
-pub struct Pauses {
+pub struct PollBackoff {
     power: u32,
 }
 
-impl Pauses {
+impl PollBackoff {
     /// Of a future whose last poll did not find the lock held.
     pub fn new() -> Self {
-        Pauses { power: FIRST }
+        PollBackoff { power: FIRST }
     }
 
     /// Pauses, and longer at the next call.

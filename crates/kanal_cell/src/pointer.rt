@@ -1,7 +1,6 @@
 //! Put and take of a cell's two slots.
 //!
-//! It stands on `atomic_table`. Only `signal` may use it: a put or a take is right only while the
-//! end is lent the slot, which the conditions here say and which the steps in `signal` bring about.
+//! Only `signal` may use it: a put or a take is right only while the end is lent the slot.
 ghost use Rattle.std.specs.Prelude.{◌≡◌, ◌∷◌};
 ghost use Rattle.atomic_table.specs.Table.{rest};
 ghost use Rattle.kanal_cell.specs.CellRule.{Carries, IsOutcome, IsSleeper};

@@ -1,15 +1,8 @@
-//! The hand-over cell: one outcome of type `P` goes from its `SettleEnd` to its `WaitEnd`, which
-//! may act at the same instant on two threads.
+//! The hand-over cell: one outcome of type `P` goes from its `SettleEnd` to its `WaitEnd`, which may act at the
+//! same instant on two threads. The same cell as plain data is `CellCore`.
 //!
-//! It stands on `atomic_table` and on `pointer`, and every step is one atomic operation on one
-//! word. No call waits or takes a runtime value (but for `park` and `park_timeout`), takes memory (but
-//! for `new` and `cell_run`), or tries a step again. The same cell as plain data is `CellCore`.
-//!
-//! What may not be done with an end: a `WaitEnd` that has left may not be polled, put to sleep or
-//! left again. It may be put to sleep once, and not after it gave the outcome. A `SettleEnd` that
-//! has settled may not be settled, asked or given a waker again. The calls' conditions say so. An
-//! end can be neither copied nor made, and dropping one tells the other nothing: who gives up a
-//! wait calls `leave`, who owes an outcome calls `settle`.
+//! Every step is one atomic operation on one word. No call waits (but for `park` and `park_timeout`), takes memory
+//! (but for `new` and `cell_run`), or tries a step again. Dropping an end tells the other nothing.
 ghost use Rattle.std.specs.Prelude.{◌≡◌};
 ghost use Rattle.std.specs.Arc.{arc_value};
 ghost use Rattle.kanal_cell.specs.CellRule.{IsWaiter, IsSettler};

@@ -12,7 +12,7 @@ module _ {T : Type 0} where
   abbrev pub line_under : Line T × Bool → Line T
   line_under locked = locked.0
 
-module _ {T H P B S C : Type 0} where
+module _ {T Hist Pass Log Prefix Internal : Type 0} where
   -- the notices took nothing out
-  abbrev pub takes_nothing : Pending T H P B S C → Type 0
+  abbrev pub takes_nothing : Pending T Hist Pass Log Prefix Internal → Type 0
   takes_nothing pending = pending.applied ≡ None

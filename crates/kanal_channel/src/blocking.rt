@@ -46,7 +46,7 @@ impl<T: Drop, H: History<T>> Shared<T, H> {
         self.call_held(self.lock(rt), pass, event)
     }
 
-    /// The same, under the lock that was got.
+    /// Makes the call under the lock that was got.
     pub(crate) fn call_held(
         &self,
         locked: Locked<'_, T, H>,

@@ -1,7 +1,7 @@
 //! Receiving: the calls of a pass by which a message leaves the line.
 //!
-//! Each call here is one event, and its answer is what the reply reads as. A message leaves by itself where it can;
-//! only where it can't the longer ways are gone.
+//! Each call here is one event, and its answer is what the reply reads as. First comes the fast path, which pops
+//! from the buffer if nobody waits.
 ghost use Rattle.std.specs.Prelude.{◌≡◌, ◌∷◌, [], Err, IfErr, IfOk, IsErrOf, OnErr};
 ghost use Rattle.std.specs.Option.{option_to_list};
 ghost use Rattle.std.specs.Duration.{as_nanos};
@@ -13,7 +13,7 @@ ghost use Rattle.kanal_channel.specs.Deadlines.{TimedPost};
 use crate::blocking::WaitOutcome;
 use crate::shared::{Locked, Shared};
 use crate::timed::received_in_time;
-use kanal_cell::{Clock, later};
+use kanal_cell::{Clock, deadline_after};
 use kanal_core::error::{ReceiveError, ReceiveErrorTimeout};
 use kanal_events::event::{Event, Reply};
 use kanal_state::History;
@@ -53,7 +53,7 @@ impl<T: Drop, H: History<T>> Shared<T, H> {
         }
     }
 
-    /// The same, under the lock that was got, where no message left the buffer by itself.
+    /// The receive, under the lock that was got, where no message left the buffer by itself.
     #[inline(always)]
     fn recv_held<R: Wait>(
         &self,
@@ -70,7 +70,7 @@ impl<T: Drop, H: History<T>> Shared<T, H> {
         }
     }
 
-    /// The same, where there is a buffer. While that is empty it looks once more after a pause before it waits,
+    /// The receive, where there is a buffer. While that is empty it looks once more after a pause before it waits,
     /// since the other side is often about to bring a message.
     #[cold]
     fn recv_again<R: Wait>(
@@ -94,7 +94,7 @@ impl<T: Drop, H: History<T>> Shared<T, H> {
         }
     }
 
-    /// The same, where a sender that waits may be let in, or may hand its message over; otherwise the call is
+    /// The receive, where a sender that waits may be let in, or may hand its message over; otherwise the call is
     /// refused, or waits.
     #[cold]
     fn recv_waiting<R: Wait>(
@@ -139,7 +139,7 @@ impl<T: Drop, H: History<T>> Shared<T, H> {
         }
     }
 
-    /// The same, under the lock that was got, where no message left the buffer by itself.
+    /// The receive, under the lock that was got, where no message left the buffer by itself.
     #[cold]
     #[tactic(auto, using(kanal_state::proofs::Settling::free_replied))]
     fn try_recv_held(
@@ -152,7 +152,7 @@ impl<T: Drop, H: History<T>> Shared<T, H> {
         asked_by(self.call_held(locked, pass, Event::TryRecv))
     }
 
-    /// Receives the front message, if there is one and the lock is free: it waits for nobody. `Ok(None)` says
+    /// Receives the front message, if there is one and the lock is free: it never waits. `Ok(None)` says
     /// that there is none, or that the lock was held and no call was made.
     ///
     /// # Errors
@@ -204,7 +204,7 @@ impl<T: Drop, H: History<T>> Shared<T, H> {
         ensures got { IfOk result (λ message. H.exchanges pass.old pass.new [] (message ∷ [])) }
     {
         let moment = clock.now();
-        let Some(deadline) = later(moment, duration) else {
+        let Some(deadline) = deadline_after(moment, duration) else {
             return Err(ReceiveErrorTimeout::DeadlineOutOfRange);
         };
         let now = clock.now();

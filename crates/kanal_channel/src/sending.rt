@@ -1,7 +1,7 @@
 //! Sending: the calls of a pass by which a message enters the line.
 //!
-//! Each call here is one event, and its answer is what the reply reads as. A message enters by itself where it can;
-//! only where it can't the longer ways are gone.
+//! Each call here is one event, and its answer is what the reply reads as. First comes the fast path, which pushes
+//! into the buffer if nobody waits.
 ghost use Rattle.std.specs.Prelude.{◌≡◌, ◌≢◌, ◌∷◌, [], cond, IfErr, IfOk, IfSome, IsSome, None, Ok, true};
 ghost use Rattle.std.specs.Duration.{as_nanos};
 ghost use Rattle.kanal_state.specs.Handles.{Sends, SendsInTime, TriesToSend, TriesToSendNow};
@@ -13,7 +13,7 @@ ghost use Rattle.kanal_channel.specs.Deadlines.{TimedPost};
 use crate::blocking::WaitOutcome;
 use crate::shared::{Locked, Shared};
 use crate::timed::sent_in_time;
-use kanal_cell::{Clock, later};
+use kanal_cell::{Clock, deadline_after};
 use kanal_core::error::{SendError, SendErrorTimeout};
 use kanal_events::event::{Event, Reply};
 use kanal_state::History;
@@ -65,7 +65,7 @@ impl<T: Drop, H: History<T>> Shared<T, H> {
         }
     }
 
-    /// The same, under the lock that was got, where the message did not enter by itself.
+    /// The send, under the lock that was got, where the message did not enter by itself.
     #[inline(always)]
     fn send_held<R: Wait>(
         &self,
@@ -83,7 +83,7 @@ impl<T: Drop, H: History<T>> Shared<T, H> {
         }
     }
 
-    /// The same, where there is a buffer. While that is full it looks once more after a pause before it waits,
+    /// The send, where there is a buffer. While that is full it looks once more after a pause before it waits,
     /// since the other side is often about to make a place.
     #[cold]
     fn send_again<R: Wait>(
@@ -108,7 +108,7 @@ impl<T: Drop, H: History<T>> Shared<T, H> {
         }
     }
 
-    /// The same, where it may be handed to a receiver that waits; otherwise the call is refused, or waits.
+    /// The send, where it may be handed to a receiver that waits; otherwise the call is refused, or waits.
     #[cold]
     fn send_waiting<R: Wait>(
         &self,
@@ -177,7 +177,7 @@ impl<T: Drop, H: History<T>> Shared<T, H> {
         }
     }
 
-    /// The same, under the lock that was got, where the message did not enter by itself.
+    /// The send, under the lock that was got, where the message did not enter by itself.
     #[cold]
     #[tactic(auto, using(crate::proofs::Backs::offered, crate::proofs::Backs::sent_leaves, crate::proofs::Backs::refused_stays))]
     fn offer_held(
@@ -224,7 +224,7 @@ impl<T: Drop, H: History<T>> Shared<T, H> {
         self.offer(rt, pass, message, option)
     }
 
-    /// Sends the message if it can enter at once and the lock is free: it waits for nobody. `Ok(false)` says
+    /// Sends the message if it can enter at once and the lock is free: it never waits. `Ok(false)` says
     /// that there is no place for it, or that the lock was held and no call was made; the message is dropped.
     ///
     /// # Errors
@@ -263,7 +263,7 @@ impl<T: Drop, H: History<T>> Shared<T, H> {
     }
 
     /// Sends the option's message if it can enter at once and the lock is free, and empties the option exactly
-    /// then: it waits for nobody.
+    /// then: it never waits.
     ///
     /// The caller knows that the option holds a message.
     ///
@@ -370,7 +370,7 @@ impl<T: Drop, H: History<T>> Shared<T, H> {
         ensures kept { IfErr result (λ e. StartedNoWait e → back.new ≡ Some message) }
     {
         let moment = clock.now();
-        let Some(deadline) = later(moment, duration) else {
+        let Some(deadline) = deadline_after(moment, duration) else {
             *back = Some(message);
             return Err(SendErrorTimeout::DeadlineOutOfRange);
         };

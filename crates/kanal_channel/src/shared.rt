@@ -1,9 +1,7 @@
-//! What the handles of a channel share: the lock round the core and its history, and the notices of those
-//! that may not wait for the lock.
+//! What the handles of a channel share: the lock round the core and its history, and the notices.
 //!
-//! A call takes the lock, makes one step, and releases the lock; only then it tells those whose waits the step
-//! settled. A call that may not wait leaves a notice where the lock is held, which whoever gets the lock next
-//! applies. `locked` alone takes the notices, and `unlock` alone releases the lock and tells.
+//! A call that may not wait leaves a notice where the lock is held, which whoever gets the lock next applies.
+//! `locked` alone takes the notices, and `unlock` alone releases the lock and wakes.
 ghost use Rattle.std.specs.Prelude.{◌≡◌, IsErrOf};
 ghost use Rattle.kanal_cell.specs.CellEnds.{wait_view};
 ghost use Rattle.kanal_core.specs.Channel.{line_of};
@@ -82,7 +80,7 @@ impl<T: Drop, H: History<T>> Shared<T, H> {
         }
     }
 
-    /// The same, for handles: with the tokens of the channel's first sender and first receiver.
+    /// As `new`, for handles: with the tokens of the channel's first sender and first receiver.
     /// Example: `let (shared, first) = Shared::with_handles(core, NoHistory, (), (), alloc)?`; then
     /// `let (sender, receiver) = first.into_tokens()`.
     ///
@@ -124,14 +122,14 @@ impl<T: Drop, H: History<T>> Shared<T, H> {
         self.has_buffer
     }
 
-    /// How many waits were left while the lock was held, and not withdrawn yet. It waits for nobody.
+    /// How many waits were left while the lock was held, and not withdrawn yet. It never waits.
     /// Example: `shared.left_waits()` answers `1` after a future that waited was dropped while the lock was held.
     #[doc(hidden)] // For tests of what stays in the line while the lock is held.
     pub fn left_waits(&self) -> u64 {
         self.notices.waits()
     }
 
-    /// A handle goes away: it waits for nobody.
+    /// A handle goes away: it never waits.
     /// Example: `shared.drop_handle(counted)`: the last sender ends the receivers that wait.
     pub fn drop_handle<S: OfSide>(&self, counted: Counted<S>) {
         match self.try_lock() {
@@ -147,7 +145,7 @@ impl<T: Drop, H: History<T>> Shared<T, H> {
         }
     }
 
-    /// Gives up the wait of a future that has left its cell. It waits for nobody.
+    /// Gives up the wait of a future that has left its cell. It never waits.
     /// Example: `shared.leave(counted, end)` withdraws the wait, or leaves a notice where the lock is held.
     pub fn leave(&self, counted: CountedWait, end: WaitEnd<WaitResult<T, H>>)
         requires left { HasLeftCell (wait_view end) }

@@ -3,7 +3,7 @@ use Rattle.std.proofs.Common.{◌≡◌, ℕ, true, List, [], ◌∷◌, ◌++�
 use Rattle.kanal_core.specs.declared.internal.outcome.Settled.{Settled}
 use Rattle.kanal_core.specs.declared.internal.outcome.Waiter.{Waiter}
 use Rattle.kanal_core.specs.Line.{IsWithin}
-use Rattle.kanal_core.specs.Rooms.{Room}
+use Rattle.kanal_core.specs.BufferViews.{BufferView}
 use Rattle.kanal_core.specs.Channel.{line_of, settlements}
 use Rattle.kanal_core.specs.Waiters.{sender_first}
 use Rattle.kanal_core.specs.Handing.{LetsIn}
@@ -14,7 +14,7 @@ use Rattle.kanal_core.proofs.Stepping.{row, takes-alone, takes-let-in}
 use Rattle.kanal_core.proofs.Sounding.{side-let-in, rises-tail}
 
 -- what a take from the buffer leaves and tells
-pub record TakenSoundly {T W : Type 0} (c : Option ℕ) (s r n : ℕ) (m : T) (ws : List (Waiter T W)) (b : Room T) (o : Option (Settled T W)) (after : Room T) (new : List (Waiter T W)) : Type 0 where
+pub record TakenSoundly {T W : Type 0} (c : Option ℕ) (s r n : ℕ) (m : T) (ws : List (Waiter T W)) (b : BufferView T) (o : Option (Settled T W)) (after : BufferView T) (new : List (Waiter T W)) : Type 0 where
   pub step : TakesFront (line_of (row c s r n (m ∷ b.messages) ws)) m (settlements o) (line_of (row c s r n after.messages new))
   pub oldest : OldestLeft ws o new
   pub side : IsOneSided after.messages c new
@@ -33,11 +33,11 @@ as-long m sent ms (Some c) h = omega (arith, h, length-append ms (sent ∷ []))
 not-empty : {T : Type 0} (m : T) (ms : List T) → m ∷ ms ≡ [] → ⊥
 not-empty m ms e = absurd (cc)
 
-module _ {T W : Type 0} (c : Option ℕ) (s r n : ℕ) (m : T) (ws : List (Waiter T W)) (b : Room T) (side : IsOneSided (m ∷ b.messages) c ws) (within : IsWithin (length (m ∷ b.messages)) c) (rises : Rises 0 ws n) (some_receiver : r ≡ 0 → ⊥) where
+module _ {T W : Type 0} (c : Option ℕ) (s r n : ℕ) (m : T) (ws : List (Waiter T W)) (b : BufferView T) (side : IsOneSided (m ∷ b.messages) c ws) (within : IsWithin (length (m ∷ b.messages)) c) (rises : Rises 0 ws n) (some_receiver : r ≡ 0 → ⊥) where
   first-sends : (first : Waiter T W) (new : List (Waiter T W)) (sent : T) → ws ≡ first ∷ new → first.message ≡ Some sent → sender_first ws ≡ true
   first-sends first new sent was e = rw (was, e) refl
 
-  pub taken-soundly : (o : Option (Settled T W)) (after : Room T) (new : List (Waiter T W)) → LetsIn b ws o after new → TakenSoundly c s r n m ws b o after new
+  pub taken-soundly : (o : Option (Settled T W)) (after : BufferView T) (new : List (Waiter T W)) → LetsIn b ws o after new → TakenSoundly c s r n m ws b o after new
   taken-soundly None after new h =
       let none = nobody-behind (m ∷ b.messages) c ws side within h.0 (not-empty m b.messages) in
       record {

@@ -10,7 +10,7 @@ use Rattle.kanal_core.specs.declared.internal.outcome.Outcome.{Outcome}
 use Rattle.kanal_core.specs.declared.internal.outcome.Outcome.TheVariants.{Ended}
 use Rattle.kanal_core.specs.declared.internal.outcome.Waiter.{Waiter}
 use Rattle.kanal_core.specs.Line.{LineEntry, Line, bare, messages, under, is_below, holds_ticket, IsWithin}
-use Rattle.kanal_core.specs.Moves.{serve, ended_entry, quiet}
+use Rattle.kanal_core.specs.Moves.{serve, ended_entry, none_settled}
 use Rattle.kanal_core.specs.Channel.{ended_by, settlement}
 use Rattle.kanal_core.specs.Waiters.{receiver_first, sender_first}
 use Rattle.kanal_core.specs.Sided.{AllSend, AllReceive, IsOneSided}
@@ -39,7 +39,7 @@ module _ {T : Type 0} where
   bare-ends reason (m ∷ ms) = bare-ends reason ms
 
   -- with nothing to serve, the demands wait on
-  pub serve-nothing : (old : Line T) (ds : List ℕ) → serve old [] ds ≡ quiet (record old { line = []; demands = ds })
+  pub serve-nothing : (old : Line T) (ds : List ℕ) → serve old [] ds ≡ none_settled (record old { line = []; demands = ds })
   serve-nothing old [] = refl
   serve-nothing old (d ∷ ds) = refl
 

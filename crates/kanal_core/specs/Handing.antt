@@ -4,11 +4,11 @@ use Rattle.kanal_core.specs.declared.internal.outcome.Outcome.TheVariants.{Taken
 use Rattle.kanal_core.specs.declared.internal.outcome.Settled.{Settled}
 use Rattle.kanal_core.specs.declared.internal.outcome.Waiter.{Waiter}
 use Rattle.kanal_core.specs.Line.{is_below}
-use Rattle.kanal_core.specs.Rooms.{Room}
+use Rattle.kanal_core.specs.BufferViews.{BufferView}
 use Rattle.kanal_core.specs.Waiters.{sender_first}
 
 -- a limited buffer with a place left
-abbrev pub HasOnePlace : {T : Type 0} → Room T → Type 0
+abbrev pub HasOnePlace : {T : Type 0} → BufferView T → Type 0
 HasOnePlace b = (b.limit ≢ None) × (is_below (length b.messages) b.limit ≡ true)
 
 module _ {T W : Type 0} where
@@ -26,6 +26,6 @@ module _ {T W : Type 0} where
     pub settled : s ≡ record { ticket = first.ticket; w = first.w; outcome = Taken }
 
   -- the oldest sender's message went to the buffer's back, or no sender waits
-  abbrev pub LetsIn : Room T → List (Waiter T W) → Option (Settled T W) → Room T → List (Waiter T W) → Type 0
+  abbrev pub LetsIn : BufferView T → List (Waiter T W) → Option (Settled T W) → BufferView T → List (Waiter T W) → Type 0
   LetsIn buffer old None after new = (sender_first old ≡ false) × (after ≡ buffer) × (new ≡ old)
   LetsIn buffer old (Some s) after new = (m : T) × TakesSender old m s new × (after ≡ record buffer { messages = buffer.messages ++ m ∷ [] })

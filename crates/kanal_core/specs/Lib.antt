@@ -11,7 +11,7 @@ pub mod Moves
 pub mod Channel
 pub mod Calls
 pub mod Endings
-pub mod Rooms
+pub mod BufferViews
 pub mod Stores
 pub mod Sided
 pub mod Handing

@@ -23,15 +23,15 @@ pub record Moved (T : Type 0) : Type 0 where
 
 module _ {T : Type 0} where
   -- nothing is settled
-  abbrev pub quiet : Line T → Moved T
-  quiet line = record { line = line; settled = [] }
+  abbrev pub none_settled : Line T → Moved T
+  none_settled line = record { line = line; settled = [] }
 
   -- Serving: while a message and a demand are there, the front goes to the first demand.
   -- One side of a channel's line is always empty, so only an entering message is ever served here. Moves go by the
   -- tickets in the entries; that a send waits by its place is a law, `tickets_follow_places` of `kanal_journal::laws`.
   abbrev pub serve : Line T → List (LineEntry T) → List ℕ → Moved T
-  serve old line [] = quiet (record old { line = line; demands = [] })
-  serve old [] (d ∷ ds) = quiet (record old { line = []; demands = d ∷ ds })
+  serve old line [] = none_settled (record old { line = line; demands = [] })
+  serve old [] (d ∷ ds) = none_settled (record old { line = []; demands = d ∷ ds })
   serve old (e ∷ es) (d ∷ ds) = let rest = serve old es ds in record rest { settled = (d, Given e.message) ∷ rest.settled }
 
   -- Entering: the message goes to the line's end, and is served if a demand waits.
@@ -92,11 +92,11 @@ module _ {T : Type 0} where
   -- Dropping: a count that is not 0 falls by one, and the last of a side ends all that waits.
   abbrev pub drop_sender : Line T → Moved T
   drop_sender old =
-      cond (old.senders == 1) (end_all (record old { senders = 0 }) SendClosed) (quiet (record old { senders = old.senders - 1 }))
+      cond (old.senders == 1) (end_all (record old { senders = 0 }) SendClosed) (none_settled (record old { senders = old.senders - 1 }))
 
   abbrev pub drop_receiver : Line T → Moved T
   drop_receiver old =
-      cond (old.receivers == 1) (end_all (record old { receivers = 0 }) ReceiveClosed) (quiet (record old { receivers = old.receivers - 1 }))
+      cond (old.receivers == 1) (end_all (record old { receivers = 0 }) ReceiveClosed) (none_settled (record old { receivers = old.receivers - 1 }))
 
   -- Sealing: no sender is left, and each demand ends; the line stays.
   abbrev pub seal : Line T → Moved T

@@ -1,13 +1,8 @@
-//! The core: one channel as plain data, to be used by one caller at a time.
+//! The core: one channel as plain data, to be used by one caller at a time. Each call is one step of a line of
+//! messages: those of the buffer, then those of waiting senders. Where it is empty, receivers may wait.
 //!
-//! A channel is a line of messages. The first places of the line, up to the capacity, are the
-//! buffer; the places after them are waiting senders' messages; and where the line is empty,
-//! receivers may wait. Each call is one step of that line, waits for nobody, and says in its
-//! contract which step it is.
-//!
-//! No other module uses `buffer` and `wait_list`. The calls on counts and the close are in `handles`, the drain is in
-//! `draining`, and what can be asked is in `queries`. Whoever shares a core puts it behind a lock, and settles or drops
-//! what a call hands out only after the release.
+//! No other module uses `buffer` and `wait_list`. Whoever shares a core settles or drops what a call hands out only
+//! after the lock was released.
 ghost use Rattle.std.specs.Prelude.{◌≡◌, ◌≢◌, ◌⊎◌, ◌≤◌, ℕ, false, ◌↔◌, [], true, length, map, IfOk, IfErr, IfNone, IsErr, IsErrOf, IsOk, IsSome, Some, None};
 ghost use Rattle.std.specs.Borrow.{sem};
 ghost use Rattle.std.specs.Fn.{FnReturnsAt};
@@ -39,7 +34,7 @@ mod steps;
 mod wait_list;
 
 use buffer::Buffer;
-pub use leaving::{Cleared, Closing, Ended, Left};
+pub use leaving::{Cleared, Closing, Ended, Remaining};
 pub use outcome::{Offer, Outcome, Reason, Settled, Take, Ticket, Waiter};
 pub use steps::Steps;
 use wait_list::WaitList;
@@ -473,12 +468,12 @@ impl<T, W> ChannelInternal<T, W> {
     /// let mut left = core.into_messages();
     /// left.next()   answers  the front of the line, and so on
     /// ```
-    pub fn into_messages(self) -> Left<T, W>
+    pub fn into_messages(self) -> Remaining<T, W>
     where
         T: Drop,
         W: Drop,
         ensures { result ≡ messages (line_of self).line }
     {
-        Left::new(self.buffer, self.waiters)
+        Remaining::new(self.buffer, self.waiters)
     }
 }

@@ -1,9 +1,7 @@
-//! The lock round a value that threads share.
+//! The lock round a value that threads share. It is never poisoned.
 //!
-//! A thin room over std's `Mutex`, for the channels of this repository: `kanal_recorded` and
-//! `kanal_channel` each share a core by it. The value got keeps its type's invariant; nothing else
-//! is known of it when the lock is got. No other module takes std's lock, so that how a channel is
-//! shared is chosen here alone. A lock is never poisoned.
+//! The value keeps its type's invariant; nothing else is known of it when the lock is got. No other module takes
+//! std's lock.
 use std::sync;
 use std::sync::{MutexGuard, Wait};
 
@@ -38,7 +36,7 @@ impl<T> Mutex<T> {
         self.inner.lock(rt)
     }
 
-    /// Tries once to take the lock; `None` where it is held. It waits for nobody.
+    /// Tries once to take the lock; `None` where it is held. It never waits.
     ///
     /// # Examples
     /// ```text

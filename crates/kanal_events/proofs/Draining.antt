@@ -7,10 +7,10 @@ use Rattle.kanal_core.specs.Line.{Line, messages}
 use Rattle.kanal_core.specs.Moves.{Moved, drain}
 use Rattle.kanal_core.specs.Calls.{MovesTo}
 use Rattle.kanal_events.specs.declared.event.Reply.TheVariants.{Drained}
-use Rattle.kanal_events.specs.Steps.{Told, take_line}
+use Rattle.kanal_events.specs.Steps.{StepSpec, take_line}
 
 module _ {T : Type 0} where
-  abbrev told : Line T → ℕ → List (ℕ × Outcome T) → List T → Told T
+  abbrev told : Line T → ℕ → List (ℕ × Outcome T) → List T → StepSpec T
   told line count settled drained = record { line = line; reply = Drained count; settled = settled; drained = drained; cleared = [] }
 
   -- what a vector gained by a drain are the messages of the line

@@ -6,8 +6,8 @@ use Rattle.kanal_core.specs.declared.internal.outcome.Waiter.{Waiter}
 use Rattle.kanal_core.specs.Channel.{Channel, after_drain}
 use Rattle.kanal_core.specs.Waiters.{same_ticket, sender_first, without}
 use Rattle.kanal_core.specs.Calls.{WaitsLast}
-use Rattle.kanal_events.specs.declared.step_result.Kept.{Kept}
-use Rattle.kanal_events.specs.declared.step_result.Kept.TheVariants.{Ticket as Waiting, Back}
+use Rattle.kanal_events.specs.declared.step_result.Placement.{Placement}
+use Rattle.kanal_events.specs.declared.step_result.Placement.TheVariants.{Ticket as Waiting, Back}
 use Rattle.kanal_events.specs.Given.{AreKept, Gives, GivesNone, GivesOne}
 
 -- what stands in a list stands there with one more at its end
@@ -66,7 +66,7 @@ module _ {T W : Type 0} where
       }
 
   -- a step that gave no ticket, and one behind it
-  pub gives-after : (kept : Kept W) (old mid new : Channel T W) → GivesNone old mid → Gives kept mid new → Gives kept old new
+  pub gives-after : (kept : Placement W) (old mid new : Channel T W) → GivesNone old mid → Gives kept mid new → Gives kept old new
   gives-after (Waiting t) old mid new none one =
       record {
         number = one.number ∙ none.next;

@@ -4,8 +4,8 @@ use Rattle.kanal_core.specs.declared.internal.outcome.Ticket.{Ticket}
 use Rattle.kanal_core.specs.declared.internal.outcome.Waiter.{Waiter}
 use Rattle.kanal_core.specs.Channel.{Channel}
 use Rattle.kanal_core.specs.Tickets.{number_of}
-use Rattle.kanal_events.specs.declared.step_result.Kept.{Kept}
-use Rattle.kanal_events.specs.declared.step_result.Kept.TheVariants.{Ticket as Waiting, Back}
+use Rattle.kanal_events.specs.declared.step_result.Placement.{Placement}
+use Rattle.kanal_events.specs.declared.step_result.Placement.TheVariants.{Ticket as Waiting, Back}
 
 module _ {T W : Type 0} where
   -- the ticket of each who waits stands at its number among the tickets that were given
@@ -25,6 +25,6 @@ module _ {T W : Type 0} where
     pub kept : (given : List Ticket) → length given ≡ old.next → AreKept given old.waiters → AreKept (given ++ ticket ∷ []) new.waiters
 
   -- the ticket that the caller has in hand was given; or none was
-  abbrev pub Gives : Kept W → Channel T W → Channel T W → Type 0
+  abbrev pub Gives : Placement W → Channel T W → Channel T W → Type 0
   Gives (Waiting ticket) old new = GivesOne ticket old new
   Gives (Back w) old new = GivesNone old new

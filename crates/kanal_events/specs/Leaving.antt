@@ -6,10 +6,10 @@ use Rattle.kanal_core.specs.Channel.{Channel, line_of}
 use Rattle.kanal_events.specs.declared.event.Event.{Event}
 use Rattle.kanal_events.specs.declared.step_result.Leaving.{Leaving}
 use Rattle.kanal_events.specs.declared.step_result.Leaving.TheVariants.{One, All, Shut, Drained}
-use Rattle.kanal_events.specs.declared.step_result.Answered.{Answered}
+use Rattle.kanal_events.specs.declared.step_result.FastResult.{FastResult}
 use Rattle.kanal_events.specs.declared.step_result.StepResult.{StepResult}
-use Rattle.kanal_events.specs.declared.step_result.Kept.{Kept}
-use Rattle.kanal_events.specs.declared.step_result.Kept.TheVariants.{Ticket as Waiting, Back}
+use Rattle.kanal_events.specs.declared.step_result.Placement.{Placement}
+use Rattle.kanal_events.specs.declared.step_result.Placement.TheVariants.{Ticket as Waiting, Back}
 use Rattle.kanal_events.specs.Given.{GivesNone}
 use Rattle.kanal_events.specs.StepResult.{made_of, told_of}
 use Rattle.kanal_events.specs.Steps.{Tells, message_of}
@@ -38,12 +38,12 @@ module _ {T W : Type 0} where
   Leave (x ∷ old) (s ∷ gone) new = (s.ticket ≡ x.ticket) × (s.w ≡ x.w) × Leave old gone new
 
   -- the same of a call that waits where it must; where it must nobody left
-  abbrev pub LeaveTried : List (Waiter T W) → Result (Answered T W) (Event T) → List (Waiter T W) → Type 0
+  abbrev pub LeaveTried : List (Waiter T W) → Result (FastResult T W) (Event T) → List (Waiter T W) → Type 0
   LeaveTried old (Ok answered) new = Leave old (gone_of (made_of answered)) new
   LeaveTried old (Err back) new = new ≡ old
 
   -- behind those that waited stands the call, with its message and what it brought; or nobody came, and that is back
-  abbrev pub WaitPost : List (Waiter T W) → Event T → W → Kept W → List (Waiter T W) → Type 0
+  abbrev pub WaitPost : List (Waiter T W) → Event T → W → Placement W → List (Waiter T W) → Type 0
   WaitPost old event w (Waiting ticket) new = new ≡ old ++ record { ticket = ticket; message = message_of event; w = w } ∷ []
   WaitPost old event w (Back back) new = (back ≡ w) × (new ≡ old)
 

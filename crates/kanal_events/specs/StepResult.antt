@@ -10,14 +10,14 @@ use Rattle.kanal_events.specs.declared.event.Event.TheVariants.{Send, Recv, Drai
 use Rattle.kanal_events.specs.declared.event.Refusal.TheVariants.{NotWaiting}
 use Rattle.kanal_events.specs.declared.event.Reply.{Reply}
 use Rattle.kanal_events.specs.declared.event.Reply.TheVariants.{Cleared, Drained as HasDrained, Got, Refused, Sent, Waits, Withdrawn}
-use Rattle.kanal_events.specs.Steps.{Told, Tells, IsWait, only}
-use Rattle.kanal_events.specs.declared.step_result.Answered.{Answered}
+use Rattle.kanal_events.specs.Steps.{StepSpec, Tells, IsWait, only}
+use Rattle.kanal_events.specs.declared.step_result.FastResult.{FastResult}
 use Rattle.kanal_events.specs.declared.step_result.Leaving.{Leaving}
 use Rattle.kanal_events.specs.declared.step_result.Leaving.TheVariants.{One, All, Shut, Drained}
 use Rattle.kanal_events.specs.declared.step_result.StepResult.{StepResult}
 use Rattle.kanal_events.specs.declared.step_result.Wakeup.{Wakeup}
-use Rattle.kanal_events.specs.declared.step_result.Kept.{Kept}
-use Rattle.kanal_events.specs.declared.step_result.Kept.TheVariants.{Ticket as Waiting, Back}
+use Rattle.kanal_events.specs.declared.step_result.Placement.{Placement}
+use Rattle.kanal_events.specs.declared.step_result.Placement.TheVariants.{Ticket as Waiting, Back}
 
 module _ {T : Type 0} where
   -- a send or a receive that waits where it must
@@ -41,19 +41,19 @@ module _ {T : Type 0} where
   MustWait l event = ⊥
 
   -- what a withdrawal tells, with the line after it
-  abbrev pub withdrawn : Line T → Option T → Told T
+  abbrev pub withdrawn : Line T → Option T → StepSpec T
   withdrawn line back = only line (Withdrawn back)
 
   -- what a withdrawal tells where nobody waits with its ticket
-  abbrev pub not_waiting : Line T → Told T
+  abbrev pub not_waiting : Line T → StepSpec T
   not_waiting line = only line (Refused NotWaiting None)
 
   -- what a send tells that entered and settled nobody, with the line after it
-  abbrev pub entered : Line T → Told T
+  abbrev pub entered : Line T → StepSpec T
   entered line = only line Sent
 
   -- what a receive tells that got this message and settled nobody, with the line after it
-  abbrev pub got : T → Line T → Told T
+  abbrev pub got : T → Line T → StepSpec T
   got m line = only line (Got m)
 
 module _ {T W : Type 0} where
@@ -126,22 +126,22 @@ module _ {T W : Type 0} where
   cleared_of made = cleared_of_left made.leaving
 
   -- all that it tells, with the line after it
-  abbrev pub told_of : Line T → StepResult T W → Told T
+  abbrev pub told_of : Line T → StepResult T W → StepSpec T
   told_of line made =
       record { line = line; reply = reply_of made; settled = settled_of made; drained = drained_of made; cleared = cleared_of made }
 
   -- what a send or a receive told that was answered at once, as what any step told
-  abbrev pub made_of : Answered T W → StepResult T W
+  abbrev pub made_of : FastResult T W → StepResult T W
   made_of answered = record { leaving = One answered.reply answered.settled }
 
   -- the event was made, and doesn't wait; or it must wait, comes back, and nothing changed
-  abbrev pub Tries : Line T → Event T → Result (Answered T W) (Event T) → Line T → Type 0
+  abbrev pub Tries : Line T → Event T → Result (FastResult T W) (Event T) → Line T → Type 0
   Tries old event (Ok answered) new =
       Tells old event (told_of new (made_of answered)) × (IsWait (reply_of (made_of answered)) → ⊥)
   Tries old event (Err back) new = (back ≡ event) × (new ≡ old) × MustWait old event
 
 module _ {T W : Type 0} where
   -- the call waits under this ticket; or it doesn't wait
-  abbrev pub Keeps : Reply T → Kept W → Type 0
+  abbrev pub Keeps : Reply T → Placement W → Type 0
   Keeps reply (Waiting ticket) = reply ≡ Waits (number_of ticket)
   Keeps reply (Back w) = IsWait reply → ⊥

@@ -15,7 +15,7 @@ use Rattle.kanal_events.specs.declared.event.Reply.{Reply}
 use Rattle.kanal_events.specs.declared.event.Reply.TheVariants.{Sent, Waits, Yes, No, Got, Nothing, Drained, Withdrawn, Done, Cleared, Number, Flag, Refused}
 
 -- what one event tells: the line after it, the reply, the tickets that it settles, the messages that it drains and those that it clears
-pub record Told (T : Type 0) : Type 0 where
+pub record StepSpec (T : Type 0) : Type 0 where
   pub line : Line T
   pub reply : Reply T
   pub settled : List (ℕ × Outcome T)
@@ -24,15 +24,15 @@ pub record Told (T : Type 0) : Type 0 where
 
 module _ {T : Type 0} where
   -- the event gives this reply, and leaves this line
-  abbrev pub only : Line T → Reply T → Told T
+  abbrev pub only : Line T → Reply T → StepSpec T
   only line reply = record { line = line; reply = reply; settled = []; drained = []; cleared = [] }
 
   -- the event moves the line so, and gives this reply
-  abbrev pub moving : Moved T → Reply T → Told T
+  abbrev pub moving : Moved T → Reply T → StepSpec T
   moving moved reply = record { line = moved.line; reply = reply; settled = moved.settled; drained = []; cleared = [] }
 
   -- a message is offered: it enters, or the call goes on in its own way
-  abbrev pub offer : Line T → T → Reply T → Told T → Told T
+  abbrev pub offer : Line T → T → Reply T → StepSpec T → StepSpec T
   offer old m entered otherwise =
       cond (old.receivers == 0)
       (only old (Refused (cond (old.senders == 0) Closed ReceiveClosed) (Some m)))
@@ -43,24 +43,24 @@ module _ {T : Type 0} where
       )
 
   -- the front is taken if there is one, or the call goes on in its own way
-  abbrev pub take_front : Line T → List (LineEntry T) → Told T → Told T
+  abbrev pub take_front : Line T → List (LineEntry T) → StepSpec T → StepSpec T
   take_front old [] otherwise = otherwise
   take_front old (e ∷ es) otherwise = moving (leave old (e ∷ []) es) (Got e.message)
 
   -- a message is asked for
-  abbrev pub take : Line T → Told T → Told T
+  abbrev pub take : Line T → StepSpec T → StepSpec T
   take old otherwise = cond (old.receivers == 0) (only old (Refused Closed None)) (take_front old old.line otherwise)
 
   -- on an empty line: no sender is left, or the call goes on in its own way
-  abbrev pub nothing_there : Line T → Told T → Told T
+  abbrev pub nothing_there : Line T → StepSpec T → StepSpec T
   nothing_there old otherwise = cond (old.senders == 0) (only old (Refused SendClosed None)) otherwise
 
   -- a wait is started under the next ticket, if there is one
-  abbrev pub wait : Line T → Line T → Option T → Told T
+  abbrev pub wait : Line T → Line T → Option T → StepSpec T
   wait old new back = cond (old.next == last_word) (only old (Refused TooMany back)) (only new (Waits old.next))
 
   -- a ticket is withdrawn: a demand leaves, or an entry with its message
-  abbrev pub withdraw : Line T → ℕ → List T → Told T
+  abbrev pub withdraw : Line T → ℕ → List T → StepSpec T
   withdraw old t [] = cond (has t old.demands) (only (without_demand old t) (Withdrawn None)) (only old (Refused NotWaiting None))
   withdraw old t (m ∷ ms) = only (without_entry old t) (Withdrawn (Some m))
 
@@ -69,25 +69,25 @@ module _ {T : Type 0} where
   is_closed old = (old.senders == 0) && (old.receivers == 0)
 
   -- the channel is sealed, if a sender is left: the receives that wait end
-  abbrev pub seal_line : Line T → Told T
+  abbrev pub seal_line : Line T → StepSpec T
   seal_line old = cond (old.senders == 0) (only old (Refused CloseError None)) (moving (seal old) Done)
 
   -- the channel is closed: all waits end, and the buffer is cleared
-  abbrev pub shut : Line T → Told T
+  abbrev pub shut : Line T → StepSpec T
   shut old =
       cond (is_closed old)
       (only old (Refused CloseError None))
       (record (moving (close old) (Cleared (length (cleared old)))) { cleared = cleared old })
 
   -- the whole line is taken
-  abbrev pub take_line : Line T → Told T
+  abbrev pub take_line : Line T → StepSpec T
   take_line old =
       cond (old.receivers == 0)
       (only old (Refused Closed None))
       (record (moving (drain old) (Drained (length old.line))) { drained = messages old.line })
 
   -- a handle of a side with this count is cloned, if the count may rise
-  abbrev pub cloned : Line T → ℕ → Line T → Told T
+  abbrev pub cloned : Line T → ℕ → Line T → StepSpec T
   cloned old count new = cond (count == last_count) (only old (Refused TooMany None)) (only new Done)
 
   -- the other side is gone
@@ -108,7 +108,7 @@ module _ {T : Type 0} where
   answer old side IsDisconnected = Flag (is_disconnected old side)
 
   -- what the event does, through a live handle and where it is not refused for memory
-  abbrev pub step : Line T → Event T → Told T
+  abbrev pub step : Line T → Event T → StepSpec T
   step old (Send m) = offer old m Sent (wait old (wait_send old m) (Some m))
   step old (TrySend m) = offer old m Yes (only old (No m))
   step old Recv = take old (nothing_there old (wait old (wait_recv old) None))
@@ -132,7 +132,7 @@ module _ {T : Type 0} where
   message_of event = None
 
   -- the event is refused: nothing changes, and its message comes back
-  abbrev pub refused : Line T → Refusal → Event T → Told T
+  abbrev pub refused : Line T → Refusal → Event T → StepSpec T
   refused old reason event = only old (Refused reason (message_of event))
 
   -- the call waits
@@ -153,7 +153,7 @@ module _ {T : Type 0} where
   MayRefuse old event = ⊥
 
   -- the event was made, or was refused for memory where it may be
-  abbrev pub Tells : Line T → Event T → Told T → Type 0
+  abbrev pub Tells : Line T → Event T → StepSpec T → Type 0
   Tells old event told = (told ≡ step old event) ⊎ (MayRefuse old event × (told ≡ refused old NoMemory event))
 
   -- the reply to an event that found no memory: its message comes back

@@ -1,9 +1,6 @@
 //! What a step told, as it leaves the core, and what it owes to those whose waits it settled.
 //!
-//! A value here holds all that left the core at one step: nothing of it is settled, noted or dropped while the lock is
-//! held. Only `steps` makes one that settled a wait. Such a wait is owed to who waits: it leaves a `StepResult` by
-//! `next` alone and an `Answered` by `into_parts` alone, and the prover refuses to let go one of them that may still
-//! have one, or a `Wakeup` that nobody was told of.
+//! Only `steps` makes a value that settled a wait. The prover refuses to let one go that still owes a `Wakeup`.
 ghost use Rattle.std.specs.Prelude.{◌≡◌, ℕ, [], ◌∷◌, None, true, MatchOption};
 ghost use Rattle.kanal_core.specs.Channel.{settlements};
 ghost use Rattle.kanal_core.specs.declared.internal.outcome.Outcome.{Outcome};
@@ -301,28 +298,28 @@ impl<T: Drop, W: Drop> StepResult<T, W> {
 
 /// What a send or a receive told that was answered at once: its reply, and at most one wait that it settled.
 /// It is a `StepResult` that takes fewer bytes.
-pub struct Answered<T, W> {
+pub struct FastResult<T, W> {
     reply: Reply<T>,
     settled: Option<Settled<T, W>>,
 }
 
-impl<T: Drop, W: Drop> Drop for Answered<T, W> {
+impl<T: Drop, W: Drop> Drop for FastResult<T, W> {
     fn drop(self)
         requires nobody { settled_of (made_of self) ≡ [] }
     {
-        let Answered { reply, settled } = self;
+        let FastResult { reply, settled } = self;
         drop(reply);
         drop(settled);
     }
 }
 
-impl<T: Drop, W: Drop> Answered<T, W> {
+impl<T: Drop, W: Drop> FastResult<T, W> {
     /// A reply, and the wait that was settled, if one was.
     #[inline(always)]
     pub(crate) fn new(reply: Reply<T>, settled: Option<Settled<T, W>>) -> Self
         ensures { made_of result ≡ record { leaving = Leaving.One reply settled } }
     {
-        Answered { reply, settled }
+        FastResult { reply, settled }
     }
 
     /// The reply, and who is owed what became of his wait.
@@ -333,17 +330,17 @@ impl<T: Drop, W: Drop> Answered<T, W> {
         ensures reply { result.0 ≡ reply_of (made_of self) }
         ensures owed { owed_by result.1 ≡ settled_of (made_of self) }
     {
-        let Answered { reply, settled } = self;
+        let FastResult { reply, settled } = self;
         (reply, Wakeup::from_settled(settled))
     }
 
-    /// The same as what any step told.
+    /// As the result of any step.
     /// Example: `shared.settle(&mut pass, answered.into_made())` answers the reply.
     #[inline(always)]
     pub fn into_made(self) -> StepResult<T, W>
         ensures { result ≡ made_of self }
     {
-        let Answered { reply, settled } = self;
+        let FastResult { reply, settled } = self;
         StepResult::one(reply, settled)
     }
 
@@ -359,7 +356,7 @@ impl<T: Drop, W: Drop> Answered<T, W> {
 
 /// What the caller of a call that may wait has in hand then.
 #[derive(Drop)]
-pub enum Kept<W> {
+pub enum Placement<W> {
     /// The ticket under which the call waits.
     Ticket(Ticket),
     /// What was brought for a wait: the call doesn't wait.

@@ -1,8 +1,7 @@
-//! The steps of a channel, each a function that is lent the core.
+//! The steps of a channel, each a function that is lent the core and says what it told.
 //!
-//! A step makes one call on the core (a send or a receive that waits: two), says in the line's terms what that told,
-//! and which ticket it gave, and hands out all that left the core. Nothing is settled, noted or dropped here, since
-//! whoever shares a core has its lock. `W` is what a waiter brings: the steps don't look into it.
+//! Nothing is settled or dropped here, since whoever shares a core has its lock. `W` is what a waiter brings: the
+//! steps don't look into it.
 ghost use Rattle.std.specs.Prelude.{◌≡◌, ◌==◌, ◌+◌, ◌<◌, ◌≤◌, ◌&&◌, ◌++◌, length, true, false, Some, None, IfErr, IfNone, IfOk, IfSome, OnOk};
 ghost use Rattle.std.specs.Vec.{vec_capacity, vec_len};
 ghost use Rattle.kanal_core.specs.Channel.{line_of};
@@ -15,7 +14,7 @@ ghost use Rattle.kanal_events.specs.Leaving.{IsStep, WaitPost, Leave, LeaveTried
 ghost use Rattle.kanal_events.specs.StepResult.{Keeps, MustWait, Tries, drained_of, entered, got, is_drained, is_plain, may_wait, not_waiting, reply_of, told_of, withdrawn};
 
 use crate::event::{Ask, Event, Refusal, Reply, Side};
-use crate::step_result::{Answered, Kept, Moved, StepResult};
+use crate::step_result::{FastResult, Moved, Placement, StepResult};
 use kanal_core::error::{DrainError, WaitError};
 use kanal_core::internal::{ChannelInternal, Offer, Settled, Steps, Take, Ticket, Waiter};
 use std::marker::Brand;
@@ -98,10 +97,10 @@ fn recv_late<T: Drop, W: Drop>(core: &mut ChannelInternal<T, W>) -> StepResult<T
 fn answered<T: Drop, W: Drop>(
     reply: Reply<T>,
     settled: Option<Settled<T, W>>,
-) -> Result<Answered<T, W>, Event<T>>
+) -> Result<FastResult<T, W>, Event<T>>
     ensures { result ≡ Ok (record { reply = reply; settled = settled }) }
 {
-    Ok(Answered::new(reply, settled))
+    Ok(FastResult::new(reply, settled))
 }
 
 /// Offers the message of a call that waits where there is no place for it.
@@ -110,7 +109,7 @@ fn answered<T: Drop, W: Drop>(
 fn offer<T: Drop, W: Drop>(
     core: &mut ChannelInternal<T, W>,
     message: T,
-) -> Result<Answered<T, W>, Event<T>>
+) -> Result<FastResult<T, W>, Event<T>>
     ensures step { Tries (line_of core.old) (Event.Send message) result (line_of core.new) }
     ensures tickets { GivesNone core.old core.new }
     ensures leave { LeaveTried core.old.waiters result core.new.waiters }
@@ -130,7 +129,7 @@ fn offer<T: Drop, W: Drop>(
 /// Asks for a message, for a call that waits where there is none.
 #[inline(always)]
 #[tactic(auto, using(crate::proofs::Leaving::oldest_leaves))]
-fn take<T: Drop, W: Drop>(core: &mut ChannelInternal<T, W>) -> Result<Answered<T, W>, Event<T>>
+fn take<T: Drop, W: Drop>(core: &mut ChannelInternal<T, W>) -> Result<FastResult<T, W>, Event<T>>
     ensures step { Tries (line_of core.old) Event.Recv result (line_of core.new) }
     ensures tickets { GivesNone core.old core.new }
     ensures leave { LeaveTried core.old.waiters result core.new.waiters }
@@ -154,7 +153,7 @@ fn take<T: Drop, W: Drop>(core: &mut ChannelInternal<T, W>) -> Result<Answered<T
 pub fn start<T: Drop, W: Drop>(
     core: &mut ChannelInternal<T, W>,
     event: Event<T>,
-) -> Result<Answered<T, W>, Event<T>>
+) -> Result<FastResult<T, W>, Event<T>>
     requires waits { may_wait event ≡ true }
     ensures step { Tries (line_of core.old) event result (line_of core.new) }
     ensures tickets { GivesNone core.old core.new }
@@ -173,7 +172,7 @@ fn wait_send<T: Drop, W: Drop>(
     core: &mut ChannelInternal<T, W>,
     message: T,
     w: W,
-) -> (Reply<T>, Kept<W>)
+) -> (Reply<T>, Placement<W>)
     requires full { IsFull (line_of core.old) }
     ensures told { Tells (line_of core.old) (Event.Send message)
         (only (line_of core.new) result.0) }
@@ -182,19 +181,25 @@ fn wait_send<T: Drop, W: Drop>(
     ensures comes { WaitPost core.old.waiters (Event.Send message) w result.1 core.new.waiters }
 {
     match core.wait_send(message, w) {
-        Ok(ticket) => (Reply::Waits(ticket.number()), Kept::Ticket(ticket)),
+        Ok(ticket) => (Reply::Waits(ticket.number()), Placement::Ticket(ticket)),
         Err((WaitError::TooMany, back, w)) => {
-            (Reply::Refused(Refusal::TooMany, Some(back)), Kept::Back(w))
+            (
+                Reply::Refused(Refusal::TooMany, Some(back)),
+                Placement::Back(w),
+            )
         },
         Err((WaitError::NoMemory, back, w)) => {
-            (Reply::Refused(Refusal::NoMemory, Some(back)), Kept::Back(w))
+            (
+                Reply::Refused(Refusal::NoMemory, Some(back)),
+                Placement::Back(w),
+            )
         },
     }
 }
 
 /// Starts the wait of a receive that found no message.
 #[inline(always)]
-fn wait_recv<T: Drop, W: Drop>(core: &mut ChannelInternal<T, W>, w: W) -> (Reply<T>, Kept<W>)
+fn wait_recv<T: Drop, W: Drop>(core: &mut ChannelInternal<T, W>, w: W) -> (Reply<T>, Placement<W>)
     requires empty { IsEmpty (line_of core.old) }
     ensures told { Tells (line_of core.old) Event.Recv (only (line_of core.new) result.0) }
     ensures kept { Keeps result.0 result.1 }
@@ -202,10 +207,12 @@ fn wait_recv<T: Drop, W: Drop>(core: &mut ChannelInternal<T, W>, w: W) -> (Reply
     ensures comes { WaitPost core.old.waiters Event.Recv w result.1 core.new.waiters }
 {
     match core.wait_recv(w) {
-        Ok(ticket) => (Reply::Waits(ticket.number()), Kept::Ticket(ticket)),
-        Err((WaitError::TooMany, w)) => { (Reply::Refused(Refusal::TooMany, None), Kept::Back(w)) },
+        Ok(ticket) => (Reply::Waits(ticket.number()), Placement::Ticket(ticket)),
+        Err((WaitError::TooMany, w)) => {
+            (Reply::Refused(Refusal::TooMany, None), Placement::Back(w))
+        },
         Err((WaitError::NoMemory, w)) => {
-            (Reply::Refused(Refusal::NoMemory, None), Kept::Back(w))
+            (Reply::Refused(Refusal::NoMemory, None), Placement::Back(w))
         },
     }
 }
@@ -217,7 +224,7 @@ pub fn wait<T: Drop, W: Drop>(
     core: &mut ChannelInternal<T, W>,
     event: Event<T>,
     w: W,
-) -> (Reply<T>, Kept<W>)
+) -> (Reply<T>, Placement<W>)
     requires waits { may_wait event ≡ true }
     requires must { MustWait (line_of core.old) event }
     ensures told { Tells (line_of core.old) event (only (line_of core.new) result.0) }
@@ -239,14 +246,14 @@ pub fn make_waiting<T: Drop, W: Drop>(
     core: &mut ChannelInternal<T, W>,
     event: Event<T>,
     w: W,
-) -> (StepResult<T, W>, Kept<W>)
+) -> (StepResult<T, W>, Placement<W>)
     requires waits { may_wait event ≡ true }
     ensures told { Tells (line_of core.old) event (told_of (line_of core.new) result.0) }
     ensures kept { Keeps (reply_of result.0) result.1 }
     ensures tickets { Gives result.1 core.old core.new }
 {
     match start(core, event) {
-        Ok(answered) => (answered.into_made(), Kept::Back(w)),
+        Ok(answered) => (answered.into_made(), Placement::Back(w)),
         Err(event) => {
             let (reply, kept) = wait(core, event, w);
             (StepResult::replied(reply), kept)

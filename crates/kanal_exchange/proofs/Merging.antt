@@ -3,11 +3,11 @@ use Rattle.std.proofs.Common.{◌≡◌, ◌+◌, ℕ, suc, Bool, true, false, c
 use mathlib.Core.List.{IsPrefix}
 use Rattle.std.proofs.Math.Seq.{take-length}
 use Rattle.std.proofs.lemmas.Bool.{cases_Bool}
-use Rattle.kanal_log.specs.Views.{Known, IsAmong, AreDisjoint, OwnsAllButQuiet}
+use Rattle.kanal_log.specs.Views.{Known, IsAmong, AreDisjoint, OwnsAllBut}
 use Rattle.kanal_log.proofs.Places.{among-cases, among-left, among-right}
 use Rattle.kanal_journal.specs.Paired.{History, Demand, sent, asked, cleared_by, kept, receipts, receipts_from, send_stays, demand_stays, without_last, ArePaired, Paired}
 use Rattle.kanal_state.specs.declared.call.Call.{Call}
-use Rattle.kanal_state.specs.Calls.{IsSilent}
+use Rattle.kanal_state.specs.Calls.{MovesNoMessage}
 use Rattle.kanal_one_history.specs.Calls.{IsLegal, history_of}
 use Rattle.kanal_one_history.specs.Puts.{ExchangesNothing, WaitsAsSettled}
 use Rattle.kanal_one_history.proofs.Exchanging.{got_longer, got_none, got_received, put_kept, put_longer, put_none}
@@ -65,11 +65,11 @@ module _ {E X : Type 0} (f : E → List X) where
   -- what is read of all is a merge of what is read at the places of the two, where the third reads nothing and all else is silent
   pub read-merged : (calm : E → Type 0) → ((e : E) → calm e → f e ≡ []) → (one two other : List ℕ) (n : ℕ) (xs : List E) → AreCovered calm (other ++ (two ++ one)) n xs → AreDisjoint one two → AreDisjoint one other → AreDisjoint two other → read_at f other n xs ≡ []
       → IsMerge (read_all f xs) (read_at f one n xs) (read_at f two n xs)
-  read-merged calm quiet one two other n [] all ab ac bc none = Neither
-  read-merged calm quiet one two other n (x ∷ xs) all ab ac bc none =
+  read-merged calm unowned one two other n [] all ab ac bc none = Neither
+  read-merged calm unowned one two other n (x ∷ xs) all ab ac bc none =
       let front : cond (is_at n other) (f x) [] ≡ [] = left-nil (cond (is_at n other) (f x) []) (read_at f other (suc n) xs) none in
       let back : read_at f other (suc n) xs ≡ [] = right-nil (cond (is_at n other) (f x) []) (read_at f other (suc n) xs) none in
-      let r = read-merged calm quiet one two other (suc n) xs all.1 ab ac bc back in
+      let r = read-merged calm unowned one two other (suc n) xs all.1 ab ac bc back in
       ⊎_elim
       (λ (a : IsAmong n (other ++ (two ++ one))).
       ⊎_elim
@@ -92,7 +92,7 @@ module _ {E X : Type 0} (f : E → List X) where
       (among-cases n two one d))
       (among-cases n other (two ++ one) a))
       (λ (s : calm x).
-      let e : f x ≡ [] = quiet x s in
+      let e : f x ≡ [] = unowned x s in
       subst (λ (us : List X). IsMerge (us ++ read_all f xs) (cond (is_at n one) us [] ++ read_at f one (suc n) xs) (cond (is_at n two) us [] ++ read_at f two (suc n) xs)) (sym e)
       (subst (λ (us : List X). IsMerge (read_all f xs) (us ++ read_at f one (suc n) xs) (cond (is_at n two) [] [] ++ read_at f two (suc n) xs)) (sym (nil-either (is_at n one)))
       (subst (λ (us : List X). IsMerge (read_all f xs) (read_at f one (suc n) xs) (us ++ read_at f two (suc n) xs)) (sym (nil-either (is_at n two))) r)))
@@ -122,7 +122,7 @@ turned k xs ys zs a =
 module _ {T : Type 0} where
   -- three passes beside whom nobody put or got: what the third got, if that is as much as the two put, is a merge of what they put
   pub merged : (capacity : Option ℕ) (one two other : Known (Call T)) (log : List (Call T)) (first second got : List T) → Tells first [] one → Tells second [] two → Tells [] got other → IsPrefix one.log log → IsPrefix two.log log → IsPrefix other.log log
-      → AreDisjoint one.own two.own → AreDisjoint one.own other.own → AreDisjoint two.own other.own → IsLegal capacity log → OwnsAllButQuiet (λ (c : Call T). IsSilent c.event) log (other.own ++ (two.own ++ one.own)) → length got ≡ length first + length second → IsMerge got first second
+      → AreDisjoint one.own two.own → AreDisjoint one.own other.own → AreDisjoint two.own other.own → IsLegal capacity log → OwnsAllBut (λ (c : Call T). MovesNoMessage c.event) log (other.own ++ (two.own ++ one.own)) → length got ≡ length first + length second → IsMerge got first second
   merged capacity one two other log first second got s1 s2 r seen1 seen2 heard ab ac bc legal owns count =
       let all = owned_covered capacity log (other.own ++ (two.own ++ one.own)) legal owns in
       let waits : WaitsAsSettled log = waits_as_settled capacity log legal in

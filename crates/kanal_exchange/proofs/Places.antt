@@ -13,10 +13,10 @@ abbrev pub read_all : {E X : Type 0} → (E → List X) → List E → List X
 read_all f [] = []
 read_all f (e ∷ es) = f e ++ read_all f es
 
--- each entry stands at one of the places or is quiet; the first has the place n
+-- each entry stands at one of the places or is unowned; the first has the place n
 abbrev pub AreCovered : {E : Type 0} → (E → Type 0) → List ℕ → ℕ → List E → Type 0
-AreCovered quiet own n [] = Unit {0}
-AreCovered quiet own n (e ∷ es) = (IsAmong n own ⊎ quiet e) × AreCovered quiet own (suc n) es
+AreCovered unowned own n [] = Unit {0}
+AreCovered unowned own n (e ∷ es) = (IsAmong n own ⊎ unowned e) × AreCovered unowned own (suc n) es
 
 -- the test and the fact
 pub at-true : (k : ℕ) (xs : List ℕ) → IsAmong k xs → is_at k xs ≡ true
@@ -79,12 +79,12 @@ module _ {E X : Type 0} (f : E → List X) where
       a ∙ (ap (λ zs. zs ++ read_at f (length before ∷ own) (0 + length before) (call ∷ [])) (b ∙ c) ∙ ap (λ zs. read_at f own 0 old ++ zs) (rw here (append-nil (f call))))
 
   -- where each entry at the places of neither is silent, and nothing is read at those of one, all is read at those of the other
-  pub read-whole : (quiet : E → Type 0) → ((e : E) → quiet e → f e ≡ []) → (mine theirs : List ℕ) (n : ℕ) (xs : List E) → AreCovered quiet (theirs ++ mine) n xs → AreDisjoint mine theirs → read_at f theirs n xs ≡ [] → read_all f xs ≡ read_at f mine n xs
-  read-whole quiet none-read mine theirs n [] all apart none = refl
-  read-whole quiet none-read mine theirs n (x ∷ xs) all apart none =
+  pub read-whole : (unowned : E → Type 0) → ((e : E) → unowned e → f e ≡ []) → (mine theirs : List ℕ) (n : ℕ) (xs : List E) → AreCovered unowned (theirs ++ mine) n xs → AreDisjoint mine theirs → read_at f theirs n xs ≡ [] → read_all f xs ≡ read_at f mine n xs
+  read-whole unowned none-read mine theirs n [] all apart none = refl
+  read-whole unowned none-read mine theirs n (x ∷ xs) all apart none =
       let front : cond (is_at n theirs) (f x) [] ≡ [] = left-nil (cond (is_at n theirs) (f x) []) (read_at f theirs (suc n) xs) none in
       let back : read_at f theirs (suc n) xs ≡ [] = right-nil (cond (is_at n theirs) (f x) []) (read_at f theirs (suc n) xs) none in
-      let r = read-whole quiet none-read mine theirs (suc n) xs all.1 apart back in
+      let r = read-whole unowned none-read mine theirs (suc n) xs all.1 apart back in
       let head : f x ≡ cond (is_at n mine) (f x) [] =
       ⊎_elim
       (λ (a : IsAmong n (theirs ++ mine)).
@@ -92,7 +92,7 @@ module _ {E X : Type 0} (f : E → List X) where
       (λ (b : IsAmong n theirs). let t = at-true n theirs b in let u = at-false n mine (λ m. apart n m b) in let e : f x ≡ [] = subst (λ (c : Bool). cond c (f x) [] ≡ []) t front in rw u e)
       (λ (m : IsAmong n mine). let t = at-true n mine m in rw t refl)
       (among-cases n theirs mine a))
-      (λ (s : quiet x). let e : f x ≡ [] = none-read x s in still (is_at n mine) (f x) e)
+      (λ (s : unowned x). let e : f x ≡ [] = none-read x s in still (is_at n mine) (f x) e)
       all.0 in
       ap (λ zs. zs ++ read_all f xs) head ∙ ap (λ zs. cond (is_at n mine) (f x) [] ++ zs) r
     where
@@ -108,21 +108,21 @@ module _ {E X : Type 0} (f : E → List X) where
       still true us e = refl
       still false us e = e
 
--- where each entry is own or quiet, they are covered
-pub covered-all : {E : Type 0} (quiet : E → Type 0) (own : List ℕ) (n : ℕ) (xs : List E) → ((k : ℕ) → k < length xs → IsAmong (n + k) own ⊎ HoldsAt quiet xs k) → AreCovered quiet own n xs
-covered-all quiet own n [] all = tt
-covered-all quiet own n (x ∷ xs) all =
+-- where each entry is own or unowned, they are covered
+pub covered-all : {E : Type 0} (unowned : E → Type 0) (own : List ℕ) (n : ℕ) (xs : List E) → ((k : ℕ) → k < length xs → IsAmong (n + k) own ⊎ HoldsAt unowned xs k) → AreCovered unowned own n xs
+covered-all unowned own n [] all = tt
+covered-all unowned own n (x ∷ xs) all =
     let here : n + 0 ≡ n = omega arith in (
-      ⊎_elim (λ (a : IsAmong (n + 0) own). inl (subst (λ k. IsAmong k own) here a)) (λ (q : HoldsAt quiet (x ∷ xs) 0). inr (q x)) (all 0 (omega arith)),
-      covered-all quiet own (suc n) xs (λ k lt.
+      ⊎_elim (λ (a : IsAmong (n + 0) own). inl (subst (λ k. IsAmong k own) here a)) (λ (q : HoldsAt unowned (x ∷ xs) 0). inr (q x)) (all 0 (omega arith)),
+      covered-all unowned own (suc n) xs (λ k lt.
           let next : n + suc k ≡ suc n + k = omega arith in
-          ⊎_elim (λ (a : IsAmong (n + suc k) own). inl (subst (λ j. IsAmong j own) next a)) (λ (q : HoldsAt quiet (x ∷ xs) (suc k)). inr (λ d. q d)) (all (suc k) (omega arith))),
+          ⊎_elim (λ (a : IsAmong (n + suc k) own). inl (subst (λ j. IsAmong j own) next a)) (λ (q : HoldsAt unowned (x ∷ xs) (suc k)). inr (λ d. q d)) (all (suc k) (omega arith))),
     )
 
 -- covered by other places, among which all of these are
-pub covered-more : {E : Type 0} (quiet : E → Type 0) (own more : List ℕ) (n : ℕ) (xs : List E) → ((k : ℕ) → IsAmong k own → IsAmong k more) → AreCovered quiet own n xs → AreCovered quiet more n xs
-covered-more quiet own more n [] of all = tt
-covered-more quiet own more n (x ∷ xs) of all = (⊎_elim (λ (a : IsAmong n own). inl (of n a)) (λ (q : quiet x). inr q) all.0, covered-more quiet own more (suc n) xs of all.1)
+pub covered-more : {E : Type 0} (unowned : E → Type 0) (own more : List ℕ) (n : ℕ) (xs : List E) → ((k : ℕ) → IsAmong k own → IsAmong k more) → AreCovered unowned own n xs → AreCovered unowned more n xs
+covered-more unowned own more n [] of all = tt
+covered-more unowned own more n (x ∷ xs) of all = (⊎_elim (λ (a : IsAmong n own). inl (of n a)) (λ (q : unowned x). inr q) all.0, covered-more unowned own more (suc n) xs of all.1)
 
 -- places in the other order
 pub among-swap : (xs ys : List ℕ) (k : ℕ) → IsAmong k (xs ++ ys) → IsAmong k (ys ++ xs)

@@ -4,7 +4,7 @@ use mathlib.Core.List.{IsPrefix}
 use Rattle.std.proofs.lemmas.Option.{none-some}
 use Rattle.std.proofs.Math.Seq.{take-length}
 use Rattle.std.proofs.lemmas.List.Sums.{sum_by-append}
-use Rattle.kanal_log.specs.Views.{Known, IsAmong, AreDisjoint, AreBelow, OwnsAllButQuiet}
+use Rattle.kanal_log.specs.Views.{Known, IsAmong, AreDisjoint, AreBelow, OwnsAllBut}
 use Rattle.kanal_log.proofs.Readers.{prefix_length, prefix_trans}
 use Rattle.kanal_core.specs.Line.{Line}
 use Rattle.kanal_events.specs.Steps.{step}
@@ -14,13 +14,13 @@ use Rattle.kanal_events.specs.declared.event.Reply.{Reply}
 use Rattle.kanal_journal.specs.declared.journal.report.Settlement.{Settlement}
 use Rattle.kanal_journal.specs.Paired.{History, Demand, history_from, along, sent, asked, cleared_by, kept, receipts, receipts_from, send_stays, demand_stays, without_last, ArePaired, Paired}
 use Rattle.kanal_state.specs.declared.call.Call.{Call}
-use Rattle.kanal_state.specs.Calls.{IsSilent}
+use Rattle.kanal_state.specs.Calls.{MovesNoMessage}
 use Rattle.kanal_one_history.specs.Calls.{AreTold, IsLegal, with_calls, history_of}
 use Rattle.kanal_one_history.specs.History.{Appends}
 use Rattle.kanal_one_history.specs.Puts.{AreGot, ArePut, Exchanges, ExchangesNothing, HasMade, WaitsAsSettled}
 use Rattle.kanal_one_history.proofs.Exchanging.{got_longer, got_more, got_none, got_received, put_kept, put_longer, put_more, put_none}
 use Rattle.kanal_one_history.proofs.Pairing.{legal-paired}
-use Rattle.kanal_one_history.proofs.Silent.{exchanges_nothing}
+use Rattle.kanal_one_history.proofs.NoMessage.{exchanges_nothing}
 use Rattle.kanal_one_history.proofs.Waits.{waits_as_settled}
 use Rattle.kanal_exchange.specs.Readings.{read_at}
 use Rattle.kanal_exchange.specs.Tales.{marks_of, sent_in, asked_in, cleared_in, Tells}
@@ -149,28 +149,28 @@ module _ {T : Type 0} where
   -- what is read at the places of one alone is read of all
   whole-one : {X : Type 0} (f : Call T → List X) → ((c : Call T) → ExchangesNothing c → f c ≡ []) → (one other : Known (Call T)) (log : List (Call T)) → AreBelow (length one.log) one.own → AreBelow (length other.log) other.own → IsPrefix one.log log → IsPrefix other.log log
       → AreDisjoint one.own other.own → AreCovered ExchangesNothing (other.own ++ one.own) 0 log → read_at f other.own 0 other.log ≡ [] → read_all f log ≡ read_at f one.own 0 one.log
-  whole-one f quiet one other log below below' seen heard apart all none =
-      read-whole f ExchangesNothing quiet one.own other.own 0 log all apart (read-longer f other.own other.log log below' heard ∙ none) ∙ read-longer f one.own one.log log below seen
+  whole-one f unowned one other log below below' seen heard apart all none =
+      read-whole f ExchangesNothing unowned one.own other.own 0 log all apart (read-longer f other.own other.log log below' heard ∙ none) ∙ read-longer f one.own one.log log below seen
 
   -- calls of silent events put nothing and got nothing, where each was told what its line tells
-  covered-told : (l : Line T) (own : List ℕ) (n : ℕ) (log : List (Call T)) → AreTold l log → AreCovered (λ (c : Call T). IsSilent c.event) own n log → AreCovered ExchangesNothing own n log
+  covered-told : (l : Line T) (own : List ℕ) (n : ℕ) (log : List (Call T)) → AreTold l log → AreCovered (λ (c : Call T). MovesNoMessage c.event) own n log → AreCovered ExchangesNothing own n log
   covered-told l own n [] told all = tt
   covered-told l own n (c ∷ cs) told all = (
-    ⊎_elim (λ (a : IsAmong n own). inl a) (λ (h : IsSilent c.event). inr (exchanges_nothing c (l, told.0) h)) all.0,
+    ⊎_elim (λ (a : IsAmong n own). inl a) (λ (h : MovesNoMessage c.event). inr (exchanges_nothing c (l, told.0) h)) all.0,
     covered-told (step l c.event).line own (suc n) cs told.1 all.1,
   )
 
   -- who owns all but silent calls of a legal history owns all that put or got
-  pub owned_covered : (capacity : Option ℕ) (log : List (Call T)) (own : List ℕ) → IsLegal capacity log → OwnsAllButQuiet (λ (c : Call T). IsSilent c.event) log own → AreCovered ExchangesNothing own 0 log
+  pub owned_covered : (capacity : Option ℕ) (log : List (Call T)) (own : List ℕ) → IsLegal capacity log → OwnsAllBut (λ (c : Call T). MovesNoMessage c.event) log own → AreCovered ExchangesNothing own 0 log
   owned_covered capacity log own legal owns =
-      covered-told (opening_line capacity) own 0 log legal (covered-all (λ (c : Call T). IsSilent c.event) own 0 log (λ k lt. subst (λ j. IsAmong j own ⊎ HoldsAt (λ (c : Call T). IsSilent c.event) log k) (plus-nothing k) (owns.all k lt)))
+      covered-told (opening_line capacity) own 0 log legal (covered-all (λ (c : Call T). MovesNoMessage c.event) own 0 log (λ k lt. subst (λ j. IsAmong j own ⊎ HoldsAt (λ (c : Call T). MovesNoMessage c.event) log k) (plus-nothing k) (owns.all k lt)))
     where
       plus-nothing : (k : ℕ) → k ≡ 0 + k
       plus-nothing k = omega arith
 
   -- two passes beside whom nobody put or got: what the one got is what the other put first
   pub exchanged : (capacity : Option ℕ) (one other : Known (Call T)) (log : List (Call T)) (put got : List T) → Tells put [] one → Tells [] got other → IsPrefix one.log log → IsPrefix other.log log
-      → AreDisjoint one.own other.own → IsLegal capacity log → OwnsAllButQuiet (λ (c : Call T). IsSilent c.event) log (other.own ++ one.own) → got ≡ take (length got) put
+      → AreDisjoint one.own other.own → IsLegal capacity log → OwnsAllBut (λ (c : Call T). MovesNoMessage c.event) log (other.own ++ one.own) → got ≡ take (length got) put
   exchanged capacity one other log put got s r seen heard apart legal owns =
       let all = owned_covered capacity log (other.own ++ one.own) legal owns in
       let waits : WaitsAsSettled log = waits_as_settled capacity log legal in

@@ -96,7 +96,7 @@ fn receive_each<T: Drop, J: LogId, R: Wait + RandomSource + AllocGlobal>(
     Ok((got, pass))
 }
 
-/// The same, and the channel is closed where a send or the task is refused.
+/// Sends all, and closes the channel where a send or the task is refused.
 fn send_all_in_task<T: Drop, J: LogId, R: Wait + RandomSource + AllocGlobal>(
     rt: &R,
     channel: &Channel<T, J>,

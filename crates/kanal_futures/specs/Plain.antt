@@ -13,23 +13,23 @@ message_of (Some begun) = Some begun.1
 abbrev pub HasAnswered : {P : Type 0} → Option P → (P → Type 0) → Type 0
 HasAnswered pending says = MatchOption pending ⊥ says
 
-module _ {T H M A P B S C O : Type 0} where
+module _ {T Hist Asked Op Pass Log Prefix Internal Answer : Type 0} where
   -- what the pass was at first, and what is asked, of a future that has not answered
-  abbrev pub call_of : PlainFuture T H M A P B S C O → Option (P × M)
+  abbrev pub call_of : PlainFuture T Hist Asked Op Pass Log Prefix Internal Answer → Option (Pass × Asked)
   call_of f = call_begun f.call
 
   -- a future that has answered
-  abbrev pub is_over : PlainFuture T H M A P B S C O → Bool
+  abbrev pub is_over : PlainFuture T Hist Asked Op Pass Log Prefix Internal Answer → Bool
   is_over f = is_none (call_begun f.call)
 
   -- the pass of a future that has answered
-  abbrev pub left_of : PlainFuture T H M A P B S C O → Option P
+  abbrev pub left_of : PlainFuture T Hist Asked Op Pass Log Prefix Internal Answer → Option Pass
   left_of f = call_kept f.call
 
   -- the message of a send that has not answered
-  abbrev pub message_in : PlainFuture T H M A P B S C O → Option M
+  abbrev pub message_in : PlainFuture T Hist Asked Op Pass Log Prefix Internal Answer → Option Asked
   message_in f = message_of (call_begun f.call)
 
   -- the name of what a future waits for
-  abbrev pub future_source : PlainFuture T H M A P B S C O → ℕ
+  abbrev pub future_source : PlainFuture T Hist Asked Op Pass Log Prefix Internal Answer → ℕ
   future_source f = call_source f.call

@@ -7,25 +7,25 @@ use Rattle.kanal_futures.specs.declared.stream.ReceiveStream.{ReceiveStream}
 use Rattle.kanal_futures.specs.Futures.{call_begun, call_source, call_waits}
 use Rattle.kanal_futures.specs.Tasks.{passes}
 
-module _ {T H P B S C : Type 0} where
+module _ {T Hist Pass Log Prefix Internal : Type 0} where
   -- a stream that has answered that there is no more
-  abbrev pub stream_is_over : ReceiveStream T H P B S C → Bool
+  abbrev pub stream_is_over : ReceiveStream T Hist Pass Log Prefix Internal → Bool
   stream_is_over s = is_some s.fault
 
   -- the refusal that ended a stream
-  abbrev pub stream_fault : ReceiveStream T H P B S C → Option ReceiveError
+  abbrev pub stream_fault : ReceiveStream T Hist Pass Log Prefix Internal → Option ReceiveError
   stream_fault s = s.fault
 
   -- a stream with a wait of its own that was not polled to its end
-  abbrev pub stream_waits : ReceiveStream T H P B S C → Bool
+  abbrev pub stream_waits : ReceiveStream T Hist Pass Log Prefix Internal → Bool
   stream_waits s = call_waits s.receiving
 
   -- the name of what a stream waits for
-  abbrev pub stream_source : ReceiveStream T H P B S C → ℕ
+  abbrev pub stream_source : ReceiveStream T Hist Pass Log Prefix Internal → ℕ
   stream_source s = call_source s.receiving
 
   -- the pass of a stream's next receive, as it was before that
-  abbrev pub stream_pass : ReceiveStream T H P B S C → Option P
+  abbrev pub stream_pass : ReceiveStream T Hist Pass Log Prefix Internal → Option Pass
   stream_pass s = passes (call_begun s.receiving)
 
 module _ {T P : Type 0} where

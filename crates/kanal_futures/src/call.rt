@@ -1,7 +1,6 @@
 //! A call in a task by a pass: a future that carries the pass between its polls, and answers with it.
 //!
-//! A call is made at once where it goes by itself; only where it doesn't the longer ways are gone. `Sending` and
-//! `Receiving` are its two cases.
+//! First comes the fast path. `Sending` and `Receiving` are its two cases.
 ghost use Rattle.std.specs.Prelude.{◌≡◌, ⊤, IfErr, IfNone, IfOk, IfSome, MatchOption, None, Option, Some, false, true};
 ghost use Rattle.std.specs.Option.{is_none};
 ghost use Rattle.futures.specs.Task.{Covers, Keeps};
@@ -11,12 +10,12 @@ ghost use Rattle.kanal_futures.specs.Futures.{IsPoll, IsPolled, call_begun, call
 
 use crate::answer::TaskAnswer;
 use crate::operation::{Asks, GhostStart};
-use crate::progress::{Progress, Rest};
+use crate::progress::{PollRest, Progress};
 use crate::started::Started;
 use crate::wakers::Wakers;
 use futures::Future;
 use futures::task::{Context, Poll};
-use kanal_cell::Pauses;
+use kanal_cell::PollBackoff;
 use kanal_channel::{Locked, Shared};
 use kanal_state::History;
 
@@ -25,7 +24,7 @@ pub struct TaskCall<'a, T, H: History<T>, M, A: Asks<T, M>> {
     shared: &'a Shared<T, H>,
     state: Progress<T, H, M, A>,
     wakers: Wakers,
-    pauses: Pauses,
+    pauses: PollBackoff,
 }
 
 impl<T: Drop, H: History<T>, M: Drop, A: Asks<T, M>> Drop for TaskCall<'_, T, H, M, A> {
@@ -54,7 +53,7 @@ impl<'a, T: Drop, H: History<T>, M: Drop, A: Asks<T, M>> TaskCall<'a, T, H, M, A
             shared,
             state: Progress::Zero(pass, asked),
             wakers: Wakers::new(),
-            pauses: Pauses::new(),
+            pauses: PollBackoff::new(),
         }
     }
 
@@ -71,7 +70,7 @@ impl<'a, T: Drop, H: History<T>, M: Drop, A: Asks<T, M>> TaskCall<'a, T, H, M, A
     }
 
     /// The pass, where no wait was started that was not polled to its end and it has not answered; a started
-    /// wait is withdrawn. It waits for nobody.
+    /// wait is withdrawn. It never waits.
     ///
     /// # Examples
     /// ```text
@@ -92,13 +91,13 @@ impl<'a, T: Drop, H: History<T>, M: Drop, A: Asks<T, M>> TaskCall<'a, T, H, M, A
 
     /// Keeps the pass of its answer.
     #[inline]
-    pub(crate) fn keep(&mut self, pass: H::Pass)
+    pub(crate) fn store_pass(&mut self, pass: H::Pass)
         requires over { call_begun self.old ≡ None }
         ensures kept { call_kept self.new ≡ Some pass }
         ensures over { call_begun self.new ≡ None }
         ensures source { call_source self.new ≡ call_source self.old }
     {
-        self.state.keep(pass);
+        self.state.store_pass(pass);
     }
 
     /// Asks this by this pass, of a future that has answered. The spare waker stays.
@@ -108,12 +107,12 @@ impl<'a, T: Drop, H: History<T>, M: Drop, A: Asks<T, M>> TaskCall<'a, T, H, M, A
         ensures source { call_source self.new ≡ call_source self.old }
     {
         self.state = Progress::Zero(pass, asked);
-        self.pauses = Pauses::new();
+        self.pauses = PollBackoff::new();
     }
 
     /// Makes the call where it goes by itself: it was not made yet, the lock is free, and there is no notice.
     #[inline]
-    pub(crate) fn at_once(&mut self) -> Result<TaskAnswer<T, H, M, A>, Rest<'a, T, H, M>>
+    pub(crate) fn poll_fast(&mut self) -> Result<TaskAnswer<T, H, M, A>, PollRest<'a, T, H, M>>
         ensures begun { IfOk result (λ x. call_begun self.old ≡ Some (x.0, x.1)) }
         ensures ends { IfOk result (λ _. call_begun self.new ≡ None) }
         ensures rest { IfErr result (λ rest. begun_with rest self.new.state ≡ call_begun self.old) }
@@ -122,22 +121,22 @@ impl<'a, T: Drop, H: History<T>, M: Drop, A: Asks<T, M>> TaskCall<'a, T, H, M, A
         ensures source { call_source self.new ≡ call_source self.old }
     {
         let Some((pass, asked)) = self.state.take() else {
-            return Err(Rest::Begun);
+            return Err(PollRest::Begun);
         };
         let Some(mut locked) = self.shared.try_lock_raw() else {
-            return Err(Rest::Refused(pass, asked));
+            return Err(PollRest::Refused(pass, asked));
         };
         if !self.shared.is_quiet() {
-            return Err(Rest::Held(locked, pass, asked));
+            return Err(PollRest::Held(locked, pass, asked));
         }
         let opening = GhostStart::of(&pass, &asked);
         let mut pass = pass;
-        match A::at_once(&mut locked, self.shared.log(), &mut pass, asked) {
+        match A::make_fast(&mut locked, self.shared.log(), &mut pass, asked) {
             Ok(answer) => {
                 locked.unlock_quiet();
                 Ok(TaskAnswer::new(opening, pass, answer))
             },
-            Err(asked) => Err(Rest::Held(locked, pass, asked)),
+            Err(asked) => Err(PollRest::Held(locked, pass, asked)),
         }
     }
 
@@ -179,7 +178,7 @@ impl<'a, T: Drop, H: History<T>, M: Drop, A: Asks<T, M>> TaskCall<'a, T, H, M, A
         self.begin_noticed(locked, pass, asked, cx)
     }
 
-    /// The same, where there are notices: they are applied before the call. Where they took something out, that
+    /// Goes on where there are notices: they are applied before the call. Where they took something out, that
     /// is told first, and where another has the lock then, another poll is asked for.
     #[cold]
     fn begin_noticed(
@@ -244,9 +243,9 @@ impl<'a, T: Drop, H: History<T>, M: Drop, A: Asks<T, M>> TaskCall<'a, T, H, M, A
 
     /// Goes on with a poll that did not answer at once.
     #[cold]
-    pub(crate) fn go_on(
+    pub(crate) fn poll_slow(
         &mut self,
-        rest: Rest<'a, T, H, M>,
+        rest: PollRest<'a, T, H, M>,
         cx: &mut Context<'_>,
     ) -> Poll<Option<TaskAnswer<T, H, M, A>>>
         requires fits { RestMatches rest self.old.state }
@@ -261,9 +260,9 @@ impl<'a, T: Drop, H: History<T>, M: Drop, A: Asks<T, M>> TaskCall<'a, T, H, M, A
         ensures frame { IsPoll cx.old cx.new self.old self.new result }
     {
         let answer = match rest {
-            Rest::Held(locked, pass, asked) => self.begin(locked, pass, asked, cx),
-            Rest::Refused(pass, asked) => self.retry(pass, asked, cx),
-            Rest::Begun => return self.look(cx),
+            PollRest::Held(locked, pass, asked) => self.begin(locked, pass, asked, cx),
+            PollRest::Refused(pass, asked) => self.retry(pass, asked, cx),
+            PollRest::Begun => return self.look(cx),
         };
         match answer {
             Poll::Ready(answered) => Poll::Ready(Some(answered)),
@@ -302,7 +301,7 @@ impl<T: Drop, H: History<T>, M: Drop, A: Asks<T, M>> Future for TaskCall<'_, T, 
     ghost gives = { λ f r. MatchOption r (call_begun f ≡ None)
         (λ x. call_begun f ≡ Some (x.0, x.1)) };
 
-    /// Polls the call. It answers once, and `None` after that. It waits for nobody.
+    /// Polls the call. It answers once, and `None` after that. It never waits.
     ///
     /// # Examples
     /// ```text
@@ -325,9 +324,9 @@ impl<T: Drop, H: History<T>, M: Drop, A: Asks<T, M>> Future for TaskCall<'_, T, 
         ensures goes_on { OnPending result (call_begun self.new ≡ call_begun self.old) }
         ensures over { is_none (call_begun self.old) ≡ true → result ≡ Poll.Ready None }
     {
-        match self.at_once() {
+        match self.poll_fast() {
             Ok(answered) => Poll::Ready(Some(answered)),
-            Err(rest) => self.go_on(rest, cx),
+            Err(rest) => self.poll_slow(rest, cx),
         }
     }
 }

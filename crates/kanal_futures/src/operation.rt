@@ -38,7 +38,7 @@ pub trait Asks<T, M> {
 
     /// Makes the call where it goes by itself: nobody waits, and it need not wait. Where it doesn't nothing
     /// changes.
-    fn at_once<H: History<T>>(
+    fn make_fast<H: History<T>>(
         locked: &mut Locked<'_, T, H>,
         log: &H::Log,
         pass: &mut H::Pass,

@@ -14,7 +14,7 @@ ghost use Rattle.kanal_futures.specs.Tasks.{RestMatches, begun_with};
 use crate::answer::TaskAnswer;
 use crate::call::TaskCall;
 use crate::operation::Asks;
-use crate::progress::Rest;
+use crate::progress::PollRest;
 use futures::Future;
 use futures::task::{Context, Poll};
 use kanal_channel::Shared;
@@ -39,7 +39,7 @@ impl<'a, T: Drop, H: History<T>, M: Drop, A: Asks<T, M>> PlainFuture<'a, T, H, M
 
     /// Keeps the pass of an answer.
     #[inline]
-    fn keep(&mut self, answered: TaskAnswer<T, H, M, A>) -> A::Answer
+    fn store_pass(&mut self, answered: TaskAnswer<T, H, M, A>) -> A::Answer
         requires over { is_over self.old ≡ true }
         ensures made { Answers H.relations (A.event answered.1) A.read A.ended answered.0 answered.2 result }
         ensures pending { left_of self.new ≡ Some answered.2 }
@@ -47,13 +47,13 @@ impl<'a, T: Drop, H: History<T>, M: Drop, A: Asks<T, M>> PlainFuture<'a, T, H, M
         ensures source { future_source self.new ≡ future_source self.old }
     {
         let (pass, answer) = answered.apart();
-        self.call.keep(pass);
+        self.call.store_pass(pass);
         answer
     }
 
     /// Goes on with a poll that did not answer at once.
     #[cold]
-    fn go_on(&mut self, rest: Rest<'a, T, H, M>, cx: &mut Context<'_>) -> Poll<A::Answer>
+    fn poll_slow(&mut self, rest: PollRest<'a, T, H, M>, cx: &mut Context<'_>) -> Poll<A::Answer>
         requires fits { RestMatches rest self.old.call.state }
         ensures made { IfReady result (λ r. IfSome (begun_with rest.entry self.old.call.state) (λ begun.
             HasAnswered (left_of self.new) (λ new.
@@ -67,8 +67,8 @@ impl<'a, T: Drop, H: History<T>, M: Drop, A: Asks<T, M>> PlainFuture<'a, T, H, M
         ensures registered { OnPending result (Covers cx.new (λ s. s ≡ future_source self.new)) }
         ensures kept { Keeps cx.old cx.new }
     {
-        match self.call.go_on(rest, cx) {
-            Poll::Ready(Some(answered)) => Poll::Ready(self.keep(answered)),
+        match self.call.poll_slow(rest, cx) {
+            Poll::Ready(Some(answered)) => Poll::Ready(self.store_pass(answered)),
             Poll::Ready(None) => Poll::Ready(A::again()),
             Poll::Pending => Poll::Pending,
         }
@@ -80,7 +80,7 @@ impl<T: Drop, H: History<T>, M: Drop, A: Asks<T, M>> Future for PlainFuture<'_, 
 
     ghost needs = { λ f s. s ≡ future_source f };
 
-    /// Polls the call. It waits for nobody.
+    /// Polls the call. It never waits.
     ///
     /// # Errors
     /// Those that `SendFuture` and `ReceiveFuture` list, and `Finished` after the first answer.
@@ -106,9 +106,9 @@ impl<T: Drop, H: History<T>, M: Drop, A: Asks<T, M>> Future for PlainFuture<'_, 
         ensures ends { IfReady result (λ _. is_over self.new ≡ true) }
         ensures goes_on { OnPending result (is_over self.new ≡ false) }
     {
-        match self.call.at_once() {
-            Ok(answered) => Poll::Ready(self.keep(answered)),
-            Err(rest) => self.go_on(rest, cx),
+        match self.call.poll_fast() {
+            Ok(answered) => Poll::Ready(self.store_pass(answered)),
+            Err(rest) => self.poll_slow(rest, cx),
         }
     }
 }

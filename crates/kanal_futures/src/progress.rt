@@ -1,7 +1,7 @@
 //! Where a call in a task is, and what it leaves behind when its future goes.
 //!
 //! The prover refuses to let one go that still waits. A first poll takes the call out, and makes it where it needs no
-//! more than the lock; what more it needs is told by `Rest`.
+//! more than the lock; what more it needs is told by `PollRest`.
 ghost use Rattle.std.specs.Prelude.{◌≡◌, false, true, IfNone, IfSome, IsSome, Some, None};
 ghost use Rattle.kanal_futures.specs.Tasks.{answered_by, begun_by, is_fresh, is_waiting, passes};
 
@@ -22,7 +22,7 @@ pub(crate) enum Progress<T, H: History<T>, M, A: Asks<T, M>> {
 }
 
 /// What is left of a poll that did not answer at once.
-pub(crate) enum Rest<'a, T, H: History<T>, M> {
+pub(crate) enum PollRest<'a, T, H: History<T>, M> {
     /// The call, with the lock held: there are notices, or no message enters or leaves by itself.
     Held(Locked<'a, T, H>, H::Pass, M),
     /// The call: another holds the lock.
@@ -77,7 +77,7 @@ impl<T: Drop, H: History<T>, M: Drop, A: Asks<T, M>> Progress<T, H, M, A> {
 
     /// Keeps the pass of its answer.
     #[inline]
-    pub(crate) fn keep(&mut self, pass: H::Pass)
+    pub(crate) fn store_pass(&mut self, pass: H::Pass)
         requires over { begun_by self.old ≡ None }
         ensures kept { answered_by self.new ≡ Some pass }
         ensures over { begun_by self.new ≡ None }
@@ -123,7 +123,7 @@ impl<T: Drop, H: History<T>, M: Drop, A: Asks<T, M>> Progress<T, H, M, A> {
         }
     }
 
-    /// The pass, where no call was made yet; what waits is given up. It waits for nobody.
+    /// The pass, where no call was made yet; what waits is given up. It never waits.
     pub(crate) fn into_pass(self, shared: &Shared<T, H>) -> Option<H::Pass>
         ensures pass { is_waiting self ≡ false → result ≡ passes (begun_by self) }
     {

@@ -1,6 +1,6 @@
 //! Receiving in a task: the case of a call that is asked with nothing.
 //!
-//! What a receive alone does stands here: how a message leaves by itself, and how it is answered.
+//! Here stands what differs from a send alone: the fast path, and how the call is answered.
 ghost use Rattle.std.specs.Prelude.{◌≡◌, ◌∷◌, [], IfErr, IfOk, Err, Some, codes, false, true};
 ghost use Rattle.kanal_core.specs.declared.error.ReceiveError.{ReceiveError};
 ghost use Rattle.kanal_events.specs.declared.event.Event.TheVariants.{Recv};
@@ -46,7 +46,7 @@ impl<T> Asks<T, ()> for OfReceive {
 
     /// The front message leaves where there is one.
     #[inline(always)]
-    fn at_once<H: History<T>>(
+    fn make_fast<H: History<T>>(
         locked: &mut Locked<'_, T, H>,
         log: &H::Log,
         pass: &mut H::Pass,
@@ -113,12 +113,12 @@ impl<T: Drop, H: History<T>> ReceiveAnswer<T, H> {
 
 /// Receives a message in a task, by the pass that it carries.
 ///
-/// A poll waits for nobody. The first one that gets the lock takes the front message; where there is none,
+/// A poll never waits. The first one that gets the lock takes the front message; where there is none,
 /// the receiver waits until a message is sent or the channel ends. Where another holds the lock the poll
 /// makes no call and asks for another poll: at once where the channel has no buffer, and else after a pause,
 /// which is longer with each such poll in a row.
 ///
-/// A drop waits for nobody, too: a started wait is withdrawn by an internal call, and a message that
+/// A drop never waits, too: a started wait is withdrawn by an internal call, and a message that
 /// was handed over before is dropped. The pass is gone then.
 pub type Receiving<'a, T, H> = TaskCall<'a, T, H, (), OfReceive>;
 
@@ -148,12 +148,12 @@ impl<T: Drop, H: History<T>> fmt::Debug for Receiving<'_, T, H> {
 
 /// Receives a message, as `AsyncReceiver::recv` answers it.
 ///
-/// A poll waits for nobody. The first one that gets the lock takes the front message; where there is
+/// A poll never waits. The first one that gets the lock takes the front message; where there is
 /// none, the receiver waits until a message is sent or the channel ends. Where another holds the lock
 /// the poll makes no step and asks for another poll: at once where the channel has no buffer, and else
 /// after a pause, which is longer with each such poll in a row.
 ///
-/// A drop waits for nobody, too: a started wait is withdrawn, and a message that was handed over
+/// A drop never waits, too: a started wait is withdrawn, and a message that was handed over
 /// before is dropped. After its answer the future answers `Err(ReceiveError::Finished)`.
 ///
 /// # Errors
@@ -162,7 +162,7 @@ impl<T: Drop, H: History<T>> fmt::Debug for Receiving<'_, T, H> {
 /// are used up, and `Finished` after the first answer.
 pub type ReceiveFuture<'a, T, H = NoHistory> = PlainFuture<'a, T, H, (), OfReceive>;
 
-/// A future that receives a message. It does nothing before its first poll, and waits for nobody.
+/// A future that receives a message. It does nothing before its first poll, and never waits.
 ///
 /// # Examples
 /// ```text

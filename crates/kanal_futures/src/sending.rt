@@ -1,6 +1,6 @@
 //! Sending in a task: the case of a call that is asked with a message.
 //!
-//! What a send alone does stands here: how its message enters by itself, and how it is answered.
+//! Here stands what differs from a receive alone: the fast path, and how the call is answered.
 ghost use Rattle.std.specs.Prelude.{◌≡◌, ◌∷◌, [], IfErr, IfOk, Err, Some, codes, true};
 ghost use Rattle.kanal_core.specs.declared.error.SendError.{SendError};
 ghost use Rattle.kanal_events.specs.declared.event.Event.TheVariants.{Send};
@@ -46,7 +46,7 @@ impl<T> Asks<T, T> for OfSend {
 
     /// The message enters where there is a place for it.
     #[inline(always)]
-    fn at_once<H: History<T>>(
+    fn make_fast<H: History<T>>(
         locked: &mut Locked<'_, T, H>,
         log: &H::Log,
         pass: &mut H::Pass,
@@ -111,12 +111,12 @@ impl<T: Drop, H: History<T>> SendAnswer<T, H> {
 
 /// Sends a message in a task, by the pass that it carries.
 ///
-/// A poll waits for nobody. The first one that gets the lock offers the message; where there is no place for
+/// A poll never waits. The first one that gets the lock offers the message; where there is no place for
 /// it, the message waits in the line until a receiver takes it or the channel ends. Where another holds the
 /// lock the poll makes no call and asks for another poll: at once where the channel has no buffer, and else
 /// after a pause, which is longer with each such poll in a row.
 ///
-/// A drop waits for nobody, too: a message that waits is withdrawn by an internal call, and dropped.
+/// A drop never waits, too: a message that waits is withdrawn by an internal call, and dropped.
 /// The pass is gone then.
 pub type Sending<'a, T, H> = TaskCall<'a, T, H, T, OfSend>;
 
@@ -147,12 +147,12 @@ impl<T: Drop, H: History<T>> fmt::Debug for Sending<'_, T, H> {
 
 /// Sends a message, as `AsyncSender::send` answers it.
 ///
-/// A poll waits for nobody. The first one that gets the lock offers the message; where there is no
+/// A poll never waits. The first one that gets the lock offers the message; where there is no
 /// place for it, the message waits in the line until a receiver takes it or the channel ends. Where
 /// another holds the lock the poll makes no step and asks for another poll: at once where the channel
 /// has no buffer, and else after a pause, which is longer with each such poll in a row.
 ///
-/// A drop waits for nobody, too: a message that waits is withdrawn and dropped. After its answer the
+/// A drop never waits, too: a message that waits is withdrawn and dropped. After its answer the
 /// future answers `Err(SendError::Finished)`.
 ///
 /// # Errors
@@ -161,7 +161,7 @@ impl<T: Drop, H: History<T>> fmt::Debug for Sending<'_, T, H> {
 /// used up, and `Finished` after the first answer. The message is dropped then.
 pub type SendFuture<'a, T, H = NoHistory> = PlainFuture<'a, T, H, T, OfSend>;
 
-/// A future that sends the message. It does nothing before its first poll, and waits for nobody.
+/// A future that sends the message. It does nothing before its first poll, and never waits.
 ///
 /// # Examples
 /// ```text

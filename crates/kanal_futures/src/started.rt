@@ -150,7 +150,7 @@ impl<T: Drop, H: History<T>, M: Drop, A: Asks<T, M>> Started<T, H, M, A> {
         }
     }
 
-    /// Gives the wait up: an internal call withdraws it, or a notice is left. It waits for nobody.
+    /// Gives the wait up: an internal call withdraws it, or a notice is left. It never waits.
     #[cold]
     pub(crate) fn leave(self, shared: &Shared<T, H>) {
         let Started {

@@ -21,15 +21,15 @@ use std::fmt;
 
 /// The messages of a receiver, as `AsyncReceiver::stream` answers them.
 ///
-/// Each item is received with a wait of its own, by the pass that the stream carries. A poll waits for
-/// nobody. After the first refusal the stream answers `None` for good, and `fault` tells it.
+/// Each item is received with a wait of its own, by the pass that the stream carries. A poll never waits.
+/// After the first refusal the stream answers `None` for good, and `fault` tells it.
 #[derive(Drop)]
 pub struct ReceiveStream<'a, T, H: History<T> = NoHistory> {
     receiving: Receiving<'a, T, H>,
     fault: Option<ReceiveError>,
 }
 
-/// The messages, one receive by this pass after the other, until one is refused. It waits for nobody.
+/// The messages, one receive by this pass after the other, until one is refused. It never waits.
 ///
 /// # Examples
 /// ```text
@@ -51,7 +51,7 @@ pub fn receive_stream<T: Drop, H: History<T>>(
 
 impl<T: Drop, H: History<T>> ReceiveStream<'_, T, H> {
     /// The pass, where no wait was started that was not polled to its end; such a wait is withdrawn. It
-    /// waits for nobody.
+    /// never waits.
     ///
     /// # Examples
     /// ```text
@@ -67,7 +67,7 @@ impl<T: Drop, H: History<T>> ReceiveStream<'_, T, H> {
         receiving.into_pass()
     }
 
-    /// The refusal that ended the stream; `None` while it has not ended. It waits for nobody.
+    /// The refusal that ended the stream; `None` while it has not ended. It never waits.
     ///
     /// # Examples
     /// ```text
@@ -134,7 +134,7 @@ impl<T: Drop, H: History<T>> Stream for ReceiveStream<'_, T, H> {
 
     ghost needs = { λ f s. s ≡ stream_source f };
 
-    /// Polls for the next message; `None` where it was refused. It waits for nobody.
+    /// Polls for the next message; `None` where it was refused. It never waits.
     ///
     /// # Examples
     /// ```text

@@ -18,7 +18,7 @@ use Rattle.kanal_events.specs.declared.event.Refusal.{Refusal}
 use Rattle.kanal_events.specs.declared.event.Refusal.TheVariants.{Closed as ByClosed, ReceiveClosed as NoReceiver, Sealed as BySeal, SendClosed as NoSender, Timeout, NoMemory, TooMany, CloseError, NoHandle, NotWaiting}
 use Rattle.kanal_events.specs.declared.event.Reply.{Reply}
 use Rattle.kanal_events.specs.declared.event.Reply.TheVariants.{Sent, Waits, Yes, No, Got, Nothing, Drained, Withdrawn, Done, Cleared, Flag, Refused}
-use Rattle.kanal_events.specs.Steps.{Told, only, moving, offer, take as take_told, take_front, nothing_there, wait, withdraw, seal_line, shut, take_line, cloned, answer, message_of, step, refused}
+use Rattle.kanal_events.specs.Steps.{StepSpec, only, moving, offer, take as take_told, take_front, nothing_there, wait, withdraw, seal_line, shut, take_line, cloned, answer, message_of, step, refused}
 use Rattle.kanal_journal.specs.Runs.{Answers, has_handle}
 use Rattle.kanal_journal.specs.Paired.{withdrawn}
 use Rattle.kanal_journal.specs.Weights.{weigh}
@@ -123,12 +123,12 @@ module _ {T : Type 0} where
 
     -- A step's settlements, its withdrawal and those that still wait weigh at most what waited and the ticket that it gave.
     -- The line grows by one at most, and what is drained or cleared leaves it.
-    pub record Counts (l : Line T) (e : Event T) (t : Told T) : Type 0 where
+    pub record Counts (l : Line T) (e : Event T) (t : StepSpec T) : Type 0 where
       pub settled : weigh g (tickets_of t.settled) + weigh g (withdrawn e t.reply) + weigh g (waits t.line) + upto g l.next ≤ weigh g (waits l) + upto g t.line.next
       pub left : length t.drained + length t.cleared + length t.line.line ≤ length l.line + 1
 
     module _ (l : Line T) where
-      to : (e : Event T) (told other : Told T) → told ≡ other → Counts l e other → Counts l e told
+      to : (e : Event T) (told other : StepSpec T) → told ≡ other → Counts l e other → Counts l e told
       to e told other is k = subst (Counts l e) (sym is) k
 
       still : (e : Event T) (r : Reply T) → withdrawn e r ≡ [] → Counts l e (only l r)
@@ -156,7 +156,7 @@ module _ {T : Type 0} where
             left = omega (arith, serve-long l (l.line ++ bare m ∷ []) l.demands, length-append l.line (bare m ∷ []));
           }
 
-      offers : (e : Event T) (m : T) (r : Reply T) (otherwise : Told T) → ((r : Reply T) → withdrawn e r ≡ []) → Counts l e otherwise → Counts l e (offer l m r otherwise)
+      offers : (e : Event T) (m : T) (r : Reply T) (otherwise : StepSpec T) → ((r : Reply T) → withdrawn e r ≡ []) → Counts l e otherwise → Counts l e (offer l m r otherwise)
       offers e m r otherwise w k =
           elim (cases_Bool (eqb l.receivers 0)) [
             | inl x ↦ to e (offer l m r otherwise) (only l (Refused (cond (l.senders == 0) ByClosed NoReceiver) (Some m))) (rw x refl) (still e (Refused (cond (l.senders == 0) ByClosed NoReceiver) (Some m)) (w _))
@@ -191,7 +191,7 @@ module _ {T : Type 0} where
             left = omega (arith, seated-long c xs, ap length is);
           }
 
-      takes : (e : Event T) (otherwise : Told T) → ((r : Reply T) → withdrawn e r ≡ []) → Counts l e otherwise → Counts l e (take_told l otherwise)
+      takes : (e : Event T) (otherwise : StepSpec T) → ((r : Reply T) → withdrawn e r ≡ []) → Counts l e otherwise → Counts l e (take_told l otherwise)
       takes e otherwise w k =
           elim (cases_Bool (eqb l.receivers 0)) [
             | inl x ↦ to e (take_told l otherwise) (only l (Refused ByClosed None)) (rw x refl) (still e (Refused ByClosed None) (w _))
@@ -202,7 +202,7 @@ module _ {T : Type 0} where
           go [] is = k
           go (x ∷ xs) is = front e x xs (Got x.message) (w (Got x.message)) is
 
-      nothing : (e : Event T) (otherwise : Told T) → ((r : Reply T) → withdrawn e r ≡ []) → Counts l e otherwise → Counts l e (nothing_there l otherwise)
+      nothing : (e : Event T) (otherwise : StepSpec T) → ((r : Reply T) → withdrawn e r ≡ []) → Counts l e otherwise → Counts l e (nothing_there l otherwise)
       nothing e otherwise w k =
           elim (cases_Bool (eqb l.senders 0)) [
             | inl x ↦ to e (nothing_there l otherwise) (only l (Refused NoSender None)) (rw x refl) (still e (Refused NoSender None) (w _))
@@ -338,7 +338,7 @@ module _ {T : Type 0} where
       refused-counts : (e : Event T) (reason : Refusal) → Counts l e (refused l reason e)
       refused-counts e reason = still e (Refused reason (message_of e)) (refused-none e reason)
 
-      pub told-counts : tickets (under l.capacity l.line) ≡ [] → (handles : Handles) (e : Event T) (told : Told T) → Answers handles l e told → Counts l e told
+      pub told-counts : tickets (under l.capacity l.line) ≡ [] → (handles : Handles) (e : Event T) (told : StepSpec T) → Answers handles l e told → Counts l e told
       told-counts below handles e told (inl is) =
           elim (cases_Bool (has_handle handles e)) [
             | inl x ↦ to e told (step l e) (is ∙ rw x refl) (step-counts below e)
@@ -347,7 +347,7 @@ module _ {T : Type 0} where
       told-counts below handles e told (inr is) = to e told (refused l NoMemory e) is.2 (refused-counts e NoMemory)
 
   -- as many are settled and still wait as waited and were let wait, at most
-  pub told-count : (l : Line T) → tickets (under l.capacity l.line) ≡ [] → (handles : Handles) (e : Event T) (told : Told T) → Answers handles l e told → length told.settled + waiting_count told.line + l.next ≤ waiting_count l + told.line.next
+  pub told-count : (l : Line T) → tickets (under l.capacity l.line) ≡ [] → (handles : Handles) (e : Event T) (told : StepSpec T) → Answers handles l e told → length told.settled + waiting_count told.line + l.next ≤ waiting_count l + told.line.next
   told-count l below handles e told is =
       let k = told-counts (λ x. 1) l below handles e told is in
       omega (

@@ -20,7 +20,7 @@ use Rattle.kanal_events.specs.declared.event.Refusal.{Refusal}
 use Rattle.kanal_events.specs.declared.event.Refusal.TheVariants.{Closed as ByClosed, ReceiveClosed as NoReceiver, Sealed as BySeal, SendClosed as NoSender, Timeout, NoMemory, TooMany, CloseError, NoHandle, NotWaiting}
 use Rattle.kanal_events.specs.declared.event.Reply.{Reply}
 use Rattle.kanal_events.specs.declared.event.Reply.TheVariants.{Sent, Waits, Yes, No, Got, Nothing, Drained, Withdrawn, Done, Cleared, Flag, Refused}
-use Rattle.kanal_events.specs.Steps.{Told, only, moving, take, take_front, nothing_there, wait, withdraw, take_line, cloned, answer, message_of, step, refused}
+use Rattle.kanal_events.specs.Steps.{StepSpec, only, moving, take, take_front, nothing_there, wait, withdraw, take_line, cloned, answer, message_of, step, refused}
 use Rattle.kanal_journal.specs.Runs.{numbered, has_handle, Answers}
 use Rattle.kanal_journal.specs.Paired.{History, AtOnce, sent, asked, withdrawn, cleared_by, is_gone, given}
 use Rattle.kanal_journal.proofs.Sends.{longer, was_taken}
@@ -48,10 +48,10 @@ not-below k (Some d) h = (d, refl, grind (arith, nat_tests))
 
 module _ {T : Type 0} (h : History T) (l : Line T) (now : Holds h l) (n : ℕ) where
   -- what holds after the event
-  abbrev pub After : Event T → Told T → Type 0
+  abbrev pub After : Event T → StepSpec T → Type 0
   After e told = Holds (longer h e told.reply (numbered n told.settled) told.drained) told.line
 
-  to : (e : Event T) (told other : Told T) → told ≡ other → After e other → After e told
+  to : (e : Event T) (told other : StepSpec T) → told ≡ other → After e other → After e told
   to e told other is a = subst (After e) (sym is) a
 
   not-closed : (l.receivers ≡ 0 → ⊥) → sum_by cleared_by h.replies ≡ 0
@@ -69,7 +69,7 @@ module _ {T : Type 0} (h : History T) (l : Line T) (now : Holds h l) (n : ℕ) w
       (holds_next h l now e r [] [] (record l { line = l.line ++ bare m ∷ []; demands = [] }) (moves_enter h l now.same e r m s a w d) (clean_enter l e r now.one now.apart now.seats now.below w m a d below) q (not-closed some_receiver))
   enters e r m s a w q some_receiver place (d ∷ ds) was =
       let empty : l.line ≡ [] = elim now.one [ inl x ↦ x | inr x ↦ absurd (cc) ] in
-      let told : Told T = moving (record { line = record l { line = []; demands = ds }; settled = (d, Given m) ∷ [] }) r in
+      let told : StepSpec T = moving (record { line = record l { line = []; demands = ds }; settled = (d, Given m) ∷ [] }) r in
       let is : moving (enter l m) r ≡ told = rw (was, empty) (ap (λ (k : Moved T). moving (record k { settled = (d, Given m) ∷ k.settled }) r) (serve-nothing (record l { line = []; demands = d ∷ ds }) ds)) in
       let apart : AreApart (d ∷ ds) = rw (empty, was) at now.apart in
       to e (moving (enter l m) r) told is
@@ -112,7 +112,7 @@ module _ {T : Type 0} (h : History T) (l : Line T) (now : Holds h l) (n : ℕ) w
       refl (not-closed some_receiver)
 
   -- a message is asked for
-  takes : (e : Event T) (otherwise : Told T) → ((m : T) → sent e (Got m) ≡ []) → ((m : T) → asked e (Got m) ≡ AtOnce m ∷ []) → ((m : T) → withdrawn e (Got m) ≡ []) → (After e (only l (Refused ByClosed None))) → ((l.receivers ≡ 0 → ⊥) → l.line ≡ [] → After e otherwise) → After e (take l otherwise)
+  takes : (e : Event T) (otherwise : StepSpec T) → ((m : T) → sent e (Got m) ≡ []) → ((m : T) → asked e (Got m) ≡ AtOnce m ∷ []) → ((m : T) → withdrawn e (Got m) ≡ []) → (After e (only l (Refused ByClosed None))) → ((l.receivers ≡ 0 → ⊥) → l.line ≡ [] → After e otherwise) → After e (take l otherwise)
   takes e otherwise s a w shut_ empty =
       elim (cases_Bool (eqb l.receivers 0)) [
         | inl x ↦ to e (take l otherwise) (only l (Refused ByClosed None)) (rw x refl) shut_
@@ -124,7 +124,7 @@ module _ {T : Type 0} (h : History T) (l : Line T) (now : Holds h l) (n : ℕ) w
       go (x ∷ xs) is some_receiver = takes_front e x xs (s x.message) (a x.message) (w x.message) some_receiver is
 
   -- nothing is there to take
-  nothing : (e : Event T) (otherwise : Told T) → After e (only l (Refused NoSender None)) → After e otherwise → After e (nothing_there l otherwise)
+  nothing : (e : Event T) (otherwise : StepSpec T) → After e (only l (Refused NoSender None)) → After e otherwise → After e (nothing_there l otherwise)
   nothing e otherwise gone a =
       elim (cases_Bool (eqb l.senders 0)) [
         | inl x ↦ to e (nothing_there l otherwise) (only l (Refused NoSender None)) (rw x refl) gone
@@ -340,7 +340,7 @@ module _ {T : Type 0} (h : History T) (l : Line T) (now : Holds h l) (n : ℕ) w
   refused-holds e reason = plain e (Refused reason (message_of e)) (refused-plain e reason (message_of e))
 
   -- and so does each event that is refused for memory, or for want of a live handle
-  pub told-holds : (handles : Handles) (e : Event T) (told : Told T) → Answers handles l e told → After e told
+  pub told-holds : (handles : Handles) (e : Event T) (told : StepSpec T) → Answers handles l e told → After e told
   told-holds handles e told (inl is) =
       elim (cases_Bool (has_handle handles e)) [
         | inl x ↦ to e told (step l e) (is ∙ rw x refl) (step-holds e)

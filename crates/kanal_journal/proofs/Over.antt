@@ -11,7 +11,7 @@ use Rattle.kanal_events.specs.declared.event.Event.TheVariants.{Send, TrySend, R
 use Rattle.kanal_events.specs.declared.event.Refusal.TheVariants.{Closed as ByClosed, ReceiveClosed as NoReceiver, Sealed as BySeal, SendClosed as NoSender, TooMany, CloseError, NotWaiting, Timeout, NoHandle}
 use Rattle.kanal_events.specs.declared.event.Reply.{Reply}
 use Rattle.kanal_events.specs.declared.event.Reply.TheVariants.{Sent, Waits, Yes, No, Got, Nothing, Drained, Withdrawn, Done, Cleared, Number, Flag, Refused}
-use Rattle.kanal_events.specs.Steps.{Told, IsWait, only, moving, offer, take as take_told, take_front, nothing_there, wait, withdraw, take_line, seal_line, shut, step, refused}
+use Rattle.kanal_events.specs.Steps.{StepSpec, IsWait, only, moving, offer, take as take_told, take_front, nothing_there, wait, withdraw, take_line, seal_line, shut, step, refused}
 use Rattle.kanal_journal.specs.Runs.{Account, Answers, Leads, AccountStep, opening, has_handle, has_side}
 use Rattle.kanal_journal.specs.Laws.{is_receive, tells_end, tells_end_or_no_handle, AreOver, StaysOver}
 use Rattle.kanal_core.proofs.Within.{under-nothing}
@@ -24,7 +24,7 @@ module _ {T : Type 0} where
 
   module _ (l : Line T) (hs : Handles) where
     -- a receive on a line with nothing in it and no sender
-    take-over : (otherwise : Told T) → IsOver l → (told : Told T) → told ≡ take_told l (nothing_there l otherwise) → tells_end_or_no_handle told.reply ≡ true
+    take-over : (otherwise : StepSpec T) → IsOver l → (told : StepSpec T) → told ≡ take_told l (nothing_there l otherwise) → tells_end_or_no_handle told.reply ≡ true
     take-over otherwise (inl none) told is = rw (is, none) refl
     take-over otherwise (inr over) told is =
         elim (cases_Bool (eqb l.receivers 0)) [
@@ -32,7 +32,7 @@ module _ {T : Type 0} where
           | inr x ↦ rw (is, x, over.1, over.0) refl
         ]
 
-    refused-over : (e : Event T) (told : Told T) → told ≡ refused l NoHandle e → tells_end_or_no_handle told.reply ≡ true
+    refused-over : (e : Event T) (told : StepSpec T) → told ≡ refused l NoHandle e → tells_end_or_no_handle told.reply ≡ true
     refused-over e told is = rw is refl
 
     -- a reply that waits is no end
@@ -52,7 +52,7 @@ module _ {T : Type 0} where
     waits-on (Refused reason back) w = elim w [ ]
 
     -- each receive is told that nothing will come
-    pub over-told : (e : Event T) (told : Told T) → IsOver l → Answers hs l e told → is_receive e ≡ true → tells_end_or_no_handle told.reply ≡ true
+    pub over-told : (e : Event T) (told : StepSpec T) → IsOver l → Answers hs l e told → is_receive e ≡ true → tells_end_or_no_handle told.reply ≡ true
     over-told Recv told over (inl is) p =
         elim (cases_Bool (has_side hs Rx)) [
           | inl x ↦ take-over (wait l (wait_recv l) None) over told (is ∙ rw x refl)
@@ -82,7 +82,7 @@ module _ {T : Type 0} where
     over-told Terminated told over is p = absurd (false≢true p)
 
     -- a receive that is told so finds it so
-    ends-over : (otherwise : Told T) → tells_end otherwise.reply ≡ false → tells_end (take_told l (nothing_there l otherwise)).reply ≡ true → IsOver l
+    ends-over : (otherwise : StepSpec T) → tells_end otherwise.reply ≡ false → tells_end (take_told l (nothing_there l otherwise)).reply ≡ true → IsOver l
     ends-over otherwise not_end end =
         elim (cases_Bool (eqb l.receivers 0)) [
           | inl x ↦ inl (eqb-true l.receivers 0 x)
@@ -99,20 +99,20 @@ module _ {T : Type 0} where
 
   module _ (l : Line T) (empty : l.line ≡ []) (none : l.senders ≡ 0) where
     -- after the event the line is still empty
-    abbrev IsEmptied : Told T → Type 0
+    abbrev IsEmptied : StepSpec T → Type 0
     IsEmptied told = told.line.line ≡ []
 
-    told_to : (told other : Told T) → told ≡ other → IsEmptied other → IsEmptied told
+    told_to : (told other : StepSpec T) → told ≡ other → IsEmptied other → IsEmptied told
     told_to told other is k = subst IsEmptied (sym is) k
 
-    takes-nothing : (otherwise : Told T) → IsEmptied otherwise → IsEmptied (take_told l otherwise)
+    takes-nothing : (otherwise : StepSpec T) → IsEmptied otherwise → IsEmptied (take_told l otherwise)
     takes-nothing otherwise k =
         elim (cases_Bool (eqb l.receivers 0)) [
           | inl x ↦ told_to (take_told l otherwise) (only l (Refused ByClosed None)) (rw x refl) empty
           | inr x ↦ told_to (take_told l otherwise) otherwise (rw (x, empty) refl) k
         ]
 
-    nothing-sent : (otherwise : Told T) → IsEmptied (nothing_there l otherwise)
+    nothing-sent : (otherwise : StepSpec T) → IsEmptied (nothing_there l otherwise)
     nothing-sent otherwise = told_to (nothing_there l otherwise) (only l (Refused NoSender None)) (rw none refl) empty
 
     withdraws-nothing : (t : ℕ) → IsEmptied (withdraw l t [])
@@ -122,7 +122,7 @@ module _ {T : Type 0} where
           | inr x ↦ told_to (withdraw l t []) (only l (Refused NotWaiting None)) (rw x refl) empty
         ]
 
-    offers-nothing : (m : T) (r : Reply T) (otherwise : Told T) → IsEmptied (offer l m r otherwise)
+    offers-nothing : (m : T) (r : Reply T) (otherwise : StepSpec T) → IsEmptied (offer l m r otherwise)
     offers-nothing m r otherwise =
         elim (cases_Bool (eqb l.receivers 0)) [
           | inl x ↦ told_to (offer l m r otherwise) (only l (Refused (cond (l.senders == 0) ByClosed NoReceiver) (Some m))) (rw x refl) empty
@@ -175,13 +175,13 @@ module _ {T : Type 0} where
     still-empty Terminated = empty
 
   -- what is over stays so
-  over-next : (l : Line T) (hs : Handles) (e : Event T) (told : Told T) → IsOver l → Answers hs l e told → IsOver told.line
+  over-next : (l : Line T) (hs : Handles) (e : Event T) (told : StepSpec T) → IsOver l → Answers hs l e told → IsOver told.line
   over-next l hs e told (inl none) is = inl ((told-zero l hs e told is).1 none)
   over-next l hs e told (inr over) (inl is) =
       elim (cases_Bool (has_handle hs e)) [
         | inl x ↦
             let same : told ≡ step l e = is ∙ rw x refl in
-            inr ((told-zero l hs e told (inl is)).0 over.0, ap (λ (t : Told T). t.line.line) same ∙ still-empty l over.1 over.0 e)
+            inr ((told-zero l hs e told (inl is)).0 over.0, ap (λ (t : StepSpec T). t.line.line) same ∙ still-empty l over.1 over.0 e)
         | inr x ↦ let same : told ≡ refused l NoHandle e = is ∙ rw x refl in rw same (inr over)
       ]
   over-next l hs e told (inr over) (inr is) = rw is.2 (inr over)
@@ -204,7 +204,7 @@ module _ {T : Type 0} where
       record { replies = told.reply ∷ rest.replies; is = more-replies a l.0 e l.1 rest.replies b.replies rest.is; over = (over-told a.line a.handles e told over l.1.1, rest.over) }
 
   -- a receive that is told of an end finds that nothing will come
-  end-over : (l : Line T) (hs : Handles) (e : Event T) (told : Told T) → Answers hs l e told → is_receive e ≡ true → tells_end told.reply ≡ true → IsOver l
+  end-over : (l : Line T) (hs : Handles) (e : Event T) (told : StepSpec T) → Answers hs l e told → is_receive e ≡ true → tells_end told.reply ≡ true → IsOver l
   end-over l hs e told (inr is) p end = absurd (false≢true (rw is.2 at end))
   end-over l hs e told (inl is) p end =
       elim (cases_Bool (has_handle hs e)) [

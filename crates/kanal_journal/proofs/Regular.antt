@@ -13,12 +13,12 @@ use Rattle.kanal_events.specs.declared.event.Event.TheVariants.{Send, TrySend, R
 use Rattle.kanal_events.specs.declared.event.Refusal.TheVariants.{Closed as ByClosed, ReceiveClosed as NoReceiver, Sealed as BySeal, SendClosed as NoSender, Timeout, TooMany, CloseError, NoHandle, NotWaiting}
 use Rattle.kanal_events.specs.declared.event.Reply.{Reply}
 use Rattle.kanal_events.specs.declared.event.Reply.TheVariants.{Sent, Waits, Yes, No, Got, Nothing, Drained, Withdrawn, Done, Cleared, Flag, Refused}
-use Rattle.kanal_events.specs.Steps.{Told, only, moving, offer, take as take_told, take_front, nothing_there, wait, withdraw, seal_line, shut, take_line, cloned, answer, message_of, step, refused, is_no_memory}
+use Rattle.kanal_events.specs.Steps.{StepSpec, only, moving, offer, take as take_told, take_front, nothing_there, wait, withdraw, seal_line, shut, take_line, cloned, answer, message_of, step, refused, is_no_memory}
 use Rattle.kanal_journal.specs.Runs.{made, has_handle}
 
 module _ {T : Type 0} where
   -- a step keeps the capacity, gives one ticket at most, and does not reply that there was no memory
-  pub record Regular (l : Line T) (t : Told T) : Type 0 where
+  pub record Regular (l : Line T) (t : StepSpec T) : Type 0 where
     pub capacity : t.line.capacity ≡ l.capacity
     pub next : t.line.next ≤ l.next + 1
     pub memory : is_no_memory t.reply ≡ false
@@ -34,10 +34,10 @@ module _ {T : Type 0} where
   serve-next old (e ∷ es) (d ∷ ds) = serve-next old es ds
 
   module _ (l : Line T) where
-    to : (told other : Told T) → told ≡ other → Regular l other → Regular l told
+    to : (told other : StepSpec T) → told ≡ other → Regular l other → Regular l told
     to told other is k = subst (Regular l) (sym is) k
 
-    leaves : (told : Told T) → told.line.capacity ≡ l.capacity → told.line.next ≡ l.next → is_no_memory told.reply ≡ false → Regular l told
+    leaves : (told : StepSpec T) → told.line.capacity ≡ l.capacity → told.line.next ≡ l.next → is_no_memory told.reply ≡ false → Regular l told
     leaves told c n m = record { capacity = c; next = omega (arith, n); memory = m }
 
     still : (r : Reply T) → is_no_memory r ≡ false → Regular l (only l r)
@@ -46,7 +46,7 @@ module _ {T : Type 0} where
     closed : (m : T) → is_no_memory (Refused (cond (l.senders == 0) ByClosed NoReceiver) (Some m)) ≡ false
     closed m = elim (cases_Bool (eqb l.senders 0)) [ inl x ↦ rw x refl | inr x ↦ rw x refl ]
 
-    offers : (m : T) (r : Reply T) (otherwise : Told T) → is_no_memory r ≡ false → Regular l otherwise → Regular l (offer l m r otherwise)
+    offers : (m : T) (r : Reply T) (otherwise : StepSpec T) → is_no_memory r ≡ false → Regular l otherwise → Regular l (offer l m r otherwise)
     offers m r otherwise q k =
         elim (cases_Bool (eqb l.receivers 0)) [
           | inl x ↦ to (offer l m r otherwise) (only l (Refused (cond (l.senders == 0) ByClosed NoReceiver) (Some m))) (rw x refl) (still (Refused (cond (l.senders == 0) ByClosed NoReceiver) (Some m)) (closed m))
@@ -61,18 +61,18 @@ module _ {T : Type 0} where
               ]
         ]
 
-    fronts : (otherwise : Told T) (xs : List (LineEntry T)) → Regular l otherwise → Regular l (take_front l xs otherwise)
+    fronts : (otherwise : StepSpec T) (xs : List (LineEntry T)) → Regular l otherwise → Regular l (take_front l xs otherwise)
     fronts otherwise [] k = k
     fronts otherwise (x ∷ xs) k = leaves (moving (leave l (x ∷ []) xs) (Got x.message)) refl refl refl
 
-    takes : (otherwise : Told T) → Regular l otherwise → Regular l (take_told l otherwise)
+    takes : (otherwise : StepSpec T) → Regular l otherwise → Regular l (take_told l otherwise)
     takes otherwise k =
         elim (cases_Bool (eqb l.receivers 0)) [
           | inl x ↦ to (take_told l otherwise) (only l (Refused ByClosed None)) (rw x refl) (still (Refused ByClosed None) refl)
           | inr x ↦ to (take_told l otherwise) (take_front l l.line otherwise) (rw x refl) (fronts otherwise l.line k)
         ]
 
-    nothing : (otherwise : Told T) → Regular l otherwise → Regular l (nothing_there l otherwise)
+    nothing : (otherwise : StepSpec T) → Regular l otherwise → Regular l (nothing_there l otherwise)
     nothing otherwise k =
         elim (cases_Bool (eqb l.senders 0)) [
           | inl x ↦ to (nothing_there l otherwise) (only l (Refused NoSender None)) (rw x refl) (still (Refused NoSender None) refl)
@@ -106,7 +106,7 @@ module _ {T : Type 0} where
         elim (cases_Bool (eqb l.senders 0 && eqb l.receivers 0)) [
           | inl x ↦ to (shut l) (only l (Refused CloseError None)) (rw x refl) (still (Refused CloseError None) refl)
           | inr x ↦
-              let told : Told T = record (moving (close l) (Cleared (length (cleared l)))) { cleared = cleared l } in
+              let told : StepSpec T = record (moving (close l) (Cleared (length (cleared l)))) { cleared = cleared l } in
               to (shut l) told (rw x refl) (leaves told refl refl refl)
         ]
 
@@ -115,7 +115,7 @@ module _ {T : Type 0} where
         elim (cases_Bool (eqb l.receivers 0)) [
           | inl x ↦ to (take_line l) (only l (Refused ByClosed None)) (rw x refl) (still (Refused ByClosed None) refl)
           | inr x ↦
-              let told : Told T = record (moving (drain l) (Drained (length l.line))) { drained = messages l.line } in
+              let told : StepSpec T = record (moving (drain l) (Drained (length l.line))) { drained = messages l.line } in
               to (take_line l) told (rw x refl) (leaves told refl refl refl)
         ]
 

@@ -13,7 +13,7 @@ use Rattle.kanal_events.specs.declared.event.Refusal.TheVariants.{NoMemory}
 use Rattle.kanal_events.specs.declared.event.Reply.{Reply}
 use Rattle.kanal_events.specs.declared.event.Reply.TheVariants.{Refused}
 use Rattle.kanal_journal.specs.declared.journal.recorder.Entry.{Entry}
-use Rattle.kanal_events.specs.Steps.{Told, message_of, refused, no_memory, is_no_memory}
+use Rattle.kanal_events.specs.Steps.{StepSpec, message_of, refused, no_memory, is_no_memory}
 use Rattle.kanal_journal.specs.Runs.{Account, Leads, added, made, opening, handles_after}
 use Rattle.kanal_journal.specs.Paired.{Paired, until, rest}
 use Rattle.kanal_journal.specs.Replays.{Recording, Replays, Records, events_of, replies_of, next, played, history_of, longer}
@@ -73,16 +73,16 @@ module _ {T : Type 0} where
     noted-nothing w =
         let a = account_of replies old in
         elim noted.answers [
-          | inl p ↦ absurd (false≢true (sym (made-regular a.line a.handles e).memory ∙ (ap (λ (t : Told T). is_no_memory t.reply) (sym p) ∙ (ap is_no_memory (sym noted.replied) ∙ w))))
-          | inr p ↦ (noted.replied ∙ ap (λ (t : Told T). t.reply) p.2, noted-rest replies old new e reply noted ∙ (ap (λ (t : Told T). record (added a e t) { replies = replies }) p.2 ∙ refused-same a e))
+          | inl p ↦ absurd (false≢true (sym (made-regular a.line a.handles e).memory ∙ (ap (λ (t : StepSpec T). is_no_memory t.reply) (sym p) ∙ (ap is_no_memory (sym noted.replied) ∙ w))))
+          | inr p ↦ (noted.replied ∙ ap (λ (t : StepSpec T). t.reply) p.2, noted-rest replies old new e reply noted ∙ (ap (λ (t : StepSpec T). record (added a e t) { replies = replies }) p.2 ∙ refused-same a e))
         ]
 
     -- otherwise the line's own step was made
     noted-made : is_no_memory reply ≡ false → (reply ≡ (made old.handles (line_of old.core) e).reply) × (account_of (replies ++ reply ∷ []) new ≡ next (account_of replies old) e)
     noted-made w =
         elim noted.answers [
-          | inl p ↦ (noted.replied ∙ ap (λ (t : Told T). t.reply) p, noted-all replies old new e reply noted ∙ ap (λ (t : Told T). added (account_of replies old) e t) p)
-          | inr p ↦ absurd (false≢true (sym w ∙ (ap is_no_memory noted.replied ∙ ap (λ (t : Told T). is_no_memory t.reply) p.2)))
+          | inl p ↦ (noted.replied ∙ ap (λ (t : StepSpec T). t.reply) p, noted-all replies old new e reply noted ∙ ap (λ (t : StepSpec T). added (account_of replies old) e t) p)
+          | inr p ↦ absurd (false≢true (sym w ∙ (ap is_no_memory noted.replied ∙ ap (λ (t : StepSpec T). is_no_memory t.reply) p.2)))
         ]
 
   longer-is : (c c' : Option ℕ) (entries entries' : List (Entry T)) (a b : Account T) (party : ℕ) (e : Event T) (reply : Reply T)

@@ -15,7 +15,7 @@ use Rattle.kanal_events.specs.declared.event.Refusal.TheVariants.{Closed as ByCl
 use Rattle.kanal_events.specs.declared.event.Reply.{Reply}
 use Rattle.kanal_events.specs.declared.event.Reply.TheVariants.{Sent, Waits, Yes, No, Got, Nothing, Drained, Withdrawn, Done, Cleared, Flag, Refused}
 use Rattle.kanal_journal.specs.declared.journal.report.Settlement.{Settlement}
-use Rattle.kanal_events.specs.Steps.{Told, only, moving, offer, take as take_told, take_front, nothing_there, wait, withdraw, seal_line, shut, take_line, cloned, answer, message_of, step, refused}
+use Rattle.kanal_events.specs.Steps.{StepSpec, only, moving, offer, take as take_told, take_front, nothing_there, wait, withdraw, seal_line, shut, take_line, cloned, answer, message_of, step, refused}
 use Rattle.kanal_journal.specs.Runs.{Account, Answers, Leads, opening, has_handle, numbered}
 use Rattle.kanal_journal.specs.Laws.{AreRising, WaitByPlace, without_ticket, settled_at, told_history}
 use Rattle.kanal_journal.proofs.Settling.{AllBare, AllWait, IsSeated, under-over}
@@ -72,7 +72,7 @@ empty-is b (d ∷ ds) h = absurd (cc)
 
 module _ {T : Type 0} where
   -- what a step keeps
-  pub record KeepsOrder (l : Line T) (t : Told T) : Type 0 where
+  pub record KeepsOrder (l : Line T) (t : StepSpec T) : Type 0 where
     pub waits : AreRising 0 (waits t.line) t.line.next
     pub settled : AreRising 0 (tickets_of t.settled) l.next
     pub grows : l.next ≤ t.line.next
@@ -97,7 +97,7 @@ module _ {T : Type 0} where
   serve-order l m (x ∷ xs) (d ∷ ds) one now r = absurd (elim one [ inl e ↦ cc | inr e ↦ cc ])
 
   module _ (l : Line T) (now : AreRising 0 (waits l) l.next) (one : (l.line ≡ []) ⊎ (l.demands ≡ [])) where
-    to : (told other : Told T) → told ≡ other → KeepsOrder l other → KeepsOrder l told
+    to : (told other : StepSpec T) → told ≡ other → KeepsOrder l other → KeepsOrder l told
     to told other is k = subst (KeepsOrder l) (sym is) k
 
     still : (r : Reply T) → KeepsOrder l (only l r)
@@ -106,7 +106,7 @@ module _ {T : Type 0} where
     recount : (r : Reply T) (senders receivers : ℕ) → KeepsOrder l (only (record l { senders = senders; receivers = receivers }) r)
     recount r senders receivers = record { waits = now; settled = omega arith; grows = omega arith }
 
-    offers : (m : T) (r : Reply T) (otherwise : Told T) → (l.demands ≡ [] → KeepsOrder l otherwise) → KeepsOrder l (offer l m r otherwise)
+    offers : (m : T) (r : Reply T) (otherwise : StepSpec T) → (l.demands ≡ [] → KeepsOrder l otherwise) → KeepsOrder l (offer l m r otherwise)
     offers m r otherwise k =
         elim (cases_Bool (eqb l.receivers 0)) [
           | inl x ↦ to (offer l m r otherwise) (only l (Refused (cond (l.senders == 0) ByClosed NoReceiver) (Some m))) (rw x refl) (still (Refused (cond (l.senders == 0) ByClosed NoReceiver) (Some m)))
@@ -135,7 +135,7 @@ module _ {T : Type 0} where
           grows = omega arith;
         }
 
-    takes : (otherwise : Told T) → KeepsOrder l otherwise → KeepsOrder l (take_told l otherwise)
+    takes : (otherwise : StepSpec T) → KeepsOrder l otherwise → KeepsOrder l (take_told l otherwise)
     takes otherwise k =
         elim (cases_Bool (eqb l.receivers 0)) [
           | inl x ↦ to (take_told l otherwise) (only l (Refused ByClosed None)) (rw x refl) (still (Refused ByClosed None))
@@ -146,7 +146,7 @@ module _ {T : Type 0} where
         go [] is = k
         go (x ∷ xs) is = front x xs (Got x.message) is
 
-    nothing : (otherwise : Told T) → KeepsOrder l otherwise → KeepsOrder l (nothing_there l otherwise)
+    nothing : (otherwise : StepSpec T) → KeepsOrder l otherwise → KeepsOrder l (nothing_there l otherwise)
     nothing otherwise k =
         elim (cases_Bool (eqb l.senders 0)) [
           | inl x ↦ to (nothing_there l otherwise) (only l (Refused NoSender None)) (rw x refl) (still (Refused NoSender None))
@@ -271,7 +271,7 @@ module _ {T : Type 0} where
     step-order (Asks side ask) = still (answer l side ask)
     step-order Terminated = still (Flag ((l.senders == 0) && (length l.line == 0)))
 
-    pub told-order : (handles : Handles) (e : Event T) (told : Told T) → Answers handles l e told → KeepsOrder l told
+    pub told-order : (handles : Handles) (e : Event T) (told : StepSpec T) → Answers handles l e told → KeepsOrder l told
     told-order handles e told (inl is) =
         elim (cases_Bool (has_handle handles e)) [
           | inl x ↦ to told (step l e) (is ∙ rw x refl) (step-order e)
@@ -304,7 +304,7 @@ module _ {T : Type 0} where
     pub before : AllBefore (length a.replies) a.settled
     pub settled : (n : ℕ) → AreRising 0 (settled_at n a.settled) a.line.next
 
-  settled-order : (a : Account T) (told : Told T) → InOrder a → KeepsOrder a.line told → (n : ℕ) → AreRising 0 (settled_at n (a.settled ++ numbered (length a.replies) told.settled)) told.line.next
+  settled-order : (a : Account T) (told : StepSpec T) → InOrder a → KeepsOrder a.line told → (n : ℕ) → AreRising 0 (settled_at n (a.settled ++ numbered (length a.replies) told.settled)) told.line.next
   settled-order a told now k n =
       let m = length a.replies in
       let P : List ℕ → Type 0 = λ ts. AreRising 0 ts told.line.next in

@@ -11,7 +11,7 @@ use Rattle.kanal_events.specs.declared.event.Refusal.{Refusal}
 use Rattle.kanal_events.specs.declared.event.Refusal.TheVariants.{Closed as ByClosed, ReceiveClosed as NoReceiver, Sealed as BySeal, SendClosed as NoSender, Timeout, NoMemory, TooMany, CloseError, NoHandle, NotWaiting}
 use Rattle.kanal_events.specs.declared.event.Reply.{Reply}
 use Rattle.kanal_events.specs.declared.event.Reply.TheVariants.{Sent, Waits, Yes, No, Nothing, Drained, Withdrawn, Done, Cleared, Flag, Refused}
-use Rattle.kanal_events.specs.Steps.{Told, only, moving, offer, take as take_told, take_front, nothing_there, wait, withdraw, seal_line, shut, take_line, answer, message_of, step, refused}
+use Rattle.kanal_events.specs.Steps.{StepSpec, only, moving, offer, take as take_told, take_front, nothing_there, wait, withdraw, seal_line, shut, take_line, answer, message_of, step, refused}
 use Rattle.kanal_journal.specs.Runs.{Account, Answers, Leads, has_handle}
 use Rattle.kanal_journal.proofs.Regular.{made-regular}
 
@@ -33,7 +33,7 @@ module _ {T : Type 0} where
   is_plain event = true
 
   -- the counts are as they were
-  pub record IsSteady (l : Line T) (t : Told T) : Type 0 where
+  pub record IsSteady (l : Line T) (t : StepSpec T) : Type 0 where
     pub senders : t.line.senders ≡ l.senders
     pub receivers : t.line.receivers ≡ l.receivers
 
@@ -48,7 +48,7 @@ module _ {T : Type 0} where
   serve-receivers old (e ∷ es) (d ∷ ds) = serve-receivers old es ds
 
   module _ (l : Line T) where
-    to : (told other : Told T) → told ≡ other → IsSteady l other → IsSteady l told
+    to : (told other : StepSpec T) → told ≡ other → IsSteady l other → IsSteady l told
     to told other is k = subst (IsSteady l) (sym is) k
 
     still : (r : Reply T) → IsSteady l (only l r)
@@ -57,7 +57,7 @@ module _ {T : Type 0} where
     entered : (m : T) (r : Reply T) → IsSteady l (moving (enter l m) r)
     entered m r = record { senders = serve-senders l (l.line ++ bare m ∷ []) l.demands; receivers = serve-receivers l (l.line ++ bare m ∷ []) l.demands }
 
-    offers : (m : T) (r : Reply T) (otherwise : Told T) → IsSteady l otherwise → IsSteady l (offer l m r otherwise)
+    offers : (m : T) (r : Reply T) (otherwise : StepSpec T) → IsSteady l otherwise → IsSteady l (offer l m r otherwise)
     offers m r otherwise k =
         elim (cases_Bool (eqb l.receivers 0)) [
           | inl x ↦ to (offer l m r otherwise) (only l (Refused (cond (l.senders == 0) ByClosed NoReceiver) (Some m))) (rw x refl) (still (Refused (cond (l.senders == 0) ByClosed NoReceiver) (Some m)))
@@ -72,7 +72,7 @@ module _ {T : Type 0} where
               ]
         ]
 
-    takes : (otherwise : Told T) → IsSteady l otherwise → IsSteady l (take_told l otherwise)
+    takes : (otherwise : StepSpec T) → IsSteady l otherwise → IsSteady l (take_told l otherwise)
     takes otherwise k =
         elim (cases_Bool (eqb l.receivers 0)) [
           | inl x ↦ to (take_told l otherwise) (only l (Refused ByClosed None)) (rw x refl) (still (Refused ByClosed None))
@@ -83,7 +83,7 @@ module _ {T : Type 0} where
         go [] = k
         go (x ∷ xs) = record { senders = refl; receivers = refl }
 
-    nothing : (otherwise : Told T) → IsSteady l otherwise → IsSteady l (nothing_there l otherwise)
+    nothing : (otherwise : StepSpec T) → IsSteady l otherwise → IsSteady l (nothing_there l otherwise)
     nothing otherwise k =
         elim (cases_Bool (eqb l.senders 0)) [
           | inl x ↦ to (nothing_there l otherwise) (only l (Refused NoSender None)) (rw x refl) (still (Refused NoSender None))
@@ -137,10 +137,10 @@ module _ {T : Type 0} where
   zero-same l new s r = (λ z. s ∙ z, λ z. r ∙ z)
 
   module _ (l : Line T) where
-    abbrev KeepsZero : Told T → Type 0
+    abbrev KeepsZero : StepSpec T → Type 0
     KeepsZero told = StaysZero l told.line
 
-    go_to : (told other : Told T) → told ≡ other → KeepsZero other → KeepsZero told
+    go_to : (told other : StepSpec T) → told ≡ other → KeepsZero other → KeepsZero told
     go_to told other is k = subst KeepsZero (sym is) k
 
     zero-refused : (reason : Refusal) (back : Option T) → KeepsZero (only l (Refused reason back))
@@ -209,7 +209,7 @@ module _ {T : Type 0} where
     step-zero Terminated = plain-zero Terminated refl
 
     -- each event keeps it
-    pub told-zero : (hs : Handles) (e : Event T) (told : Told T) → Answers hs l e told → StaysZero l told.line
+    pub told-zero : (hs : Handles) (e : Event T) (told : StepSpec T) → Answers hs l e told → StaysZero l told.line
     told-zero hs e told (inl is) =
         elim (cases_Bool (has_handle hs e)) [
           | inl x ↦ go_to told (step l e) (is ∙ rw x refl) (step-zero e)
@@ -227,9 +227,9 @@ module _ {T : Type 0} where
       let rest = zero-along l.0 b es l.2 in
       (λ z. rest.0 (mid.0 z), λ z. rest.1 (mid.1 z))
 
-  told-capacity : (hs : Handles) (l : Line T) (e : Event T) (told : Told T) → Answers hs l e told → told.line.capacity ≡ l.capacity
-  told-capacity hs l e told (inl is) = ap (λ (t : Told T). t.line.capacity) is ∙ (made-regular l hs e).capacity
-  told-capacity hs l e told (inr is) = ap (λ (t : Told T). t.line.capacity) is.2
+  told-capacity : (hs : Handles) (l : Line T) (e : Event T) (told : StepSpec T) → Answers hs l e told → told.line.capacity ≡ l.capacity
+  told-capacity hs l e told (inl is) = ap (λ (t : StepSpec T). t.line.capacity) is ∙ (made-regular l hs e).capacity
+  told-capacity hs l e told (inr is) = ap (λ (t : StepSpec T). t.line.capacity) is.2
 
   -- the capacity stays
   pub capacity-along : (a b : Account T) (events : List (Event T)) → Leads a events b → b.line.capacity ≡ a.line.capacity

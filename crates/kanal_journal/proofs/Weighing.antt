@@ -20,7 +20,7 @@ use Rattle.kanal_events.specs.declared.event.Refusal.{Refusal}
 use Rattle.kanal_events.specs.declared.event.Refusal.TheVariants.{Closed as ByClosed, ReceiveClosed as NoReceiver, Sealed as BySeal, SendClosed as NoSender, Timeout, NoMemory, TooMany, CloseError, NoHandle, NotWaiting}
 use Rattle.kanal_events.specs.declared.event.Reply.{Reply}
 use Rattle.kanal_events.specs.declared.event.Reply.TheVariants.{Sent, Waits, Yes, No, Nothing, Drained, Withdrawn, Done, Cleared, Flag, Refused}
-use Rattle.kanal_events.specs.Steps.{Told, only, moving, offer, take as take_told, take_front, nothing_there, wait, withdraw, seal_line, shut, take_line, cloned, answer, step, refused}
+use Rattle.kanal_events.specs.Steps.{StepSpec, only, moving, offer, take as take_told, take_front, nothing_there, wait, withdraw, seal_line, shut, take_line, cloned, answer, step, refused}
 use Rattle.kanal_journal.specs.Runs.{Account, Leads, Answers, added, has_handle, numbered}
 use Rattle.kanal_journal.specs.Weights.{weigh, event_weight, reply_weight, outcome_weight, settlement_weight}
 use Rattle.kanal_journal.proofs.Settling.{AreApart, AllBare, AllWait, IsSeated, under-over}
@@ -68,7 +68,7 @@ module _ {T : Type 0} (h : T → ℕ) where
   outcomes ss = weigh (λ s. outcome_weight h s.1) ss
 
   -- what one step tells, and what the line holds after it
-  abbrev told_weight : Told T → ℕ
+  abbrev told_weight : StepSpec T → ℕ
   told_weight t = reply_weight h t.reply + outcomes t.settled + weigh h t.drained + weigh h t.cleared + weigh h (messages t.line.line)
 
   weigh-serve : (old : Line T) (line : List (LineEntry T)) (demands : List ℕ) → weigh h (messages line) ≡ outcomes (serve old line demands).settled + weigh h (messages (serve old line demands).line.line)
@@ -123,16 +123,16 @@ module _ {T : Type 0} (h : T → ℕ) where
 
   module _ (l : Line T) (seats : IsSeated l.capacity l.line) (apart : AreApart (tickets l.line)) where
     -- the step tells and keeps all that was there and came
-    abbrev pub Weighs : Event T → Told T → Type 0
+    abbrev pub Weighs : Event T → StepSpec T → Type 0
     Weighs e told = weigh h (messages l.line) + event_weight h e ≡ told_weight told
 
-    to : (e : Event T) (told other : Told T) → told ≡ other → Weighs e other → Weighs e told
+    to : (e : Event T) (told other : StepSpec T) → told ≡ other → Weighs e other → Weighs e told
     to e told other is w = subst (Weighs e) (sym is) w
 
     still : (e : Event T) (r : Reply T) → event_weight h e ≡ reply_weight h r → Weighs e (only l r)
     still e r k = omega (arith, k)
 
-    offers : (e : Event T) (r : Reply T) (m : T) (otherwise : Told T) → event_weight h e ≡ h m → reply_weight h r ≡ 0 → Weighs e otherwise → Weighs e (offer l m r otherwise)
+    offers : (e : Event T) (r : Reply T) (m : T) (otherwise : StepSpec T) → event_weight h e ≡ h m → reply_weight h r ≡ 0 → Weighs e otherwise → Weighs e (offer l m r otherwise)
     offers e r m otherwise k z w =
         elim (cases_Bool (eqb l.receivers 0)) [
           | inl x ↦ to e (offer l m r otherwise) (only l (Refused (cond (l.senders == 0) ByClosed NoReceiver) (Some m))) (rw x refl) (omega (arith, k))
@@ -147,19 +147,19 @@ module _ {T : Type 0} (h : T → ℕ) where
               ]
         ]
 
-    fronts : (e : Event T) (otherwise : Told T) (xs : List (LineEntry T)) → l.line ≡ xs → event_weight h e ≡ 0 → Weighs e otherwise → Weighs e (take_front l xs otherwise)
+    fronts : (e : Event T) (otherwise : StepSpec T) (xs : List (LineEntry T)) → l.line ≡ xs → event_weight h e ≡ 0 → Weighs e otherwise → Weighs e (take_front l xs otherwise)
     fronts e otherwise [] is k w = w
     fronts e otherwise (x ∷ xs) is k w =
         omega (arith, k, ap (λ ys. weigh h (messages ys)) is, taken-nothing (tickets ((x ∷ []) ++ under l.capacity xs)), ap (weigh h) (seated-same l.capacity xs))
 
-    takes : (e : Event T) (otherwise : Told T) → event_weight h e ≡ 0 → Weighs e otherwise → Weighs e (take_told l otherwise)
+    takes : (e : Event T) (otherwise : StepSpec T) → event_weight h e ≡ 0 → Weighs e otherwise → Weighs e (take_told l otherwise)
     takes e otherwise k w =
         elim (cases_Bool (eqb l.receivers 0)) [
           | inl x ↦ to e (take_told l otherwise) (only l (Refused ByClosed None)) (rw x refl) (still e (Refused ByClosed None) k)
           | inr x ↦ to e (take_told l otherwise) (take_front l l.line otherwise) (rw x refl) (fronts e otherwise l.line refl k w)
         ]
 
-    nothing : (e : Event T) (otherwise : Told T) → event_weight h e ≡ 0 → Weighs e otherwise → Weighs e (nothing_there l otherwise)
+    nothing : (e : Event T) (otherwise : StepSpec T) → event_weight h e ≡ 0 → Weighs e otherwise → Weighs e (nothing_there l otherwise)
     nothing e otherwise k w =
         elim (cases_Bool (eqb l.senders 0)) [
           | inl x ↦ to e (nothing_there l otherwise) (only l (Refused NoSender None)) (rw x refl) (still e (Refused NoSender None) k)
@@ -265,7 +265,7 @@ module _ {T : Type 0} (h : T → ℕ) where
     refused-weighs (TrySend m) reason = still (TrySend m) (Refused reason (Some m)) refl
     refused-weighs e reason = still e (Refused reason None) refl
 
-    pub told-weighs : (handles : Handles) (e : Event T) (told : Told T) → Answers handles l e told → Weighs e told
+    pub told-weighs : (handles : Handles) (e : Event T) (told : StepSpec T) → Answers handles l e told → Weighs e told
     told-weighs handles e told (inl is) =
         elim (cases_Bool (has_handle handles e)) [
           | inl x ↦ to e told (step l e) (is ∙ rw x refl) (step-weighs e)
@@ -280,7 +280,7 @@ module _ {T : Type 0} (h : T → ℕ) where
   weigh-numbered n [] = refl
   weigh-numbered n (s ∷ ss) = ap (λ k. outcome_weight h s.1 + k) (weigh-numbered n ss)
 
-  weigh-added : (a : Account T) (e : Event T) (told : Told T) → weigh h (messages a.line.line) + event_weight h e ≡ told_weight told → account_weight a + event_weight h e ≡ account_weight (added a e told)
+  weigh-added : (a : Account T) (e : Event T) (told : StepSpec T) → weigh h (messages a.line.line) + event_weight h e ≡ told_weight told → account_weight a + event_weight h e ≡ account_weight (added a e told)
   weigh-added a e told w =
       omega (
         arith,

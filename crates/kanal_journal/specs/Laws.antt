@@ -10,7 +10,7 @@ use Rattle.kanal_events.specs.declared.event.Reply.TheVariants.{Yes, Refused}
 use Rattle.kanal_journal.specs.declared.journal.report.Settlement.{Settlement}
 use Rattle.kanal_events.specs.declared.event.Side.TheVariants.{Tx}
 use Rattle.kanal_journal.specs.declared.journal.handles.Handles.{Handles}
-use Rattle.kanal_events.specs.Steps.{Told}
+use Rattle.kanal_events.specs.Steps.{StepSpec}
 use Rattle.kanal_journal.specs.Runs.{Account, Answers, Leads, opening, has_side}
 use Rattle.kanal_journal.specs.Paired.{History, history_from, along, withdrawn, kept, demands}
 
@@ -107,7 +107,7 @@ module _ {T : Type 0} where
   -- a `TrySend` through a live handle, with a sender and a receiver left, enters exactly where there is a place, unless it is refused for memory
   abbrev pub EntersByPlace : Handles → Line T → Type 0
   EntersByPlace handles l =
-      (m : T) (told : Told T) → Answers handles l (TrySend m) told → has_side handles Tx ≡ true → l.receivers ≢ 0 → l.senders ≢ 0
+      (m : T) (told : StepSpec T) → Answers handles l (TrySend m) told → has_side handles Tx ≡ true → l.receivers ≢ 0 → l.senders ≢ 0
       → told.reply ≢ Refused NoMemory (Some m) → told.reply ≡ Yes ↔ (has_place l ≡ true)
 
   -- where the events led to a line on which this count is 0, it is 0 after all later events, too
@@ -119,5 +119,5 @@ module _ {T : Type 0} where
   -- a refused close leaves the line as it was, and tells nothing
   abbrev pub KeepsWhereRefused : Handles → Line T → Type 0
   KeepsWhereRefused handles l =
-      (told : Told T) → Answers handles l Close told → told.reply ≡ Refused CloseError None
+      (told : StepSpec T) → Answers handles l Close told → told.reply ≡ Refused CloseError None
       → (told.line ≡ l) × (told.settled ≡ []) × (told.cleared ≡ [])

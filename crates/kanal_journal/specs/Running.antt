@@ -4,7 +4,7 @@ use Rattle.kanal_core.specs.Channel.{line_of, opening as opening_core}
 use Rattle.kanal_events.specs.declared.event.Event.{Event}
 use Rattle.kanal_events.specs.declared.event.Reply.{Reply}
 use Rattle.kanal_journal.specs.declared.journal.running.Running.{Running}
-use Rattle.kanal_events.specs.Steps.{Told}
+use Rattle.kanal_events.specs.Steps.{StepSpec}
 use Rattle.kanal_journal.specs.Runs.{Account, Answers, handles_after, numbered as with_number}
 use Rattle.kanal_journal.specs.Given.{AreGiven, waiting_count}
 
@@ -32,7 +32,7 @@ module _ {T : Type 0} where
 
   -- the event was made as the step with this number, and what it told was added at the ends
   pub record RunningStep (number : ℕ) (old : Running T) (event : Event T) (reply : Reply T) (new : Running T) : Type 0 where
-    pub told : Told T
+    pub told : StepSpec T
     pub answers : Answers old.handles (line_of old.core) event told
     pub replied : reply ≡ told.reply
     pub line : line_of new.core ≡ told.line

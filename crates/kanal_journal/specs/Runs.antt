@@ -11,7 +11,7 @@ use Rattle.kanal_events.specs.declared.event.Refusal.TheVariants.{NoMemory, NoHa
 use Rattle.kanal_events.specs.declared.event.Reply.{Reply}
 use Rattle.kanal_journal.specs.declared.journal.report.Settlement.{Settlement}
 use Rattle.kanal_journal.specs.declared.journal.report.Report.{Report}
-use Rattle.kanal_events.specs.Steps.{Told, step, refused, is_done, MayRefuse}
+use Rattle.kanal_events.specs.Steps.{StepSpec, step, refused, is_done, MayRefuse}
 
 -- the side has a live handle
 abbrev pub has_side : Handles → Side → Bool
@@ -53,16 +53,16 @@ module _ {T : Type 0} where
   handles_after handles event reply = handles
 
   -- what the event tells, given the live handles
-  abbrev pub made : Handles → Line T → Event T → Told T
+  abbrev pub made : Handles → Line T → Event T → StepSpec T
   made handles old event = cond (has_handle handles event) (step old event) (refused old NoHandle event)
 
   -- the event was made, or was refused for memory where it may be
-  abbrev pub Answers : Handles → Line T → Event T → Told T → Type 0
+  abbrev pub Answers : Handles → Line T → Event T → StepSpec T → Type 0
   Answers handles old event told =
       (told ≡ made handles old event) ⊎ ((has_handle handles event ≡ true) × MayRefuse old event × (told ≡ refused old NoMemory event))
 
   -- what the event told is added at the end
-  abbrev pub added : Account T → Event T → Told T → Account T
+  abbrev pub added : Account T → Event T → StepSpec T → Account T
   added old event told =
       record {
         line = told.line;
@@ -75,7 +75,7 @@ module _ {T : Type 0} where
 
   -- the account goes on by what the event tells
   abbrev pub AccountStep : Account T → Event T → Account T → Type 0
-  AccountStep old event new = (told : Told T) × Answers old.handles old.line event told × (new ≡ added old event told)
+  AccountStep old event new = (told : StepSpec T) × Answers old.handles old.line event told × (new ≡ added old event told)
 
   -- the events, one after another, lead from one account to the other
   abbrev pub Leads : Account T → List (Event T) → Account T → Type 0

@@ -1,13 +1,7 @@
 //! A list of events, run on one core, and the report of all that was told.
 //!
-//! `run` makes its events one after another on a new channel. Its contract says what the report
-//! is worth: the replies are those of one line of messages, and whoever reads only the events and
-//! what was told of them can say which message went to which receive.
-//!
-//! `RecordedState` is a channel that keeps a journal of the calls made on it, and its type keeps that
-//! the journal explains it.
-//!
-//! Nothing here looks into the core.
+//! `run` makes its events on a new channel. `RecordedState` keeps a journal of the calls made on it. Nothing here
+//! looks into the core.
 ghost use Rattle.std.specs.Prelude.{◌≡◌, ◌↔◌, ℕ, ◌+◌, ◌<◌, IfOk, IsErrOf, Some, vec_len, vec_capacity};
 ghost use Rattle.kanal_core.specs.Line.{last_word};
 ghost use Rattle.kanal_journal.specs.Runs.{AccountStep, Runs};

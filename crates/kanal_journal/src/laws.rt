@@ -1,7 +1,6 @@
 //! Laws that users of a channel lean on, as contracts.
 //!
 //! The functions here do nothing: each is called for what its contract says of every list of events.
-//! They stand on the definitions of steps, runs and histories, and are no place for code.
 ghost use Rattle.std.specs.Prelude.{◌≡◌, length};
 ghost use Rattle.kanal_core.specs.Line.{IsWithin, tickets};
 ghost use Rattle.kanal_journal.specs.Laws.{EachAccount, EachLine, AreRising, EndsOnce, EachStepRises, EntersByPlace, HasOneSide, IsBalanced, KeepsWhereRefused, StaysOver, StaysZero, WaitByPlace, WaitsWhenFull, told_history, without_ticket};

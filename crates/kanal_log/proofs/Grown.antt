@@ -5,13 +5,13 @@ use lib.ListN.{get_elem?}
 use Rattle.kanal_log.specs.declared.rule.LogView.{LogView}
 use Rattle.kanal_log.specs.Views.{IsAmong, AreDistinct, AreBelow, Addition, entries, place_of, MayAdd, all_own, IsOwned, ViewFits, Kept}
 use Rattle.kanal_log.proofs.Readers.{prefix_self, prefix_more}
-use Rattle.kanal_log.proofs.Places.{among-cases, among-left, among-right, distinct-append, distinct-left, distinct-right, distinct-apart, among-place, place-distinct, place-covers, none-more, quiet-longer}
+use Rattle.kanal_log.proofs.Places.{among-cases, among-left, among-right, distinct-append, distinct-left, distinct-right, distinct-apart, among-place, place-distinct, place-covers, none-more, unowned-longer}
 use Rattle.kanal_log.proofs.Owners.{owners-set}
 use Rattle.kanal_log.proofs.Worths.{halved-at, shared-set}
 use Rattle.kanal_log.proofs.Owned.{owned-set, owned-new}
 use Rattle.kanal_log.proofs.Fitting.{fits-set, all-below}
 
-module _ {E : Type 0} (quiet : E → Type 0) (v : LogView E) (more : Addition E) where
+module _ {E : Type 0} (unowned : E → Type 0) (v : LogView E) (more : Addition E) where
   -- the writer's view with what it adds
   abbrev pub grown : LogView E
   grown = record { keeps = true; log = v.log ++ entries more; own = v.own; share = v.share; other = v.log ++ entries more; others_own = place_of v.log more ++ v.others_own; others_share = v.others_share }
@@ -42,7 +42,7 @@ module _ {E : Type 0} (quiet : E → Type 0) (v : LogView E) (more : Addition E)
       (distinct-right v.others_own v.own distinct)
       (λ k a b. ⊎_elim (λ c. grown-apart inside k c (among-right k v.others_own v.own b)) (λ c. distinct-apart v.others_own v.own distinct k c b) (among-cases k place v.others_own a))
 
-  grown-fits : (seat by : ℕ) → by ≡ seat → ViewFits seat v.log by v → MayAdd quiet v.others_share more → ViewFits seat (v.log ++ entries more) by grown
+  grown-fits : (seat by : ℕ) → by ≡ seat → ViewFits seat v.log by v → MayAdd unowned v.others_share more → ViewFits seat (v.log ++ entries more) by grown
   grown-fits seat by is m may =
       let inside = all-below seat v.log by v m in
       record {
@@ -56,7 +56,7 @@ module _ {E : Type 0} (quiet : E → Type 0) (v : LogView E) (more : Addition E)
             (among-cases k (place_of v.log more) v.others_own a);
         distinct = grown-distinct inside m.distinct;
         idle = m.idle;
-        others_idle = λ e. none-more quiet v.others_share v.log more v.others_own may e (m.others_idle e);
+        others_idle = λ e. none-more unowned v.others_share v.log more v.others_own may e (m.others_idle e);
       }
 
   other-fits : (seat by : ℕ) (u : LogView E) → by ≢ seat → ViewFits seat v.log by u → ViewFits seat (v.log ++ entries more) by u
@@ -73,7 +73,7 @@ module _ {E : Type 0} (quiet : E → Type 0) (v : LogView E) (more : Addition E)
       }
 
   -- the rule holds where the history is what the writer has seen
-  pub grown-keeps : (views : List (LogView E)) (h : Kept quiet views) (id : ℕ) → get_elem? views id ≡ some v → id ≡ h.seat → v.log ≡ h.log → MayAdd quiet v.others_share more → Kept quiet (set views id grown)
+  pub grown-keeps : (views : List (LogView E)) (h : Kept unowned views) (id : ℕ) → get_elem? views id ≡ some v → id ≡ h.seat → v.log ≡ h.log → MayAdd unowned v.others_share more → Kept unowned (set views id grown)
   grown-keeps views h id at is same may =
       let log = v.log ++ entries more in
       let fits : (j : ℕ) (u : LogView E) → get_elem? views j ≡ some u → ViewFits h.seat v.log j u = λ j u e. subst (λ l. ViewFits h.seat l j u) (sym same) (h.fits j u e) in
@@ -91,13 +91,13 @@ module _ {E : Type 0} (quiet : E → Type 0) (v : LogView E) (more : Addition E)
             (λ (b : k < length v.log).
             ⊎_elim
             (λ o. inl (owned-set views id v at grown k (grown-has k) o))
-            (λ q. inr (quiet-longer quiet v.log (entries more) k b q))
-            (subst (λ l. IsOwned views k ⊎ HoldsAt quiet l k) (sym same) (h.owned k (subst (λ l. k < length l) same b))))
-            (λ (b : IsAmong k (place_of v.log more) ⊎ HoldsAt quiet log k).
+            (λ q. inr (unowned-longer unowned v.log (entries more) k b q))
+            (subst (λ l. IsOwned views k ⊎ HoldsAt unowned l k) (sym same) (h.owned k (subst (λ l. k < length l) same b))))
+            (λ (b : IsAmong k (place_of v.log more) ⊎ HoldsAt unowned log k).
             ⊎_elim
             (λ c. inl (owned-new views id v at grown k (among-left k (place_of v.log more ++ v.others_own) v.own (among-left k (place_of v.log more) v.others_own c))))
             (λ q. inr q)
             b)
-            (place-covers quiet v.others_share v.log more may k lt);
+            (place-covers unowned v.others_share v.log more may k lt);
         shares = shared-set h.scale views id v grown h.shares at (halved-at h.scale views id v h.shares.halved at) (omega arith);
       }

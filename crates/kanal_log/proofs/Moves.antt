@@ -8,19 +8,19 @@ use Rattle.atomic_table.proofs.Lists.{at_set, at_snoc}
 use Rattle.kanal_log.specs.declared.rule.Share.{Share}
 use Rattle.kanal_log.specs.declared.rule.LogView.{LogView}
 use Rattle.kanal_log.specs.Shares.{whole, nothing, half, both, IsWhole, worth}
-use Rattle.kanal_log.specs.Views.{IsAmong, AreDisjoint, Addition, MayAdd, writer_view_with, reader_view, beside, alone, with_share, all_own, IsHalvedUpTo, AreShared, ViewFits, HaveOneOwner, Kept, Extended, Compared, Learned, Checked, IsQuietBehind}
+use Rattle.kanal_log.specs.Views.{IsAmong, AreDisjoint, Addition, MayAdd, writer_view_with, reader_view, beside, alone, with_share, all_own, IsHalvedUpTo, AreShared, ViewFits, HaveOneOwner, Kept, Extended, Compared, Learned, Checked, IsUnownedBehind}
 use Rattle.kanal_log.proofs.Readers.{prefix_self, prefix_both, prefix_length}
-use Rattle.kanal_log.proofs.Places.{among-cases, among-left, among-right, distinct-append, distinct-left, distinct-right, distinct-apart, quiet-shorter}
+use Rattle.kanal_log.proofs.Places.{among-cases, among-left, among-right, distinct-append, distinct-left, distinct-right, distinct-apart, unowned-shorter}
 use Rattle.kanal_log.proofs.Owners.{owners-set, owners-split, owners-join}
 use Rattle.kanal_log.proofs.Shares.{worth-nothing, worth-scaled, worth-half, worth-both, worth-whole, worthless, both-none}
 use Rattle.kanal_log.proofs.Worths.{worth-one, halved-at, shared-scaled, shared-set, shared-split, shared-join}
 use Rattle.kanal_log.proofs.Owned.{owned-set, owned-split, owned-join}
 use Rattle.kanal_log.proofs.Fitting.{off, fits-set, reader_view-fits}
-use Rattle.kanal_log.proofs.Wholes.{all-owned, only-quiet}
+use Rattle.kanal_log.proofs.Wholes.{all-owned, only-unowned}
 use Rattle.kanal_log.proofs.Grown.{grown, grown-keeps}
 
-module _ {E : Type 0} (quiet : E → Type 0) where
-  pub begins : Kept quiet (writer_view_with [] whole ∷ [])
+module _ {E : Type 0} (unowned : E → Type 0) where
+  pub begins : Kept unowned (writer_view_with [] whole ∷ [])
   begins =
       record {
         seat = 0;
@@ -57,7 +57,7 @@ module _ {E : Type 0} (quiet : E → Type 0) where
   module _ {S : Type 0} where
     -- the rule
     abbrev rule : State S (LogView E) → Type 0
-    rule s = Kept quiet s.views
+    rule s = Kept unowned s.views
 
     module _ (s : State S (LogView E)) (h : rule s) (id : ℕ) (v : LogView E) (at : get_elem? s.views id ≡ some v) where
       mine : ViewFits h.seat h.log id v
@@ -67,7 +67,7 @@ module _ {E : Type 0} (quiet : E → Type 0) where
       small = halved-at h.scale s.views id v h.shares.halved at
 
       -- a view that fits takes the place of one, with the same places
-      changed : (n : ℕ) (w : LogView E) → ViewFits h.seat h.log id w → ((k : ℕ) → IsAmong k (all_own w) → IsAmong k (all_own v)) → ((k : ℕ) → IsAmong k (all_own v) → IsAmong k (all_own w)) → AreShared n (set s.views id w) → Kept quiet (set s.views id w)
+      changed : (n : ℕ) (w : LogView E) → ViewFits h.seat h.log id w → ((k : ℕ) → IsAmong k (all_own w) → IsAmong k (all_own v)) → ((k : ℕ) → IsAmong k (all_own v) → IsAmong k (all_own w)) → AreShared n (set s.views id w) → Kept unowned (set s.views id w)
       changed n w fits sub sup shares =
           record {
             seat = h.seat;
@@ -80,11 +80,11 @@ module _ {E : Type 0} (quiet : E → Type 0) where
           }
 
       -- nothing of the view changes
-      stays : Kept quiet (set s.views id v)
+      stays : Kept unowned (set s.views id v)
       stays = changed h.scale v mine (λ k a. a) (λ k a. a) (shared-set h.scale s.views id v v h.shares at small (omega arith))
 
       -- a view is cut in two
-      cut : (n : ℕ) (left right : LogView E) → ViewFits h.seat h.log id left → ((by : ℕ) → ViewFits h.seat h.log by right) → ((k : ℕ) → IsAmong k (all_own left) → IsAmong k (all_own v)) → ((k : ℕ) → IsAmong k (all_own right) → IsAmong k (all_own v)) → AreDisjoint (all_own left) (all_own right) → ((k : ℕ) → IsAmong k (all_own v) → IsAmong k (all_own left) ⊎ IsAmong k (all_own right)) → AreShared n (set s.views id left ++ right ∷ []) → Kept quiet (set s.views id left ++ right ∷ [])
+      cut : (n : ℕ) (left right : LogView E) → ViewFits h.seat h.log id left → ((by : ℕ) → ViewFits h.seat h.log by right) → ((k : ℕ) → IsAmong k (all_own left) → IsAmong k (all_own v)) → ((k : ℕ) → IsAmong k (all_own right) → IsAmong k (all_own v)) → AreDisjoint (all_own left) (all_own right) → ((k : ℕ) → IsAmong k (all_own v) → IsAmong k (all_own left) ⊎ IsAmong k (all_own right)) → AreShared n (set s.views id left ++ right ∷ []) → Kept unowned (set s.views id left ++ right ∷ [])
       cut n left right l r lefts rights apart sup shares =
           record {
             seat = h.seat;
@@ -214,19 +214,19 @@ module _ {E : Type 0} (quiet : E → Type 0) where
         }
 
   module _ {S : Type 0} (slots id i : ℕ) (me : Me S (LogView E)) where
-    pub extends : (more : Addition E) → me.0.keeps ≡ true → MayAdd quiet me.0.others_share more → Allows rule slots id me i (λ n. n) (λ n w. Extended quiet more me w)
+    pub extends : (more : Addition E) → me.0.keeps ≡ true → MayAdd unowned me.0.others_share more → Allows rule slots id me i (λ n. n) (λ n w. Extended unowned more me w)
     extends more keeping may s h len at bound =
         let v = me.0 in
         let m = mine s h id v at in
         let is = m.keeps keeping in (
-          grown quiet v more,
+          grown unowned v more,
           keeps,
           tt,
-          grown-keeps quiet v more s.views h id at is.0 is.1 may,
+          grown-keeps unowned v more s.views h id at is.0 is.1 may,
           record {
             view = refl;
             seen = subst (IsPrefix v.other) (sym is.1) m.shown;
-            only = λ all. subst (λ l. IsQuietBehind quiet v.other l) (sym is.1) (only-quiet quiet s.views h id v at all);
+            only = λ all. subst (λ l. IsUnownedBehind unowned v.other l) (sym is.1) (only-unowned unowned s.views h id v at all);
           },
         )
 
@@ -246,7 +246,7 @@ module _ {E : Type 0} (quiet : E → Type 0) where
           },
         )
 
-    pub checks : IsWhole me.0.share → Allows rule slots id me i (λ n. n) (λ n w. Checked quiet me w)
+    pub checks : IsWhole me.0.share → Allows rule slots id me i (λ n. n) (λ n w. Checked unowned me w)
     checks is s h len at bound =
         let v = me.0 in
         let m = mine s h id v at in
@@ -264,8 +264,8 @@ module _ {E : Type 0} (quiet : E → Type 0) where
             each = record {
               all = λ k lt. ⊎_elim
                   (λ a. ⊎_elim (λ b. absurd (subst (λ (xs : List ℕ). IsAmong k xs) none b)) (λ b. inl b) (among-cases k v.others_own v.own a))
-                  (λ q. inr (quiet-shorter quiet v.log h.log m.seen k lt q))
-                  (all-owned quiet s.views h id v at (omega arith) k (let p = prefix_length v.log h.log m.seen in omega arith));
+                  (λ q. inr (unowned-shorter unowned v.log h.log m.seen k lt q))
+                  (all-owned unowned s.views h id v at (omega arith) k (let p = prefix_length v.log h.log m.seen in omega arith));
               below = m.below;
               distinct = distinct-right v.others_own v.own m.distinct;
             };
@@ -283,7 +283,7 @@ module _ {E : Type 0} (quiet : E → Type 0) where
         let none = worth-nothing top in
         let idle : sum.count ≡ 0 → all_own v ≡ [] = λ e.
         let a : v.own ≡ [] = m.idle (both-none v.others_share v.share e).1 in let b : v.others_own ≡ [] = m.others_idle (both-none v.others_share v.share e).0 in (ap (λ xs. xs ++ v.own) b ∙ a) in
-        let to : (l : List E) → IsPrefix l h.log → length v.log ≤ length l → length v.other ≤ length l → Kept quiet (set s.views id (reader_view l (all_own v) sum)) =
+        let to : (l : List E) → IsPrefix l h.log → length v.log ≤ length l → length v.other ≤ length l → Kept unowned (set s.views id (reader_view l (all_own v) sum)) =
         λ l p this that. changed s h id v at top (reader_view l (all_own v) sum)
         (reader_view-fits h.seat h.log id l (all_own v) sum p
         (λ k a. ⊎_elim (λ b. let q = m.others_below k b in omega arith) (λ b. let q = m.below k b in omega arith) (among-cases k v.others_own v.own a))

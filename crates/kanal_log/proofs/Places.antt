@@ -5,7 +5,7 @@ use mathlib.Core.List.{IsPrefix}
 use mathlib.Core.Logic.{dite}
 use native.Mathlib.Decide.{dec_le}
 use Rattle.kanal_log.specs.declared.rule.Share.{Share}
-use Rattle.kanal_log.specs.Views.{IsAmong, AreDisjoint, AreDistinct, Addition, no_entry, own_entry, quiet_entry, entries, place_of, MayAdd, IsQuietBehind}
+use Rattle.kanal_log.specs.Views.{IsAmong, AreDisjoint, AreDistinct, Addition, no_entry, own_entry, unowned_entry, entries, place_of, MayAdd, IsUnownedBehind}
 
 pub among-cases : (k : ℕ) (xs ys : List ℕ) → IsAmong k (xs ++ ys) → IsAmong k xs ⊎ IsAmong k ys
 among-cases k [] ys a = inr a
@@ -45,41 +45,41 @@ module _ {E : Type 0} where
   among-place log no_entry k a = absurd a
   among-place log (own_entry e) k (inl same) = (same, omega arith)
   among-place log (own_entry e) k (inr a) = absurd a
-  among-place log (quiet_entry e) k a = absurd a
+  among-place log (unowned_entry e) k a = absurd a
 
   pub place-distinct : (log : List E) (more : Addition E) → AreDistinct (place_of log more)
   place-distinct log no_entry = tt
   place-distinct log (own_entry e) = ((λ a. a), tt)
-  place-distinct log (quiet_entry e) = tt
+  place-distinct log (unowned_entry e) = tt
 
-  -- what is quiet stays so where the history grows
-  pub quiet-longer : (quiet : E → Type 0) (log more : List E) (k : ℕ) → k < length log → HoldsAt quiet log k → HoldsAt quiet (log ++ more) k
-  quiet-longer quiet log more k lt q d = subst quiet (sym (get_or_append_left log more d k lt)) (q d)
+  -- what is unowned stays so where the history grows
+  pub unowned-longer : (unowned : E → Type 0) (log more : List E) (k : ℕ) → k < length log → HoldsAt unowned log k → HoldsAt unowned (log ++ more) k
+  unowned-longer unowned log more k lt q d = subst unowned (sym (get_or_append_left log more d k lt)) (q d)
 
-  -- what is quiet in a history is so in a beginning of it
-  pub quiet-shorter : (quiet : E → Type 0) (log all : List E) → IsPrefix log all → (k : ℕ) → k < length log → HoldsAt quiet all k → HoldsAt quiet log k
-  quiet-shorter quiet log all p k lt q d = subst quiet (get_or_append_left log p.0 d k lt) (subst (λ l. HoldsAt quiet l k) (sym p.1) q d)
+  -- what is unowned in a history is so in a beginning of it
+  pub unowned-shorter : (unowned : E → Type 0) (log all : List E) → IsPrefix log all → (k : ℕ) → k < length log → HoldsAt unowned all k → HoldsAt unowned log k
+  unowned-shorter unowned log all p k lt q d = subst unowned (get_or_append_left log p.0 d k lt) (subst (λ l. HoldsAt unowned l k) (sym p.1) q d)
 
-  -- an entry behind the history has the place that is added, or it is quiet
-  pub place-covers : (quiet : E → Type 0) (share : Share) (log : List E) (more : Addition E) → MayAdd quiet share more → (k : ℕ) → k < length (log ++ entries more) → (k < length log) ⊎ (IsAmong k (place_of log more) ⊎ HoldsAt quiet (log ++ entries more) k)
-  place-covers quiet share log no_entry may k lt = inl (omega (arith, length-append log []))
-  place-covers quiet share log (own_entry e) may k lt =
+  -- an entry behind the history has the place that is added, or it is unowned
+  pub place-covers : (unowned : E → Type 0) (share : Share) (log : List E) (more : Addition E) → MayAdd unowned share more → (k : ℕ) → k < length (log ++ entries more) → (k < length log) ⊎ (IsAmong k (place_of log more) ⊎ HoldsAt unowned (log ++ entries more) k)
+  place-covers unowned share log no_entry may k lt = inl (omega (arith, length-append log []))
+  place-covers unowned share log (own_entry e) may k lt =
       dite (dec_le (length log) k)
       (λ (d : length log ≤ k). inr (inl (inl (omega (arith, length-append log (e ∷ []))))))
       (λ (never : length log ≤ k → ⊥). inl (lt_of_not-le never))
-  place-covers quiet share log (quiet_entry e) may k lt =
+  place-covers unowned share log (unowned_entry e) may k lt =
       dite (dec_le (length log) k)
       (λ (d : length log ≤ k).
       let last : length log + 0 ≡ k = omega (arith, length-append log (e ∷ [])) in
-      inr (inr (λ x. subst (λ n. quiet (get_or (log ++ e ∷ []) n x)) last (subst quiet (sym (get_or-append-add log (e ∷ []) 0 x)) may))))
+      inr (inr (λ x. subst (λ n. unowned (get_or (log ++ e ∷ []) n x)) last (subst unowned (sym (get_or-append-add log (e ∷ []) 0 x)) may))))
       (λ (never : length log ≤ k → ⊥). inl (lt_of_not-le never))
 
   -- who has no share gets no place
-  pub none-more : (quiet : E → Type 0) (share : Share) (log : List E) (more : Addition E) (own : List ℕ) → MayAdd quiet share more → share.count ≡ 0 → own ≡ [] → place_of log more ++ own ≡ []
-  none-more quiet share log no_entry own may none e = e
-  none-more quiet share log (own_entry x) own may none e = absurd (omega (arith, may))
-  none-more quiet share log (quiet_entry x) own may none e = e
+  pub none-more : (unowned : E → Type 0) (share : Share) (log : List E) (more : Addition E) (own : List ℕ) → MayAdd unowned share more → share.count ≡ 0 → own ≡ [] → place_of log more ++ own ≡ []
+  none-more unowned share log no_entry own may none e = e
+  none-more unowned share log (own_entry x) own may none e = absurd (omega (arith, may))
+  none-more unowned share log (unowned_entry x) own may none e = e
 
-  -- where each place behind what was seen is quiet, all behind it is
-  pub quiet-behind : (quiet : E → Type 0) (seen log : List E) → ((k : ℕ) → length seen ≤ k → k < length log → HoldsAt quiet log k) → IsQuietBehind quiet seen log
-  quiet-behind quiet seen log q k d lt = subst quiet (sym (get_or-drop (length seen) log k d)) (q (length seen + k) (omega arith) (omega (arith, length-drop (length seen) log)) d)
+  -- where each place behind what was seen is unowned, all behind it is
+  pub unowned-behind : (unowned : E → Type 0) (seen log : List E) → ((k : ℕ) → length seen ≤ k → k < length log → HoldsAt unowned log k) → IsUnownedBehind unowned seen log
+  unowned-behind unowned seen log q k d lt = subst unowned (sym (get_or-drop (length seen) log k d)) (q (length seen + k) (omega arith) (omega (arith, length-drop (length seen) log)) d)

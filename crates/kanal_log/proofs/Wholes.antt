@@ -6,14 +6,14 @@ use native.Mathlib.Decide.{ℕ_discrete}
 use lib.ListN.{get_elem?}
 use Rattle.kanal_log.specs.declared.rule.LogView.{LogView}
 use Rattle.kanal_log.specs.Shares.{doubled, IsWhole}
-use Rattle.kanal_log.specs.Views.{IsAmong, all_own, all_worth, IsOwned, Kept, IsQuietBehind}
-use Rattle.kanal_log.proofs.Places.{among-cases, quiet-behind}
+use Rattle.kanal_log.specs.Views.{IsAmong, all_own, all_worth, IsOwned, Kept, IsUnownedBehind}
+use Rattle.kanal_log.proofs.Places.{among-cases, unowned-behind}
 use Rattle.kanal_log.proofs.Shares.{worth-whole, worthless}
 use Rattle.kanal_log.proofs.Worths.{worth-one, worth-two, halved-at}
 
-module _ {E : Type 0} (quiet : E → Type 0) where
+module _ {E : Type 0} (unowned : E → Type 0) where
   -- beside all of the right no view has a place
-  idle-beside : (views : List (LogView E)) (h : Kept quiet views) (id by : ℕ) (v u : LogView E) → id ≢ by → get_elem? views id ≡ some v → get_elem? views by ≡ some u → doubled h.scale 1 ≤ all_worth h.scale v → (k : ℕ) → IsAmong k (all_own u) → ⊥
+  idle-beside : (views : List (LogView E)) (h : Kept unowned views) (id by : ℕ) (v u : LogView E) → id ≢ by → get_elem? views id ≡ some v → get_elem? views by ≡ some u → doubled h.scale 1 ≤ all_worth h.scale v → (k : ℕ) → IsAmong k (all_own u) → ⊥
   idle-beside views h id by v u n at stands all k a =
       let two = worth-two h.scale views id by v u n at stands in
       let most = h.shares.most in
@@ -25,8 +25,8 @@ module _ {E : Type 0} (quiet : E → Type 0) where
       (λ (b : IsAmong k u.own). subst (λ (xs : List ℕ). IsAmong k xs) none b)
       (among-cases k u.others_own u.own a)
 
-  -- who has all of the right owns the whole history, but for the quiet entries
-  pub all-owned : (views : List (LogView E)) (h : Kept quiet views) (id : ℕ) (v : LogView E) → get_elem? views id ≡ some v → doubled h.scale 1 ≤ all_worth h.scale v → (k : ℕ) → k < length h.log → IsAmong k (all_own v) ⊎ HoldsAt quiet h.log k
+  -- who has all of the right owns the whole history, but for the unowned entries
+  pub all-owned : (views : List (LogView E)) (h : Kept unowned views) (id : ℕ) (v : LogView E) → get_elem? views id ≡ some v → doubled h.scale 1 ≤ all_worth h.scale v → (k : ℕ) → k < length h.log → IsAmong k (all_own v) ⊎ HoldsAt unowned h.log k
   all-owned views h id v at all k lt =
       ⊎_elim
       (λ (o : IsOwned views k).
@@ -38,16 +38,16 @@ module _ {E : Type 0} (quiet : E → Type 0) where
       (λ q. inr q)
       (h.owned k lt)
 
-  -- where all of the right is with who was put into the writer, what that one had not seen is quiet
-  pub only-quiet : (views : List (LogView E)) (h : Kept quiet views) (id : ℕ) (v : LogView E) → get_elem? views id ≡ some v → IsWhole v.others_share → IsQuietBehind quiet v.other h.log
-  only-quiet views h id v at is =
+  -- where all of the right is with who was put into the writer, what that one had not seen is unowned
+  pub only-unowned : (views : List (LogView E)) (h : Kept unowned views) (id : ℕ) (v : LogView E) → get_elem? views id ≡ some v → IsWhole v.others_share → IsUnownedBehind unowned v.other h.log
+  only-unowned views h id v at is =
       let f = h.fits id v at in
       let was = halved-at h.scale views id v h.shares.halved at in
       let all = worth-whole h.scale v.others_share is was.0 in
       let one = worth-one h.scale views id v at in
       let most = h.shares.most in
       let none : v.own ≡ [] = f.idle (worthless h.scale v.share (omega arith)) in
-      quiet-behind quiet v.other h.log
+      unowned-behind unowned v.other h.log
       (λ k le lt. ⊎_elim
       (λ a. ⊎_elim
       (λ b. let q = f.others_below k b in absurd (omega arith))

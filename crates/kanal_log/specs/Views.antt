@@ -37,44 +37,44 @@ pub record Known (E : Type 0) : Type 0 where
   pub own : List ℕ
   pub share : Share
 
--- what a call adds to the history: nothing, an entry that is its reader's own, or a quiet one that has no owner
+-- what a call adds to the history: nothing, an entry that is its reader's own, or a unowned one that has no owner
 pub data Addition (E : Type 0) : Type 0 where
   no_entry : Addition E
   own_entry : E → Addition E
-  quiet_entry : E → Addition E
+  unowned_entry : E → Addition E
 
 module _ {E : Type 0} where
   -- it knows so much
   abbrev pub known : List E → List ℕ → Share → Known E
   known log own share = record { log = log; own = own; share = share }
 
-  -- each entry that was seen is own or quiet, and the own places are places of what was seen, each once
-  pub record OwnsAllButQuiet (quiet : E → Type 0) (log : List E) (own : List ℕ) : Type 0 where
-    pub all : (k : ℕ) → k < length log → IsAmong k own ⊎ HoldsAt quiet log k
+  -- each entry that was seen is own or unowned, and the own places are places of what was seen, each once
+  pub record OwnsAllBut (unowned : E → Type 0) (log : List E) (own : List ℕ) : Type 0 where
+    pub all : (k : ℕ) → k < length log → IsAmong k own ⊎ HoldsAt unowned log k
     pub below : AreBelow (length log) own
     pub distinct : AreDistinct own
 
-  -- what stands in the history behind what was seen is quiet
-  abbrev pub IsQuietBehind : (E → Type 0) → List E → List E → Type 0
-  IsQuietBehind quiet seen log = All quiet (drop (length seen) log)
+  -- what stands in the history behind what was seen is unowned
+  abbrev pub IsUnownedBehind : (E → Type 0) → List E → List E → Type 0
+  IsUnownedBehind unowned seen log = All unowned (drop (length seen) log)
 
   -- the entries that are added
   abbrev pub entries : Addition E → List E
   entries no_entry = []
   entries (own_entry e) = e ∷ []
-  entries (quiet_entry e) = e ∷ []
+  entries (unowned_entry e) = e ∷ []
 
   -- the place that the reader has of what is added behind a history, if there is one
   abbrev pub place_of : List E → Addition E → List ℕ
   place_of log no_entry = []
   place_of log (own_entry e) = length log ∷ []
-  place_of log (quiet_entry e) = []
+  place_of log (unowned_entry e) = []
 
-  -- who has this share may add it: an entry of its own asks for a share, and another one has to be quiet
+  -- who has this share may add it: an entry of its own asks for a share, and another one has to be unowned
   abbrev pub MayAdd : (E → Type 0) → Share → Addition E → Type 0
-  MayAdd quiet share no_entry = Unit {0}
-  MayAdd quiet share (own_entry e) = HasShare share
-  MayAdd quiet share (quiet_entry e) = quiet e
+  MayAdd unowned share no_entry = Unit {0}
+  MayAdd unowned share (own_entry e) = HasShare share
+  MayAdd unowned share (unowned_entry e) = unowned e
 
   -- the view of the seat that knows the whole history, with this share
   abbrev pub writer_view_with : List E → Share → LogView E
@@ -154,19 +154,19 @@ module _ {E : Type 0} where
     pub stands : get_elem? views by ≡ some view
     pub mine : IsAmong k (all_own view)
 
-  -- each view fits one history, each of whose places is of one seat or quiet, and all shares together are no more than all of the right
-  pub record Kept (quiet : E → Type 0) (views : List (LogView E)) : Type 0 where
+  -- each view fits one history, each of whose places is of one seat or unowned, and all shares together are no more than all of the right
+  pub record Kept (unowned : E → Type 0) (views : List (LogView E)) : Type 0 where
     pub seat : ℕ
     pub log : List E
     pub scale : ℕ
     pub fits : (by : ℕ) (v : LogView E) → get_elem? views by ≡ some v → ViewFits seat log by v
     pub owners : HaveOneOwner views
-    pub owned : (k : ℕ) → k < length log → IsOwned views k ⊎ HoldsAt quiet log k
+    pub owned : (k : ℕ) → k < length log → IsOwned views k ⊎ HoldsAt unowned log k
     pub shares : AreShared scale views
 
   module _ {S : Type 0} where
     -- the writer adds behind all that was there; who was put into it had seen a beginning, sees all, and owns what it added as its own
-    pub record Extended (quiet : E → Type 0) (more : Addition E) (v w : Me S (LogView E)) : Type 0 where
+    pub record Extended (unowned : E → Type 0) (more : Addition E) (v w : Me S (LogView E)) : Type 0 where
       pub view : w ≡ (
         record {
           keeps = true;
@@ -180,8 +180,8 @@ module _ {E : Type 0} where
         v.1,
       )
       pub seen : IsPrefix v.0.other v.0.log
-      -- where it has all of the right, what it had not seen is quiet
-      pub only : IsWhole v.0.others_share → IsQuietBehind quiet v.0.other v.0.log
+      -- where it has all of the right, what it had not seen is unowned
+      pub only : IsWhole v.0.others_share → IsUnownedBehind unowned v.0.other v.0.log
 
     -- how what two readers have seen stands to each other, and that they share no place
     pub record Compared (v w : Me S (LogView E)) : Type 0 where
@@ -197,7 +197,7 @@ module _ {E : Type 0} where
       pub that : IsPrefix v.0.other w.0.log
       pub one : (w.0.log ≡ v.0.log) ⊎ (w.0.log ≡ v.0.other)
 
-    -- a reader that has all of the right owns each entry that it has seen, but for the quiet ones
-    pub record Checked (quiet : E → Type 0) (v w : Me S (LogView E)) : Type 0 where
+    -- a reader that has all of the right owns each entry that it has seen, but for the unowned ones
+    pub record Checked (unowned : E → Type 0) (v w : Me S (LogView E)) : Type 0 where
       pub view : w ≡ (v.0, v.1)
-      pub each : OwnsAllButQuiet quiet v.0.log v.0.own
+      pub each : OwnsAllBut unowned v.0.log v.0.own

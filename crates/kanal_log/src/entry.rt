@@ -3,9 +3,9 @@
 //! The log alone adds by these.
 use std::marker::{Brand, PhantomData};
 
-/// An entry of a history. Quiet ones may have no owner.
+/// An entry of a history. Those that are unowned need no owner.
 pub trait LogEntry {
-    ghost quiet: { Self → Type 0 };
+    ghost unowned: { Self → Type 0 };
 }
 
 /// The entry that two values are the reason of.
@@ -40,15 +40,15 @@ impl<X, Y, E, M: EntryOf<X, Y, E>> Adds<X, Y, E> for Own<M> {
     ghost adds = { λ about answer. own_entry (M.entry about answer) };
 }
 
-/// A quiet entry is added that has no owner.
-pub(crate) struct Quiet<M> {
+/// An entry is added that has no owner.
+pub(crate) struct Unowned<M> {
     of: PhantomData<M>,
 }
 
-impl<X, Y, E, M: EntryOf<X, Y, E>> Adds<X, Y, E> for Quiet<M> {
-    ghost use Rattle.kanal_log.specs.Views.{quiet_entry};
+impl<X, Y, E, M: EntryOf<X, Y, E>> Adds<X, Y, E> for Unowned<M> {
+    ghost use Rattle.kanal_log.specs.Views.{unowned_entry};
 
-    ghost adds = { λ about answer. quiet_entry (M.entry about answer) };
+    ghost adds = { λ about answer. unowned_entry (M.entry about answer) };
 }
 
 /// What a call adds to the history.

@@ -1,13 +1,13 @@
 //! The log, and the writer of its history.
 //!
 //! Who has the writer, under a lock, adds entries; each is shown to the reader of the call that it is the entry of,
-//! and its place is that reader's own. A quiet entry has no owner.
+//! and its place is that reader's own, unless it is unowned.
 ghost use Rattle.std.specs.Prelude.{◌≡◌, ◌<◌, ◌++◌, ◌∷◌, [], length};
 ghost use mathlib.Core.List.{IsPrefix};
 ghost use Rattle.kanal_log.specs.Shares.{HasShare, IsWhole, nothing, whole};
 ghost use Rattle.kanal_log.specs.Views.{
   entries,
-  IsQuietBehind,
+  IsUnownedBehind,
   writer_view,
   known,
   MayAdd,
@@ -15,7 +15,7 @@ ghost use Rattle.kanal_log.specs.Views.{
   reader_view,
 };
 
-use crate::entry::{Adds, EntryOf, LogEntry, More, Nothing, Own, Quiet};
+use crate::entry::{Adds, EntryOf, LogEntry, More, Nothing, Own, Unowned};
 use crate::reader::Reader;
 use crate::rule::{Extends, Founds, Goes, Law, LogId, LogParts, LogView, Meets, Reads};
 use atomic_table::{Seat, Table};
@@ -113,20 +113,20 @@ impl<E: LogEntry, J: LogId> Writer<E, J> {
     }
 
     /// Shows all to the reader, which had seen a beginning. Where the reader has all of the right to add
-    /// entries, what it had not seen is quiet.
+    /// entries, what it had not seen is unowned.
     /// Example: `writer.show(&log, &mut reader)`, and `reader` has seen all entries, and owns what it owned.
     pub fn show(&mut self, log: &GhostLog<E, J>, reader: &mut Reader<E, J>)
         ensures same { self.new ≡ self.old }
         ensures shown { reader.new ≡ known self.old reader.old.own reader.old.share }
         ensures seen { IsPrefix reader.old.log self.old }
-        ensures only { IsWhole reader.old.share → IsQuietBehind E.quiet reader.old.log self.old }
+        ensures only { IsWhole reader.old.share → IsUnownedBehind E.unowned reader.old.log self.old }
     {
         self.add::<(), (), Nothing>(log, reader, &(), &())
     }
 
     /// Adds the entry that the two values are the reason of, and shows all to the reader, which had seen a
     /// beginning. The entry is the reader's own, which has a share. Where it has all of the right, what it
-    /// had not seen is quiet.
+    /// had not seen is unowned.
     /// Example: `writer.append_of::<X, Y, M>(&log, &mut reader, &asked, &answered)`, and `reader` has seen all
     /// entries, the new one as the last.
     pub fn append_of<X, Y, M: EntryOf<X, Y, E>>(
@@ -141,31 +141,31 @@ impl<E: LogEntry, J: LogId> Writer<E, J> {
         ensures shown { reader.new ≡ known (self.old ++ M.entry about.now answer.now ∷ [])
             (length self.old ∷ reader.old.own) reader.old.share }
         ensures seen { IsPrefix reader.old.log self.old }
-        ensures only { IsWhole reader.old.share → IsQuietBehind E.quiet reader.old.log self.old }
+        ensures only { IsWhole reader.old.share → IsUnownedBehind E.unowned reader.old.log self.old }
     {
         self.add::<X, Y, Own<M>>(log, reader, about, answer)
     }
 
-    /// Adds the entry that the two values are the reason of, which is quiet, and shows all to the reader,
+    /// Adds the entry that the two values are the reason of, which is unowned, and shows all to the reader,
     /// which had seen a beginning. The entry has no owner, so the reader needs no share. Where it has all of
-    /// the right to add entries, what it had not seen is quiet.
-    /// Example: `writer.append_quiet_of::<X, Y, M>(&log, &mut reader, &asked, &answered)`, and `reader` has seen all
+    /// the right to add entries, what it had not seen is unowned.
+    /// Example: `writer.append_unowned_of::<X, Y, M>(&log, &mut reader, &asked, &answered)`, and `reader` has seen all
     /// entries, the new one as the last, and owns what it owned.
-    pub fn append_quiet_of<X, Y, M: EntryOf<X, Y, E>>(
+    pub fn append_unowned_of<X, Y, M: EntryOf<X, Y, E>>(
         &mut self,
         log: &GhostLog<E, J>,
         reader: &mut Reader<E, J>,
         about: &X,
         answer: &Y,
     )
-        requires quiet { E.quiet (M.entry about.now answer.now) }
+        requires unowned { E.unowned (M.entry about.now answer.now) }
         ensures added { self.new ≡ self.old ++ M.entry about.now answer.now ∷ [] }
         ensures shown { reader.new ≡ known (self.old ++ M.entry about.now answer.now ∷ [])
             reader.old.own reader.old.share }
         ensures seen { IsPrefix reader.old.log self.old }
-        ensures only { IsWhole reader.old.share → IsQuietBehind E.quiet reader.old.log self.old }
+        ensures only { IsWhole reader.old.share → IsUnownedBehind E.unowned reader.old.log self.old }
     {
-        self.add::<X, Y, Quiet<M>>(log, reader, about, answer)
+        self.add::<X, Y, Unowned<M>>(log, reader, about, answer)
     }
 
     /// Adds what the two values are the reason to add, and shows all to the reader.
@@ -176,12 +176,12 @@ impl<E: LogEntry, J: LogId> Writer<E, J> {
         about: &X,
         answer: &Y,
     )
-        requires may { MayAdd E.quiet reader.old.share (P.adds about.now answer.now) }
+        requires may { MayAdd E.unowned reader.old.share (P.adds about.now answer.now) }
         ensures added { self.new ≡ self.old ++ entries (P.adds about.now answer.now) }
         ensures shown { reader.new ≡ known (self.old ++ entries (P.adds about.now answer.now))
             (place_of self.old (P.adds about.now answer.now) ++ reader.old.own) reader.old.share }
         ensures seen { IsPrefix reader.old.log self.old }
-        ensures only { IsWhole reader.old.share → IsQuietBehind E.quiet reader.old.log self.old }
+        ensures only { IsWhole reader.old.share → IsUnownedBehind E.unowned reader.old.log self.old }
     {
         self.extend::<X, Y, Brand>(log, reader, about, answer)
     }
@@ -194,12 +194,12 @@ impl<E: LogEntry, J: LogId> Writer<E, J> {
         about: &X,
         answer: &Y,
     )
-        requires may { MayAdd E.quiet reader.old.share N.more }
+        requires may { MayAdd E.unowned reader.old.share N.more }
         ensures added { self.new ≡ self.old ++ entries N.more }
         ensures shown { reader.new ≡ known (self.old ++ entries N.more)
             (place_of self.old N.more ++ reader.old.own) reader.old.share }
         ensures seen { IsPrefix reader.old.log self.old }
-        ensures only { IsWhole reader.old.share → IsQuietBehind E.quiet reader.old.log self.old }
+        ensures only { IsWhole reader.old.share → IsUnownedBehind E.unowned reader.old.log self.old }
     {
         let shared = &log.table.shared;
         let whole = shared.split_seat::<Goes>(&mut reader.seat);

@@ -4,7 +4,7 @@
 ghost use Rattle.std.specs.Prelude.{◌≡◌, ◌++◌, ◌⊎◌, []};
 ghost use mathlib.Core.List.{IsPrefix};
 ghost use Rattle.kanal_log.specs.Shares.{both, half, IsWhole, nothing};
-ghost use Rattle.kanal_log.specs.Views.{AreDisjoint, AreDistinct, OneBegins, OwnsAllButQuiet, known, reader_view};
+ghost use Rattle.kanal_log.specs.Views.{AreDisjoint, AreDistinct, OneBegins, OwnsAllBut, known, reader_view};
 
 use crate::entry::LogEntry;
 use crate::log::GhostLog;
@@ -66,13 +66,13 @@ impl<E: LogEntry, J: LogId> Reader<E, J> {
         Reader::over(seat)
     }
 
-    /// A reader that has all of the right to add entries owns each entry that it has seen, but for the quiet
+    /// A reader that has all of the right to add entries owns each entry that it has seen, but for the unowned
     /// ones. It changes nothing.
     /// Example: `reader.owns_all(&log)` where all other readers with a share came back by `learn`.
     pub fn owns_all(&mut self, log: &GhostLog<E, J>)
         requires whole { IsWhole self.old.share }
         ensures same { self.new ≡ self.old }
-        ensures each { OwnsAllButQuiet E.quiet self.old.log self.old.own }
+        ensures each { OwnsAllBut E.unowned self.old.log self.old.own }
     {
         log.table.shared.load::<Checks>(&mut self.seat, 0);
     }

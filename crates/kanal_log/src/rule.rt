@@ -54,7 +54,7 @@ impl<E: LogEntry> TableRule<(), LogView<E>, ()> for Law {
     ghost use Rattle.kanal_log.specs.Shares.{whole};
     ghost use Rattle.kanal_log.specs.Views.{writer_view_with, Kept};
 
-    ghost holds = { λ k s. Kept E.quiet s.views };
+    ghost holds = { λ k s. Kept E.unowned s.views };
 
     ghost first = { λ k. writer_view_with [] whole };
 
@@ -69,7 +69,7 @@ pub(crate) struct Extends<N> {
 impl<E: LogEntry, N: More<E>> Play<(), LogView<E>> for Extends<N> {
     ghost use Rattle.kanal_log.specs.Views.{Extended};
 
-    ghost then = { λ s v n w. Extended E.quiet N.more v w };
+    ghost then = { λ s v n w. Extended E.unowned N.more v w };
 }
 
 /// A reader is compared with the one that was put into it.
@@ -90,13 +90,13 @@ impl<E> Play<(), LogView<E>> for Learns {
     ghost then = { λ s v n w. Learned v w };
 }
 
-/// A reader that has all of the right owns all that it has seen, but for the quiet entries.
+/// A reader that has all of the right owns all that it has seen, but for the unowned entries.
 pub(crate) struct Checks;
 
 impl<E: LogEntry> Play<(), LogView<E>> for Checks {
     ghost use Rattle.kanal_log.specs.Views.{Checked};
 
-    ghost then = { λ s v n w. Checked E.quiet v w };
+    ghost then = { λ s v n w. Checked E.unowned v w };
 }
 
 /// The first reader, which has all of the right.

@@ -7,14 +7,14 @@ use Rattle.kanal_events.specs.declared.event.Event.{Event}
 use Rattle.kanal_events.specs.declared.event.Reply.{Reply}
 use Rattle.kanal_journal.specs.Paired.{Demand, AtOnce, Later, Next, demand_stays, receipts_from, send_stays}
 use Rattle.kanal_state.specs.declared.call.Call.{Call}
-use Rattle.kanal_state.specs.Calls.{IsSilent}
+use Rattle.kanal_state.specs.Calls.{MovesNoMessage}
 use Rattle.kanal_state.specs.Makes.{IsReplied}
 use Rattle.kanal_one_history.specs.Calls.{history_of}
 use Rattle.kanal_one_history.specs.History.{pass_relations, Appends}
 use Rattle.kanal_one_history.specs.Puts.{AreGot, ArePut, Exchanges, ExchangesNothing, WaitsAsSettled}
 use Rattle.kanal_one_history.specs.Exchanged.{just-made}
 use Rattle.kanal_one_history.specs.Sound.{settled_longer}
-use Rattle.kanal_one_history.proofs.Silent.{exchanges_nothing}
+use Rattle.kanal_one_history.proofs.NoMessage.{exchanges_nothing}
 
 module _ {T : Type 0} where
   -- what was put or got stays so in each longer history
@@ -89,8 +89,8 @@ module _ {T : Type 0} where
 
   module _ (capacity : Option ℕ) (old new : Known (Call T)) where
     -- a silent call put nothing and got nothing
-    pub silent_exchanges : (call : Call T) → Appends capacity old new call → ExchangesNothing call → Exchanges capacity old new [] []
-    silent_exchanges call made s =
+    pub unmoving_exchanges : (call : Call T) → Appends capacity old new call → ExchangesNothing call → Exchanges capacity old new [] []
+    unmoving_exchanges call made s =
         record {
           call = call;
           made = just-made capacity old new call made;
@@ -100,6 +100,6 @@ module _ {T : Type 0} where
         }
 
     -- and so did a call of such an event, whatever it was answered
-    pub replied_silent : {R : Type 0} (event : Event T) (read : Reply T → R) (answer : R) → IsReplied (pass_relations capacity) old new event read answer
-        → IsSilent event → Exchanges capacity old new [] []
-    replied_silent event read answer c silent = silent_exchanges c.call c.made (exchanges_nothing c.call c.told (subst IsSilent (sym c.asked) silent))
+    pub replied_unmoving : {R : Type 0} (event : Event T) (read : Reply T → R) (answer : R) → IsReplied (pass_relations capacity) old new event read answer
+        → MovesNoMessage event → Exchanges capacity old new [] []
+    replied_unmoving event read answer c silent = unmoving_exchanges c.call c.made (exchanges_nothing c.call c.told (subst MovesNoMessage (sym c.asked) silent))

@@ -9,7 +9,7 @@ use Rattle.kanal_events.specs.declared.event.Event.TheVariants.{Send, TrySend, R
 use Rattle.kanal_events.specs.declared.event.Refusal.TheVariants.{Timeout}
 use Rattle.kanal_events.specs.declared.event.Reply.{Reply}
 use Rattle.kanal_events.specs.declared.event.Reply.TheVariants.{Sent, Waits, Yes, No, Got, Nothing, Withdrawn, Refused}
-use Rattle.kanal_events.specs.Steps.{Told, is_closed, moving, nothing_there, offer, only, step, take as take_told, take_front, wait, withdraw}
+use Rattle.kanal_events.specs.Steps.{StepSpec, is_closed, moving, nothing_there, offer, only, step, take as take_told, take_front, wait, withdraw}
 use Rattle.kanal_journal.specs.Runs.{opening_line}
 use Rattle.kanal_journal.specs.Laws.{AreRising}
 use Rattle.kanal_journal.proofs.Counting.{tickets_of}
@@ -27,7 +27,7 @@ use Rattle.kanal_one_history.proofs.Accounts.{leads_as_told}
 
 module _ {T : Type 0} where
   -- the step gave no ticket, or its reply says that the call waits under it
-  record GivesAsTold (l : Line T) (told : Told T) : Type 0 where
+  record GivesAsTold (l : Line T) (told : StepSpec T) : Type 0 where
     next : (told.line.next ≡ l.next) ⊎ ((told.line.next ≡ l.next + 1) × (told.reply ≡ Waits l.next))
 
   serve-next : (old : Line T) (line : List (LineEntry T)) (ds : List ℕ) → (serve old line ds).line.next ≡ old.next
@@ -36,10 +36,10 @@ module _ {T : Type 0} where
   serve-next old (e ∷ es) (d ∷ ds) = serve-next old es ds
 
   module _ (l : Line T) where
-    none : (told : Told T) → told.line.next ≡ l.next → GivesAsTold l told
+    none : (told : StepSpec T) → told.line.next ≡ l.next → GivesAsTold l told
     none told is = record { next = inl is }
 
-    offers : (m : T) (r : Reply T) (otherwise : Told T) → GivesAsTold l otherwise → GivesAsTold l (offer l m r otherwise)
+    offers : (m : T) (r : Reply T) (otherwise : StepSpec T) → GivesAsTold l otherwise → GivesAsTold l (offer l m r otherwise)
     offers m r otherwise k =
         elim (cases_Bool (l.receivers == 0)) [
           | inl x ↦ rw x (none _ refl)
@@ -54,14 +54,14 @@ module _ {T : Type 0} where
               ]
         ]
 
-    fronts : (otherwise : Told T) (xs : List (LineEntry T)) → GivesAsTold l otherwise → GivesAsTold l (take_front l xs otherwise)
+    fronts : (otherwise : StepSpec T) (xs : List (LineEntry T)) → GivesAsTold l otherwise → GivesAsTold l (take_front l xs otherwise)
     fronts otherwise [] k = k
     fronts otherwise (x ∷ xs) k = none (moving (leave l (x ∷ []) xs) (Got x.message)) refl
 
-    takes : (otherwise : Told T) → GivesAsTold l otherwise → GivesAsTold l (take_told l otherwise)
+    takes : (otherwise : StepSpec T) → GivesAsTold l otherwise → GivesAsTold l (take_told l otherwise)
     takes otherwise k = elim (cases_Bool (l.receivers == 0)) [ inl x ↦ rw x (none _ refl) | inr x ↦ rw x (fronts otherwise l.line k) ]
 
-    nothing : (otherwise : Told T) → GivesAsTold l otherwise → GivesAsTold l (nothing_there l otherwise)
+    nothing : (otherwise : StepSpec T) → GivesAsTold l otherwise → GivesAsTold l (nothing_there l otherwise)
     nothing otherwise k = elim (cases_Bool (l.senders == 0)) [ inl x ↦ rw x (none _ refl) | inr x ↦ rw x k ]
 
     starts : (new : Line T) (back : Option T) → new.next ≡ l.next + 1 → GivesAsTold l (wait l new back)

@@ -9,7 +9,7 @@ use Rattle.kanal_events.specs.declared.event.Refusal.{Refusal}
 use Rattle.kanal_events.specs.declared.event.Refusal.TheVariants.{Closed as ByClosed, ReceiveClosed as NoReceiver, Sealed as BySeal, TooMany, CloseError, NoHandle}
 use Rattle.kanal_events.specs.declared.event.Reply.{Reply}
 use Rattle.kanal_events.specs.declared.event.Reply.TheVariants.{Done, Yes, No, Sent, Nothing, Refused}
-use Rattle.kanal_events.specs.Steps.{Told, answer, message_of, nothing_there, offer, only, refused, seal_line, shut, step, take as take_told, take_line, wait}
+use Rattle.kanal_events.specs.Steps.{StepSpec, answer, message_of, nothing_there, offer, only, refused, seal_line, shut, step, take as take_told, take_line, wait}
 use Rattle.kanal_journal.specs.declared.journal.handles.Handles.{Handles}
 use Rattle.kanal_journal.specs.Runs.{handles_after, has_handle, made}
 use Rattle.kanal_journal.specs.Paired.{asked, cleared_by, sent, withdrawn}
@@ -17,7 +17,7 @@ use Rattle.kanal_journal.proofs.Standing.{is_plain, raised-zero, step-steady, st
 use Rattle.kanal_state.specs.declared.call.Call.{Call}
 use Rattle.kanal_state.specs.Calls.{IsToldOn}
 use Rattle.kanal_one_history.specs.Accounts.{reply_by}
-use Rattle.kanal_one_history.proofs.Silent.{answers-nothing}
+use Rattle.kanal_one_history.proofs.NoMessage.{answers-nothing}
 
 -- a side without a live handle counts nobody
 pub nobody : (k n : ℕ) → not (k == 0) ≡ false → n ≤ k → n ≡ 0
@@ -37,7 +37,7 @@ module _ {T : Type 0} where
   IsHeld handles l = (l.senders ≤ handles.tx) × (l.receivers ≤ handles.rx)
 
   -- the event tells nothing but its reply, which has no message
-  pub record IsIdle (l : Line T) (e : Event T) (told : Told T) : Type 0 where
+  pub record IsIdle (l : Line T) (e : Event T) (told : StepSpec T) : Type 0 where
     pub line : told.line ≡ l
     pub settled : told.settled ≡ []
     pub drained : told.drained ≡ []
@@ -61,7 +61,7 @@ module _ {T : Type 0} where
   none-withdrawn e reason back = refl
 
   module _ (l : Line T) where
-    to : (e : Event T) (told other : Told T) → told ≡ other → IsIdle l e other → IsIdle l e told
+    to : (e : Event T) (told other : StepSpec T) → told ≡ other → IsIdle l e other → IsIdle l e told
     to e told other is k = subst (IsIdle l e) (sym is) k
 
     pub refused_idle : (e : Event T) (reason : Refusal) (back : Option T) → IsIdle l e (only l (Refused reason back))
@@ -81,14 +81,14 @@ module _ {T : Type 0} where
     answered-idle e r s a w c =
         record { line = refl; settled = refl; drained = refl; cleared = refl; sends = s; asks = a; withdraws = w; clears = c }
 
-    offers : (e : Event T) (m : T) (r : Reply T) (otherwise : Told T) → l.senders ≡ 0 → IsIdle l e (offer l m r otherwise)
+    offers : (e : Event T) (m : T) (r : Reply T) (otherwise : StepSpec T) → l.senders ≡ 0 → IsIdle l e (offer l m r otherwise)
     offers e m r otherwise z =
         elim (cases_Bool (eqb l.receivers 0)) [
           | inl x ↦ to e (offer l m r otherwise) (only l (Refused (cond (l.senders == 0) ByClosed NoReceiver) (Some m))) (rw x refl) (refused_idle e (cond (l.senders == 0) ByClosed NoReceiver) (Some m))
           | inr x ↦ to e (offer l m r otherwise) (only l (Refused BySeal (Some m))) (rw (x, z) refl) (refused_idle e BySeal (Some m))
         ]
 
-    takes : (e : Event T) (otherwise : Told T) → l.receivers ≡ 0 → IsIdle l e (take_told l otherwise)
+    takes : (e : Event T) (otherwise : StepSpec T) → l.receivers ≡ 0 → IsIdle l e (take_told l otherwise)
     takes e otherwise y = to e (take_told l otherwise) (only l (Refused ByClosed None)) (rw y refl) (refused_idle e ByClosed None)
 
     -- the counts are as they were
@@ -201,7 +201,7 @@ module _ {T : Type 0} where
     step_held handles Terminated held = steady handles Terminated held refl refl
 
   -- through these handles the event tells what the line's step tells, but for a reply that says that there is none
-  pub record IsAsStep (handles : Handles) (l : Line T) (e : Event T) (told : Told T) : Type 0 where
+  pub record IsAsStep (handles : Handles) (l : Line T) (e : Event T) (told : StepSpec T) : Type 0 where
     pub line : told.line ≡ (step l e).line
     pub settled : told.settled ≡ (step l e).settled
     pub drained : told.drained ≡ (step l e).drained

@@ -1,6 +1,6 @@
 pub mod Telling
 pub mod Pairing
-pub mod Silent
+pub mod NoMessage
 pub mod Exchanging
 pub mod Handles
 pub mod Finality

@@ -96,7 +96,7 @@ impl<T, J: LogId> History<T> for GhostHistory<T, J> {
     }
 
     #[inline(always)]
-    fn append_silent<X, Y, M: EntryOf<X, Y, Call<T>>>(
+    fn append_internal<X, Y, M: EntryOf<X, Y, Call<T>>>(
         &mut self,
         log: &GhostLog<Call<T>, J>,
         internal_pass: &mut InternalPass<T, J>,
@@ -104,7 +104,7 @@ impl<T, J: LogId> History<T> for GhostHistory<T, J> {
         answer: &Y,
     ) {
         let writer = &mut self.writer;
-        writer.append_quiet_of::<X, Y, M>(log, &mut internal_pass.reader, about, answer);
+        writer.append_unowned_of::<X, Y, M>(log, &mut internal_pass.reader, about, answer);
     }
 
     #[inline(always)]

@@ -5,8 +5,8 @@
 ghost use Rattle.std.specs.Prelude.{◌≡◌, ◌++◌, ℕ, [], take};
 ghost use mathlib.Core.List.{IsPrefix};
 ghost use Rattle.kanal_log.specs.Shares.{IsWhole, both, half};
-ghost use Rattle.kanal_log.specs.Views.{AreDisjoint, AreDistinct, OneBegins, OwnsAllButQuiet, known};
-ghost use Rattle.kanal_state.specs.Calls.{IsSilent};
+ghost use Rattle.kanal_log.specs.Views.{AreDisjoint, AreDistinct, OneBegins, OwnsAllBut, known};
+ghost use Rattle.kanal_state.specs.Calls.{MovesNoMessage};
 ghost use Rattle.kanal_journal.specs.Paired.{Paired};
 ghost use Rattle.kanal_one_history.specs.Accounts.{LeadsAsTold};
 ghost use Rattle.kanal_one_history.specs.Calls.{IsLegal, history_of};
@@ -62,7 +62,7 @@ impl<T, J: LogId> Pass<T, J> {
     }
 
     /// A pass for another thread, which has seen as much and owns no call. Each of the two has half of the
-    /// share. It is no call itself, counts no sender and no receiver, and waits for nobody.
+    /// share. It is no call itself, counts no sender and no receiver, and never waits.
     /// Example: `let other = pass.again(&log)` goes to another thread.
     pub fn again(&mut self, log: &GhostLog<Call<T>, J>) -> Self
         ensures copy { result ≡ known self.old.log [] (half self.old.share) }
@@ -74,7 +74,7 @@ impl<T, J: LogId> Pass<T, J> {
     }
 
     /// Hands on what another pass has seen: this one has seen it, too, owns the calls of both, and has both
-    /// shares. It waits for nobody.
+    /// shares. It never waits.
     ///
     /// Each later call of this pass stands in the history after all that it has learnt of.
     /// Example: `pass.learn(&log, other)` where `other` comes back from another thread.
@@ -90,18 +90,18 @@ impl<T, J: LogId> Pass<T, J> {
     }
 
     /// A pass that has all of the right to add calls owns each send, receive, drain and close that it has seen. It
-    /// changes nothing, and waits for nobody.
+    /// changes nothing, and never waits.
     /// Example: `one.owns_all(&log)` where all other passes came back by `learn`.
     pub fn owns_all(&mut self, log: &GhostLog<Call<T>, J>)
         requires whole { IsWhole self.old.share }
         ensures same { self.new ≡ self.old }
-        ensures each { OwnsAllButQuiet (λ call. IsSilent call.event) self.old.log self.old.own }
+        ensures each { OwnsAllBut (λ call. MovesNoMessage call.event) self.old.log self.old.own }
     {
         self.reader.owns_all(log);
     }
 
     /// Two passes have seen beginnings of one history: one of the two begins with the other. It changes
-    /// neither, and waits for nobody.
+    /// neither, and never waits.
     /// Example: `one.compare(&log, &mut other)` and the caller's proof has it.
     pub fn compare(&mut self, log: &GhostLog<Call<T>, J>, other: &mut Self)
         ensures same { (self.new ≡ self.old) × (other.new ≡ other.old) }
@@ -112,7 +112,7 @@ impl<T, J: LogId> Pass<T, J> {
 
     /// No entry of the history answers for two calls: no place is own to both passes, and none stands
     /// twice among the places of one. So a pass has made as many calls as it has places. It changes
-    /// neither, and waits for nobody.
+    /// neither, and never waits.
     /// Example: `one.owns_once(&log, &mut other)` and the caller's proof has it.
     pub fn owns_once(&mut self, log: &GhostLog<Call<T>, J>, other: &mut Self)
         ensures same { (self.new ≡ self.old) × (other.new ≡ other.old) }
@@ -156,7 +156,7 @@ impl<T, J: LogId> Prefix<T, J> {
         }
     }
 
-    /// The same once more.
+    /// A copy of it.
     pub(crate) fn again(&mut self, log: &GhostLog<Call<T>, J>) -> Self
         ensures seen { result ≡ self.old }
         ensures same { self.new ≡ self.old }

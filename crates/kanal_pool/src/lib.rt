@@ -1,8 +1,7 @@
 //! A pool of workers whose answers are the jobs' answers, in the jobs' order.
 //!
-//! The jobs go to the workers by one channel, and the answers come back by another. Whoever works says what a job's
-//! value is (`Job`), and `map_jobs` answers with each job's value, for every number of workers; `map_in_turn` does so
-//! on one thread.
+//! `map_jobs` answers with each job's value (`Job`), for every number of workers; `map_in_turn` does so on one
+//! thread.
 #![tactic(auto)]
 
 mod error;

@@ -1,8 +1,7 @@
 //! The pool: workers take the jobs from one channel and answer by another.
 //!
-//! The job channel holds all jobs and is sealed before a worker starts, so a worker goes on until it is told
-//! `SendClosed`. The answer channel has a place for each answer, so no worker waits with one. The answers are
-//! collected once all workers have ended, and no other module starts a thread.
+//! The job channel is sealed before a worker starts, and the answer channel has a place for each answer: so each
+//! worker ends, and none waits with an answer. No other module starts a thread.
 ghost use Rattle.std.specs.Prelude.{◌≡◌, ◌≢◌, ◌↔◌, ◌⊎◌, length, IfOk, IsErrOf};
 ghost use Rattle.kanal_core.specs.Line.{last_word};
 ghost use Rattle.kanal_pool.specs.Answers.{answers, AreInPlace};

@@ -1,8 +1,7 @@
-//! What lies under the lock of a recorded channel.
+//! What is done under the lock of a recorded channel.
 //!
-//! A contract sees nothing of what is under a lock. So what is done there is a function that is given
-//! the state and says what becomes of it: the functions of this room, and a pass's own step. Stands on
-//! the recorded state, and on the comparison of the passes' lists with a journal.
+//! A contract sees nothing of what is under a lock: so each function here is given the state, and says what becomes
+//! of it.
 ghost use Rattle.std.specs.Prelude.{◌≡◌, ◌↔◌, ◌+◌, ℕ, IfErr, IfOk, IsErr, IsErrOf, Some};
 ghost use Rattle.kanal_core.specs.Line.{last_word};
 ghost use Rattle.kanal_core.specs.Moves.{last_count};

@@ -64,7 +64,7 @@ impl<T: Copy> Pass<T> {
         }
     }
 
-    /// The party's number. It waits for nobody.
+    /// The party's number. It never waits.
     ///
     /// # Examples
     /// ```text
@@ -76,8 +76,8 @@ impl<T: Copy> Pass<T> {
         self.party
     }
 
-    /// The calls that were made, oldest first, but for those that found no memory. It waits for
-    /// nobody.
+    /// The calls that were made, oldest first, but for those that found no memory. It
+    /// never waits.
     ///
     /// # Examples
     /// ```text
@@ -350,7 +350,7 @@ impl<T: Copy> Pass<T> {
         channel.inner.lock(rt).outcome(ticket)
     }
 
-    /// How much of the journal this pass has seen, for another pass to hear. It waits for nobody.
+    /// How much of the journal this pass has seen, for another pass to hear. It never waits.
     ///
     /// # Examples
     /// ```text
@@ -363,7 +363,7 @@ impl<T: Copy> Pass<T> {
         Seen { length: self.seen }
     }
 
-    /// Takes note of what another pass has seen. It waits for nobody.
+    /// Takes note of what another pass has seen. It never waits.
     ///
     /// What is told of another channel is heard as well; the passes' lists then don't agree with
     /// either journal.

@@ -89,7 +89,7 @@ impl<T: Copy> Recorded<T> {
     /// what the pass had seen. The journal is then one legal history of one line of messages, with
     /// each pass's calls in it, in its own order, after all that it had seen or heard; its events lead
     /// from a new channel to what was told, so that each of `kanal_journal::laws` holds of it. It asks
-    /// for no memory and waits for nobody.
+    /// for no memory and never waits.
     ///
     /// The premise is that `==` of messages calls only the same value equal.
     ///

@@ -1,7 +1,7 @@
 //! Reads a script from bytes, in one pass.
 //!
-//! It stands on `script` and on the names of `kanal_journal`'s events. The input is cut into lines
-//! at each line feed, and a line into words at each single space. No other module cuts input.
+//! The input is cut into lines at each line feed, and a line into words at each single space. No other module cuts
+//! input.
 ghost use Rattle.std.specs.Prelude.{◌≡◌, ◌↔◌, ℕ, ◌+◌, ◌<◌, ◌≤◌, ◌^◌, [], ◌∷◌, ◌++◌, length, take, drop, MatchOption, List, Option, IsTrue, IsSome, IsNone, IfSome, IfOk, IfErr, IsErr, OnOk, ◌≢◌, decimal};
 ghost use Rattle.kanal_script.specs.declared.parser.ParseError.TheVariants.{NoMemory};
 ghost use Rattle.kanal_script.specs.Faults.{IsFirstFault};

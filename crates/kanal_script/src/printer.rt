@@ -1,7 +1,6 @@
 //! Prints what a script answered, a line a step and then that step's settlements.
 //!
-//! It stands on the names of `kanal_journal`'s replies and of `kanal_core`'s outcomes. No other
-//! module writes these texts.
+//! No other module writes these texts.
 ghost use Rattle.std.specs.Prelude.{◌≡◌, ◌≤◌, length, drop, OnOk};
 ghost use Rattle.std.specs.Io.KnownBytes.{Appends};
 ghost use Rattle.kanal_script.specs.Script.{line};

@@ -1,8 +1,6 @@
 //! The work of the program `kanal_run`, over any reader and any two writers.
 //!
-//! It stands on `parser`, `kanal_journal`'s `run` and `printer`, which it calls one after another:
-//! nothing is judged before the input is read to its end, and nothing is written before all steps
-//! are made.
+//! Nothing is judged before the input is read to its end, and nothing is written before all steps are made.
 ghost use Rattle.std.specs.Prelude.{◌≡◌, ◌≢◌, ◌⊎◌, ◌≤◌, ℕ, Some, IfSome, IfOk, IfErr, OnOk, OnErr, IsTrue};
 ghost use Rattle.std.specs.Io.KnownBytes.{Appends};
 ghost use Rattle.kanal_script.specs.Faults.{IsFirstFault};

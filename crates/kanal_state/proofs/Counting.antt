@@ -9,7 +9,7 @@ use Rattle.kanal_events.specs.declared.event.Side.{Side}
 use Rattle.kanal_events.specs.declared.event.Side.TheVariants.{Tx, Rx}
 use Rattle.kanal_events.specs.declared.step_result.StepResult.{StepResult}
 use Rattle.kanal_events.specs.StepResult.{reply_of}
-use Rattle.kanal_events.specs.Steps.{Told, Tells, cloned}
+use Rattle.kanal_events.specs.Steps.{StepSpec, Tells, cloned}
 use Rattle.kanal_state.specs.Makes.{StepAppendPost, IsReplied}
 use Rattle.kanal_state.specs.Results.{counted_by}
 use Rattle.kanal_state.specs.HistoryRelations.{HistoryRelations}
@@ -28,14 +28,14 @@ module _ {T : Type 0} where
         | inr a ↦ rw a refl
       ]
 
-  settles-none : (l : Line T) (side : Side) (told : Told T) → Tells l (one_more side) told → told.settled ≡ []
-  settles-none l Tx told (inl was) = ap (λ (t : Told T). t.settled) was ∙ cloned-settles l l.senders (add_sender l)
+  settles-none : (l : Line T) (side : Side) (told : StepSpec T) → Tells l (one_more side) told → told.settled ≡ []
+  settles-none l Tx told (inl was) = ap (λ (t : StepSpec T). t.settled) was ∙ cloned-settles l l.senders (add_sender l)
   settles-none l Tx told (inr m) = absurd m.0
-  settles-none l Rx told (inl was) = ap (λ (t : Told T). t.settled) was ∙ cloned-settles l l.receivers (add_receiver l)
+  settles-none l Rx told (inl was) = ap (λ (t : StepSpec T). t.settled) was ∙ cloned-settles l l.receivers (add_receiver l)
   settles-none l Rx told (inr m) = absurd m.0
 
   -- one handle more settles nobody's wait
-  pub more_settles : (l : Line T) (side : Side) (event : Event T) (told : Told T) → event ≡ one_more side → Tells l event told → told.settled ≡ []
+  pub more_settles : (l : Line T) (side : Side) (event : Event T) (told : StepSpec T) → event ≡ one_more side → Tells l event told → told.settled ≡ []
   more_settles l side event told is tells = settles-none l side told (subst (λ e. Tells l e told) is tells)
 
   -- and memory is never refused to it

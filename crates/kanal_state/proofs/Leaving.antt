@@ -15,7 +15,7 @@ use Rattle.kanal_events.specs.declared.step_result.Leaving.TheVariants.{One, All
 use Rattle.kanal_events.specs.declared.step_result.StepResult.{StepResult}
 use Rattle.kanal_events.specs.Leaving.{Leave, gone_of, gone_of_left}
 use Rattle.kanal_events.specs.StepResult.{settled_of, settled_of_left}
-use Rattle.kanal_events.specs.Steps.{Told, Tells}
+use Rattle.kanal_events.specs.Steps.{StepSpec, Tells}
 use Rattle.kanal_state.specs.Calls.{IsDrop}
 use Rattle.kanal_state.specs.Counts.{count_of, one_less}
 use Rattle.kanal_state.specs.Renewing.{Brought, TakesNode}
@@ -49,7 +49,7 @@ module _ {T : Type 0} where
   less_is_drop side event is = rw is (less-drops T side)
 
   -- the drop of a handle that is not the last of its side settles nobody's wait
-  pub quiet_less : (side : Side) (l : Line T) (told : Told T) → Tells l (one_less side) told → (count_of side l == 1) ≡ false → told.settled ≡ []
+  pub quiet_less : (side : Side) (l : Line T) (told : StepSpec T) → Tells l (one_less side) told → (count_of side l == 1) ≡ false → told.settled ≡ []
   quiet_less Tx l told tells more = quiet_tx l told tells more
   quiet_less Rx l told tells more = quiet_rx l told tells more
 

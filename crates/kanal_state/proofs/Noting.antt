@@ -3,28 +3,28 @@ use Rattle.std.proofs.Common.{◌≡◌, ◌==◌, ◌-◌, Bool, List, [], ◌�
 use Rattle.std.proofs.lemmas.Bool.{cases_Bool}
 use Rattle.kanal_core.specs.declared.internal.outcome.Reason.TheVariants.{SendClosed as BySenders, ReceiveClosed as ByReceivers}
 use Rattle.kanal_core.specs.Line.{LineEntry, Line, has_place, last_word}
-use Rattle.kanal_core.specs.Moves.{end_all, enter, quiet, wait_recv, wait_send}
+use Rattle.kanal_core.specs.Moves.{end_all, enter, none_settled, wait_recv, wait_send}
 use Rattle.kanal_events.specs.declared.event.Event.{Event}
 use Rattle.kanal_events.specs.declared.event.Event.TheVariants.{Send, TrySend, Recv, RecvLate, TryRecv, Drain, Withdraw, CloneTx, CloneRx, DropTx, DropRx, Seal, Close, Ask, Terminated}
 use Rattle.kanal_events.specs.declared.event.Reply.{Reply}
 use Rattle.kanal_events.specs.declared.event.Reply.TheVariants.{Sent, Yes, Got, Nothing, Refused, Waits}
 use Rattle.kanal_events.specs.declared.event.Refusal.TheVariants.{Closed, ReceiveClosed, Sealed, SendClosed, TooMany}
 use Rattle.kanal_events.specs.declared.step_result.StepResult.{StepResult}
-use Rattle.kanal_events.specs.Steps.{Told, step, Tells, is_no_memory, moving, nothing_there, only, take_front, wait}
+use Rattle.kanal_events.specs.Steps.{StepSpec, step, Tells, is_no_memory, moving, nothing_there, only, take_front, wait}
 use Rattle.kanal_events.specs.StepResult.{entered, got, told_of}
-use Rattle.kanal_state.specs.Calls.{IsDrop, IsSilent, IsToldOn, call_of, line_by}
+use Rattle.kanal_state.specs.Calls.{IsDrop, MovesNoMessage, IsToldOn, call_of, line_by}
 use Rattle.kanal_state.specs.declared.call.Call.{Call}
-use Rattle.kanal_state.specs.Entries.{call_from, told_by, tried_entry, tried_receipt}
+use Rattle.kanal_state.specs.Entries.{call_from, replied, told_by}
 use Rattle.kanal_state.proofs.Telling.{tells_step, tells_refused}
 
 module _ {T : Type 0} where
   -- a call that was told the line's step is told so on that line
-  pub told-on : (l : Line T) (e : Event T) (told : Told T) → told ≡ step l e → call_of e told ≡ call_of e (step l e)
+  pub told-on : (l : Line T) (e : Event T) (told : StepSpec T) → told ≡ step l e → call_of e told ≡ call_of e (step l e)
   told-on l e told is = ap (call_of e) is
 
 module _ {T : Type 0} where
   -- the drop of a handle is never refused for memory
-  pub drop_told : (l : Line T) (e : Event T) (told : Told T) → IsDrop e → Tells l e told → told ≡ step l e
+  pub drop_told : (l : Line T) (e : Event T) (told : StepSpec T) → IsDrop e → Tells l e told → told ≡ step l e
   drop_told l DropTx told drops (inl is) = is
   drop_told l DropTx told drops (inr m) = absurd m.0
   drop_told l DropRx told drops (inl is) = is
@@ -44,44 +44,44 @@ module _ {T : Type 0} where
   drop_told l Terminated told drops tells = absurd drops
 
   -- it is silent
-  pub drop_silent : (e : Event T) → IsDrop e → IsSilent e
-  drop_silent DropTx drops = tt
-  drop_silent DropRx drops = tt
-  drop_silent (Send m) drops = absurd drops
-  drop_silent (TrySend m) drops = absurd drops
-  drop_silent Recv drops = absurd drops
-  drop_silent RecvLate drops = absurd drops
-  drop_silent TryRecv drops = absurd drops
-  drop_silent Drain drops = absurd drops
-  drop_silent (Withdraw t) drops = tt
-  drop_silent CloneTx drops = tt
-  drop_silent CloneRx drops = tt
-  drop_silent Seal drops = tt
-  drop_silent Close drops = absurd drops
-  drop_silent (Ask side ask) drops = tt
-  drop_silent Terminated drops = tt
+  pub drop_moves_none : (e : Event T) → IsDrop e → MovesNoMessage e
+  drop_moves_none DropTx drops = tt
+  drop_moves_none DropRx drops = tt
+  drop_moves_none (Send m) drops = absurd drops
+  drop_moves_none (TrySend m) drops = absurd drops
+  drop_moves_none Recv drops = absurd drops
+  drop_moves_none RecvLate drops = absurd drops
+  drop_moves_none TryRecv drops = absurd drops
+  drop_moves_none Drain drops = absurd drops
+  drop_moves_none (Withdraw t) drops = tt
+  drop_moves_none CloneTx drops = tt
+  drop_moves_none CloneRx drops = tt
+  drop_moves_none Seal drops = tt
+  drop_moves_none Close drops = absurd drops
+  drop_moves_none (Ask side ask) drops = tt
+  drop_moves_none Terminated drops = tt
 
 module _ {T : Type 0} where
   -- the drop of a sender that is not the last settles nobody's wait
-  pub quiet_tx : (l : Line T) (told : Told T) → Tells l DropTx told → (l.senders == 1) ≡ false → told.settled ≡ []
+  pub quiet_tx : (l : Line T) (told : StepSpec T) → Tells l DropTx told → (l.senders == 1) ≡ false → told.settled ≡ []
   quiet_tx l told (inl is) more =
-      let P : Bool → Type 0 = λ b. (cond b (end_all (record l { senders = 0 }) BySenders) (quiet (record l { senders = l.senders - 1 }))).settled ≡ [] in
-      ap (λ (t : Told T). t.settled) is ∙ subst P (sym more) refl
+      let P : Bool → Type 0 = λ b. (cond b (end_all (record l { senders = 0 }) BySenders) (none_settled (record l { senders = l.senders - 1 }))).settled ≡ [] in
+      ap (λ (t : StepSpec T). t.settled) is ∙ subst P (sym more) refl
   quiet_tx l told (inr m) more = absurd m.0
 
   -- nor does that of a receiver
-  pub quiet_rx : (l : Line T) (told : Told T) → Tells l DropRx told → (l.receivers == 1) ≡ false → told.settled ≡ []
+  pub quiet_rx : (l : Line T) (told : StepSpec T) → Tells l DropRx told → (l.receivers == 1) ≡ false → told.settled ≡ []
   quiet_rx l told (inl is) more =
-      let P : Bool → Type 0 = λ b. (cond b (end_all (record l { receivers = 0 }) ByReceivers) (quiet (record l { receivers = l.receivers - 1 }))).settled ≡ [] in
-      ap (λ (t : Told T). t.settled) is ∙ subst P (sym more) refl
+      let P : Bool → Type 0 = λ b. (cond b (end_all (record l { receivers = 0 }) ByReceivers) (none_settled (record l { receivers = l.receivers - 1 }))).settled ≡ [] in
+      ap (λ (t : StepSpec T). t.settled) is ∙ subst P (sym more) refl
   quiet_rx l told (inr m) more = absurd m.0
 
 module _ {T W : Type 0} where
   -- a drop that was made is told so on the line that it found
-  pub drop_on : (l new : Line T) (event asked : Event T) (m : StepResult T W) → asked ≡ event → IsDrop event → Tells l event (told_of new m) → IsToldOn l (call_from asked m) × IsSilent asked
+  pub drop_on : (l new : Line T) (event asked : Event T) (m : StepResult T W) → asked ≡ event → IsDrop event → Tells l event (told_of new m) → IsToldOn l (call_from asked m) × MovesNoMessage asked
   drop_on l new event asked m was drops tells =
       let told : call_from event m ≡ call_of event (step l event) = told-on l event (told_of new m) (drop_told l event (told_of new m) drops tells) in
-      subst (λ e. (call_from e m ≡ call_of e (step l e)) × IsSilent e) (sym was) (told, drop_silent event drops)
+      subst (λ e. (call_from e m ≡ call_of e (step l e)) × MovesNoMessage e) (sym was) (told, drop_moves_none event drops)
 
 module _ {T : Type 0} where
   -- the same of a call that was kept and not refused
@@ -94,14 +94,14 @@ module _ {T : Type 0} where
   pub kept-line : (l new : Line T) (event : Event T) (c : Call T) → c.event ≡ event → Tells l event (told_by new c) → is_no_memory c.reply ≡ false → line_by c l ≡ new
   kept-line l new event c asked tells clear =
       let here : Tells l c.event (told_by new c) = subst (λ e. Tells l e (told_by new c)) (sym asked) tells in
-      sym (ap (λ (t : Told T). t.line) (tells_step l c.event (told_by new c) here clear))
+      sym (ap (λ (t : StepSpec T). t.line) (tells_step l c.event (told_by new c) here clear))
 
   -- one that was refused for memory leaves the line
   pub refused-line : (l new : Line T) (event : Event T) (c : Call T) → Tells l event (told_by new c) → is_no_memory c.reply ≡ true → l ≡ new
-  refused-line l new event c tells lacking = sym (ap (λ (t : Told T). t.line) (tells_refused l event (told_by new c) tells lacking).1)
+  refused-line l new event c tells lacking = sym (ap (λ (t : StepSpec T). t.line) (tells_refused l event (told_by new c) tells lacking).1)
 
 module _ {T : Type 0} where
-  abbrev reply-of : Told T → Reply T
+  abbrev reply-of : StepSpec T → Reply T
   reply-of told = told.reply
 
   waits-not-sent : (l new : Line T) (back : Option T) → (wait l new back).reply ≡ Sent → ⊥
@@ -134,7 +134,7 @@ module _ {T : Type 0} where
             | inl c ↦
                 let there : step l (Send m) ≡ moving (enter l m) Sent = rw (a, b, c) refl in
                 let here : step l (TrySend m) ≡ moving (enter l m) Yes = rw (a, b, c) refl in
-                ap (λ (t : Told T). record t { reply = Yes }) (is ∙ there) ∙ sym here
+                ap (λ (t : StepSpec T). record t { reply = Yes }) (is ∙ there) ∙ sym here
             | inr c ↦
                 let there : step l (Send m) ≡ wait l (wait_send l m) (Some m) = rw (a, b, c) refl in
                 absurd (waits-not-sent l (wait_send l m) (Some m) (sym (ap reply-of (is ∙ there))))
@@ -155,7 +155,7 @@ module _ {T : Type 0} where
             absurd (cc (no))
       ]
 
-  nothing-not-got : (l : Line T) (otherwise : Told T) (m : T) → (otherwise.reply ≡ Got m → ⊥) → (nothing_there l otherwise).reply ≡ Got m → ⊥
+  nothing-not-got : (l : Line T) (otherwise : StepSpec T) (m : T) → (otherwise.reply ≡ Got m → ⊥) → (nothing_there l otherwise).reply ≡ Got m → ⊥
   nothing-not-got l otherwise m off e =
       elim (cases_Bool (l.senders == 0)) [
         | inl a ↦
@@ -167,7 +167,7 @@ module _ {T : Type 0} where
             off (sym (ap reply-of there) ∙ e)
       ]
 
-  front-as : (l new : Line T) (m : T) (es : List (LineEntry T)) (o p : Told T) → (o.reply ≡ Got m → ⊥) → only new (Got m) ≡ take_front l es o → only new (Got m) ≡ take_front l es p
+  front-as : (l new : Line T) (m : T) (es : List (LineEntry T)) (o p : StepSpec T) → (o.reply ≡ Got m → ⊥) → only new (Got m) ≡ take_front l es o → only new (Got m) ≡ take_front l es p
   front-as l new m [] o p off e = absurd (off (sym (ap reply-of e)))
   front-as l new m (x ∷ es) o p off e = e
 
@@ -188,15 +188,15 @@ module _ {T : Type 0} where
       ]
 
   -- the calls that were kept so are told on the line that they found
-  pub tried_entry_told : (l new : Line T) (m : T) → Tells l (Send m) (entered new) → IsToldOn l (tried_entry m)
-  tried_entry_told l new m tells = ap (call_of (TrySend m)) (entered_as l new m (tells_step l (Send m) (entered new) tells refl))
+  pub try_send_told : (l new : Line T) (m : T) → Tells l (Send m) (entered new) → IsToldOn l (replied (TrySend m) Yes)
+  try_send_told l new m tells = ap (call_of (TrySend m)) (entered_as l new m (tells_step l (Send m) (entered new) tells refl))
 
-  pub tried_receipt_told : (l new : Line T) (m : T) → Tells l Recv (got m new) → IsToldOn l (tried_receipt m)
-  tried_receipt_told l new m tells = ap (call_of TryRecv) (got_as l new m (tells_step l Recv (got m new) tells refl))
+  pub try_recv_told : (l new : Line T) (m : T) → Tells l Recv (got m new) → IsToldOn l (replied TryRecv (Got m))
+  try_recv_told l new m tells = ap (call_of TryRecv) (got_as l new m (tells_step l Recv (got m new) tells refl))
 
   -- and the line after them is the line that the step left
-  pub tried_entry_line : (l new : Line T) (m : T) → Tells l (Send m) (entered new) → line_by (tried_entry m) l ≡ new
-  tried_entry_line l new m tells = sym (ap (λ (t : Told T). t.line) (entered_as l new m (tells_step l (Send m) (entered new) tells refl)))
+  pub try_send_line : (l new : Line T) (m : T) → Tells l (Send m) (entered new) → line_by (replied (TrySend m) Yes) l ≡ new
+  try_send_line l new m tells = sym (ap (λ (t : StepSpec T). t.line) (entered_as l new m (tells_step l (Send m) (entered new) tells refl)))
 
-  pub tried_receipt_line : (l new : Line T) (m : T) → Tells l Recv (got m new) → line_by (tried_receipt m) l ≡ new
-  tried_receipt_line l new m tells = sym (ap (λ (t : Told T). t.line) (got_as l new m (tells_step l Recv (got m new) tells refl)))
+  pub try_recv_line : (l new : Line T) (m : T) → Tells l Recv (got m new) → line_by (replied TryRecv (Got m)) l ≡ new
+  try_recv_line l new m tells = sym (ap (λ (t : StepSpec T). t.line) (got_as l new m (tells_step l Recv (got m new) tells refl)))

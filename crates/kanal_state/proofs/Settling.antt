@@ -9,7 +9,7 @@ use Rattle.kanal_core.specs.declared.error.SendError.TheVariants.{NoMemory as Se
 use Rattle.kanal_events.specs.declared.event.Event.{Event}
 use Rattle.kanal_events.specs.declared.event.Event.TheVariants.{Send, TrySend, Recv, RecvLate, TryRecv, Drain, Withdraw, CloneTx, CloneRx, DropTx, DropRx, Seal, Close, Ask as Asks, Terminated}
 use Rattle.kanal_events.specs.declared.event.Reply.{Reply}
-use Rattle.kanal_events.specs.declared.event.Reply.TheVariants.{Waits}
+use Rattle.kanal_events.specs.declared.event.Reply.TheVariants.{Got, Sent, Waits, Yes}
 use Rattle.kanal_events.specs.Steps.{is_no_memory, no_memory}
 use Rattle.kanal_events.specs.Steps.{IsWait}
 use Rattle.kanal_state.specs.declared.call.Call.{Call}
@@ -17,7 +17,7 @@ use Rattle.kanal_events.specs.declared.step_result.StepResult.{StepResult}
 use Rattle.kanal_core.specs.Line.{Line}
 use Rattle.kanal_state.specs.Calls.{IsIn, IsTold}
 use Rattle.kanal_events.specs.StepResult.{settled_of, reply_of}
-use Rattle.kanal_state.specs.Entries.{MayLack, call_from, entry, receipt, replied, tried_entry, tried_receipt}
+use Rattle.kanal_state.specs.Entries.{MayLack, call_from, replied}
 use Rattle.kanal_state.specs.HistoryRelations.{HistoryRelations, AreSound, HaveSettled, HaveShown}
 use Rattle.kanal_state.specs.Handles.{TriesToReceive, TriesToSend}
 use Rattle.kanal_state.specs.Makes.{Lacks, IsReplied, HasWaited, AppendPost, StepAppendPost, IsAnswered, HasReplied, Finishes, Comes, SeesWait}
@@ -138,12 +138,12 @@ module _ {T P : Type 0} (w : HistoryRelations T P) where
   comes_replied old new event read refused answer reply (inr r) none is = inr (r.0, is ∙ (ap read r.1 ∙ none))
 
   -- the message entered
-  pub sent_at_once : (old new : P) (m : T) → w.appends old new (entry m) → IsTold (entry m) → Finishes w old new (Send m) sent_by sent_after (Err SendNoMemory) (Ok tt)
-  sent_at_once old new m made told = inl (record { replied = record { call = entry m; made = made; asked = refl; reads = refl; told = told }; clear = λ waits. waits })
+  pub sent_at_once : (old new : P) (m : T) → w.appends old new (replied (Send m) Sent) → IsTold (replied (Send m) Sent) → Finishes w old new (Send m) sent_by sent_after (Err SendNoMemory) (Ok tt)
+  sent_at_once old new m made told = inl (record { replied = record { call = replied (Send m) Sent; made = made; asked = refl; reads = refl; told = told }; clear = λ waits. waits })
 
   -- the message was got
-  pub received_at_once : (old new : P) (m : T) → w.appends old new (receipt m) → IsTold (receipt m) → Finishes w old new Recv received_by received_after (Err ReceiveNoMemory) (Ok m)
-  received_at_once old new m made told = inl (record { replied = record { call = receipt m; made = made; asked = refl; reads = refl; told = told }; clear = λ waits. waits })
+  pub received_at_once : (old new : P) (m : T) → w.appends old new (replied Recv (Got m)) → IsTold (replied Recv (Got m)) → Finishes w old new Recv received_by received_after (Err ReceiveNoMemory) (Ok m)
+  received_at_once old new m made told = inl (record { replied = record { call = replied Recv (Got m); made = made; asked = refl; reads = refl; told = told }; clear = λ waits. waits })
 
   -- a send that goes on with what came back, and with the pass as it was
   pub sent_from : (old mid new : P) (m back : T) (answer : Result (Unit {0}) SendError) → back ≡ m → mid ≡ old → Finishes w mid new (Send back) sent_by sent_after (Err SendNoMemory) answer → Finishes w old new (Send m) sent_by sent_after (Err SendNoMemory) answer
@@ -155,11 +155,11 @@ module _ {T P : Type 0} (w : HistoryRelations T P) where
   received_from old mid new answer stays f = subst (λ (k : P). Finishes w k new Recv received_by received_after (Err ReceiveNoMemory) answer) stays f
 
   -- the same of a send and of a receive that don't wait
-  pub tried_at_once : (old new : P) (m : T) → w.appends old new (tried_entry m) → IsTold (tried_entry m) → TriesToSend w old new m (Ok true)
-  tried_at_once old new m made told = inl (record { call = tried_entry m; made = made; asked = refl; reads = refl; told = told })
+  pub tried_at_once : (old new : P) (m : T) → w.appends old new (replied (TrySend m) Yes) → IsTold (replied (TrySend m) Yes) → TriesToSend w old new m (Ok true)
+  tried_at_once old new m made told = inl (record { call = replied (TrySend m) Yes; made = made; asked = refl; reads = refl; told = told })
 
-  pub asked_at_once : (old new : P) (m : T) → w.appends old new (tried_receipt m) → IsTold (tried_receipt m) → TriesToReceive w old new (Ok (Some m))
-  asked_at_once old new m made told = record { call = tried_receipt m; made = made; asked = refl; reads = refl; told = told }
+  pub asked_at_once : (old new : P) (m : T) → w.appends old new (replied TryRecv (Got m)) → IsTold (replied TryRecv (Got m)) → TriesToReceive w old new (Ok (Some m))
+  asked_at_once old new m made told = record { call = replied TryRecv (Got m); made = made; asked = refl; reads = refl; told = told }
 
 module _ {T P : Type 0} (w : HistoryRelations T P) (sound : AreSound w) where
   -- a call that the pass has seen must wait, and for which there was no memory

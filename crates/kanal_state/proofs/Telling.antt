@@ -11,7 +11,7 @@ use Rattle.kanal_events.specs.declared.event.Refusal.TheVariants.{NoMemory, TooM
 use Rattle.kanal_events.specs.declared.event.Reply.{Reply}
 use Rattle.kanal_events.specs.declared.event.Reply.TheVariants.{Sent, Yes}
 use Rattle.kanal_events.specs.declared.event.Side.{Side}
-use Rattle.kanal_events.specs.Steps.{Told, step, refused, Tells, MayRefuse, is_no_memory, answer, offer, take, take_front, nothing_there, wait, withdraw, is_closed, seal_line, shut, take_line, cloned}
+use Rattle.kanal_events.specs.Steps.{StepSpec, step, refused, Tells, MayRefuse, is_no_memory, answer, offer, take, take_front, nothing_there, wait, withdraw, is_closed, seal_line, shut, take_line, cloned}
 use Rattle.kanal_events.specs.StepResult.{MustWait}
 
 -- a number that is not 0 is not equal to 0, as it is computed
@@ -24,10 +24,10 @@ not-zero n more =
 
 module _ {T : Type 0} where
   -- the reply doesn't say that there was no memory
-  abbrev Found : Told T → Type 0
+  abbrev Found : StepSpec T → Type 0
   Found told = is_no_memory told.reply ≡ false
 
-  offer-found : (l : Line T) (m : T) (entered : Reply T) (otherwise : Told T) → is_no_memory entered ≡ false → Found otherwise → Found (offer l m entered otherwise)
+  offer-found : (l : Line T) (m : T) (entered : Reply T) (otherwise : StepSpec T) → is_no_memory entered ≡ false → Found otherwise → Found (offer l m entered otherwise)
   offer-found l m entered otherwise e o =
       elim (cases_Bool (l.receivers == 0)) [
         | inl a ↦ elim (cases_Bool (l.senders == 0)) [
@@ -50,18 +50,18 @@ module _ {T : Type 0} where
         | inr a ↦ rw a refl
       ]
 
-  front-found : (l : Line T) (es : List (LineEntry T)) (otherwise : Told T) → Found otherwise → Found (take_front l es otherwise)
+  front-found : (l : Line T) (es : List (LineEntry T)) (otherwise : StepSpec T) → Found otherwise → Found (take_front l es otherwise)
   front-found l [] otherwise o = o
   front-found l (e ∷ es) otherwise o = refl
 
-  take-found : (l : Line T) (otherwise : Told T) → Found otherwise → Found (take l otherwise)
+  take-found : (l : Line T) (otherwise : StepSpec T) → Found otherwise → Found (take l otherwise)
   take-found l otherwise o =
       elim (cases_Bool (l.receivers == 0)) [
         | inl a ↦ rw a refl
         | inr a ↦ rw a (front-found l l.line otherwise o)
       ]
 
-  nothing-found : (l : Line T) (otherwise : Told T) → Found otherwise → Found (nothing_there l otherwise)
+  nothing-found : (l : Line T) (otherwise : StepSpec T) → Found otherwise → Found (nothing_there l otherwise)
   nothing-found l otherwise o =
       elim (cases_Bool (l.senders == 0)) [
         | inl a ↦ rw a refl
@@ -134,13 +134,13 @@ module _ {T : Type 0} where
   step_found l Terminated = refl
 
   -- what was not refused for memory is the line's step
-  pub tells_step : (l : Line T) (e : Event T) (told : Told T) → Tells l e told → is_no_memory told.reply ≡ false → told ≡ step l e
+  pub tells_step : (l : Line T) (e : Event T) (told : StepSpec T) → Tells l e told → is_no_memory told.reply ≡ false → told ≡ step l e
   tells_step l e told (inl is) clear = is
-  tells_step l e told (inr is) clear = absurd (false≢true (sym clear ∙ ap (λ (t : Told T). is_no_memory t.reply) is.1))
+  tells_step l e told (inr is) clear = absurd (false≢true (sym clear ∙ ap (λ (t : StepSpec T). is_no_memory t.reply) is.1))
 
   -- what was refused for memory may be
-  pub tells_refused : (l : Line T) (e : Event T) (told : Told T) → Tells l e told → is_no_memory told.reply ≡ true → MayRefuse l e × (told ≡ refused l NoMemory e)
-  tells_refused l e told (inl is) lacking = absurd (false≢true (sym (step_found l e) ∙ (ap (λ (t : Told T). is_no_memory t.reply) (sym is) ∙ lacking)))
+  pub tells_refused : (l : Line T) (e : Event T) (told : StepSpec T) → Tells l e told → is_no_memory told.reply ≡ true → MayRefuse l e × (told ≡ refused l NoMemory e)
+  tells_refused l e told (inl is) lacking = absurd (false≢true (sym (step_found l e) ∙ (ap (λ (t : StepSpec T). is_no_memory t.reply) (sym is) ∙ lacking)))
   tells_refused l e told (inr is) lacking = is
 
   -- a call that must wait is refused where the tickets are used up

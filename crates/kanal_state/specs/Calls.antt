@@ -4,12 +4,12 @@ use Rattle.kanal_core.specs.declared.internal.outcome.Outcome.{Outcome}
 use Rattle.kanal_core.specs.Line.{Line}
 use Rattle.kanal_events.specs.declared.event.Event.{Event}
 use Rattle.kanal_events.specs.declared.event.Event.TheVariants.{Withdraw, CloneTx, CloneRx, DropTx, DropRx, Seal, Ask as Asks, Terminated}
-use Rattle.kanal_events.specs.Steps.{Told, step}
+use Rattle.kanal_events.specs.Steps.{StepSpec, step}
 use Rattle.kanal_state.specs.declared.call.Call.{Call}
 
 module _ {T : Type 0} where
   -- the call of this event, of which this was told
-  abbrev pub call_of : Event T → Told T → Call T
+  abbrev pub call_of : Event T → StepSpec T → Call T
   call_of event told = record { event = event; reply = told.reply; settled = told.settled; drained = told.drained; cleared = told.cleared }
 
   -- on this line the call was told what the line's step tells
@@ -21,16 +21,16 @@ module _ {T : Type 0} where
   IsTold call = (line : Line T) × IsToldOn line call
 
   -- a call of this event puts no message, asks for none and clears none, whatever it is answered
-  abbrev pub IsSilent : Event T → Type 0
-  IsSilent (Withdraw ticket) = Unit {0}
-  IsSilent CloneTx = Unit {0}
-  IsSilent CloneRx = Unit {0}
-  IsSilent DropTx = Unit {0}
-  IsSilent DropRx = Unit {0}
-  IsSilent Seal = Unit {0}
-  IsSilent (Asks side ask) = Unit {0}
-  IsSilent Terminated = Unit {0}
-  IsSilent event = ⊥
+  abbrev pub MovesNoMessage : Event T → Type 0
+  MovesNoMessage (Withdraw ticket) = Unit {0}
+  MovesNoMessage CloneTx = Unit {0}
+  MovesNoMessage CloneRx = Unit {0}
+  MovesNoMessage DropTx = Unit {0}
+  MovesNoMessage DropRx = Unit {0}
+  MovesNoMessage Seal = Unit {0}
+  MovesNoMessage (Asks side ask) = Unit {0}
+  MovesNoMessage Terminated = Unit {0}
+  MovesNoMessage event = ⊥
 
   -- the event is the drop of a handle
   abbrev pub IsDrop : Event T → Type 0

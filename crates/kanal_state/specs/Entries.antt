@@ -2,11 +2,11 @@
 use Rattle.std.specs.Prelude.{ℕ, [], Option, ◌⊎◌}
 use Rattle.kanal_core.specs.Line.{Line}
 use Rattle.kanal_events.specs.declared.event.Event.{Event}
-use Rattle.kanal_events.specs.declared.event.Event.TheVariants.{Send, TrySend, Recv, TryRecv, Withdraw}
-use Rattle.kanal_events.specs.declared.event.Reply.TheVariants.{Got, Sent, Withdrawn, Yes}
+use Rattle.kanal_events.specs.declared.event.Event.TheVariants.{Withdraw}
+use Rattle.kanal_events.specs.declared.event.Reply.TheVariants.{Withdrawn}
 use Rattle.kanal_events.specs.declared.event.Reply.{Reply}
 use Rattle.kanal_events.specs.declared.step_result.StepResult.{StepResult}
-use Rattle.kanal_events.specs.Steps.{MayRefuse, Told}
+use Rattle.kanal_events.specs.Steps.{MayRefuse, StepSpec}
 use Rattle.kanal_events.specs.StepResult.{MustWait, cleared_of, drained_of, reply_of, settled_of}
 use Rattle.kanal_state.specs.declared.call.Call.{Call}
 
@@ -14,22 +14,6 @@ module _ {T : Type 0} where
   -- the call that took the wait with this ticket back
   abbrev pub withdrawal : ℕ → Option T → Call T
   withdrawal ticket back = record { event = Withdraw ticket; reply = Withdrawn back; settled = []; drained = []; cleared = [] }
-
-  -- the call of a send that entered and settled nobody
-  abbrev pub entry : T → Call T
-  entry m = record { event = Send m; reply = Sent; settled = []; drained = []; cleared = [] }
-
-  -- the call of a receive that got this message and settled nobody
-  abbrev pub receipt : T → Call T
-  receipt m = record { event = Recv; reply = Got m; settled = []; drained = []; cleared = [] }
-
-  -- the call of a send that doesn't wait, and that entered and settled nobody
-  abbrev pub tried_entry : T → Call T
-  tried_entry m = record { event = TrySend m; reply = Yes; settled = []; drained = []; cleared = [] }
-
-  -- the call of a receive that doesn't wait, and that got this message and settled nobody
-  abbrev pub tried_receipt : T → Call T
-  tried_receipt m = record { event = TryRecv; reply = Got m; settled = []; drained = []; cleared = [] }
 
   -- there may be no memory for the call: a line may be refused so, or the call finds that it must wait
   abbrev pub MayLack : Line T → Event T → Type 0
@@ -40,7 +24,7 @@ module _ {T : Type 0} where
   replied event reply = record { event = event; reply = reply; settled = []; drained = []; cleared = [] }
 
   -- all that a call tells, with the line after it
-  abbrev pub told_by : Line T → Call T → Told T
+  abbrev pub told_by : Line T → Call T → StepSpec T
   told_by line call = record { line = line; reply = call.reply; settled = call.settled; drained = call.drained; cleared = call.cleared }
 
 module _ {T W : Type 0} where

@@ -7,9 +7,9 @@ use Rattle.kanal_state.specs.Calls.{IsIn}
 
 -- what contracts say of passes, each of which is seen as a P
 pub record HistoryRelations (T P : Type 0) : Type 1 where
-  -- who had the first pass made this call, and has the second now
+  -- this call took the first pass to the second
   pub appends : P → P → Call T → Type 0
-  -- who had the first pass has seen more, has made no call, and has the second now
+  -- the second pass is the first after it has seen more, and made no call
   pub extends : P → P → Type 0
   -- the calls that the pass has seen led to this line
   pub reaches : P → Line T → Type 0

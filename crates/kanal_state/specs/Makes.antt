@@ -8,7 +8,7 @@ use Rattle.kanal_events.specs.declared.event.Event.TheVariants.{Drain, Withdraw}
 use Rattle.kanal_events.specs.declared.event.Reply.{Reply}
 use Rattle.kanal_events.specs.declared.event.Reply.TheVariants.{Waits, Withdrawn}
 use Rattle.kanal_events.specs.Steps.{IsWait, is_no_memory, no_memory}
-use Rattle.kanal_events.specs.declared.step_result.Answered.{Answered}
+use Rattle.kanal_events.specs.declared.step_result.FastResult.{FastResult}
 use Rattle.kanal_events.specs.declared.step_result.StepResult.{StepResult}
 use Rattle.kanal_events.specs.StepResult.{MustWait, made_of, reply_of}
 use Rattle.kanal_state.specs.declared.call.Call.{Call}
@@ -106,6 +106,6 @@ module _ {T P W : Type 0} where
   StepAppendPost w old new event made = AppendPost w old new event (call_from event made)
 
   -- the same of a call that waits where it must, and didn't have to; one that must comes back, and the pass has seen that it must
-  abbrev pub StartPost : HistoryRelations T P → P → P → Event T → Result (Answered T W) (Event T) → Type 0
+  abbrev pub StartPost : HistoryRelations T P → P → P → Event T → Result (FastResult T W) (Event T) → Type 0
   StartPost w old new event (Ok answered) = StepAppendPost w old new event (made_of answered) × (IsWait (reply_of (made_of answered)) → ⊥)
   StartPost w old new event (Err back) = (back ≡ event) × w.extends old new × SeesWait w new event

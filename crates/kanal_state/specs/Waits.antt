@@ -19,18 +19,18 @@ module _ {T P : Type 0} where
   abbrev pub IsWaiting : HistoryRelations T P → P → P → Event T → CountedWait → Type 0
   IsWaiting w old new event counted = IsReplied w old new event (λ reply. reply) (HasToWait (number_of (ticket_of counted)))
 
-module _ {T H P B S C : Type 0} where
+module _ {T Hist Pass Log Prefix Internal : Type 0} where
   -- the reply: the call waits under its ticket, or it was refused
-  abbrev pub reply_at : WaitStart T H P B S C → Reply T
+  abbrev pub reply_at : WaitStart T Hist Pass Log Prefix Internal → Reply T
   reply_at (Waits counted) = HasToWait (number_of (ticket_of counted))
   reply_at (Refused reply waiter) = reply
 
   -- the pass made the call, which waits; or it was refused, or there was no memory for it
-  abbrev pub HasStarted : HistoryRelations T P → P → P → Event T → WaitStart T H P B S C → Type 0
+  abbrev pub HasStarted : HistoryRelations T Pass → Pass → Pass → Event T → WaitStart T Hist Pass Log Prefix Internal → Type 0
   HasStarted w old new event (Waits counted) = IsWaiting w old new event counted
   HasStarted w old new event (Refused reply waiter) = HasReplied w old new event reply
 
   -- behind those that waited stands the call, with its message and its handle; or nobody came, and the waiter's handle is back
-  abbrev pub Joins : List (Waiter T Brought) → Event T → Brought → WaitStart T H P B S C → List (Waiter T Brought) → Type 0
+  abbrev pub Joins : List (Waiter T Brought) → Event T → Brought → WaitStart T Hist Pass Log Prefix Internal → List (Waiter T Brought) → Type 0
   Joins old event waiter (Waits counted) new = new ≡ old ++ record { ticket = ticket_of counted; message = message_of event; w = waiter } ∷ []
   Joins old event waiter (Refused reply back) new = (back ≡ waiter) × (new ≡ old)

@@ -21,7 +21,7 @@ pub struct Call<T> {
 }
 
 impl<T> LogEntry for Call<T> {
-    ghost use Rattle.kanal_state.specs.Calls.{IsSilent};
+    ghost use Rattle.kanal_state.specs.Calls.{MovesNoMessage};
 
-    ghost quiet = { λ call. IsSilent call.event };
+    ghost unowned = { λ call. MovesNoMessage call.event };
 }

@@ -1,8 +1,7 @@
 //! Who makes a call of a handle, or of a stream.
 //!
-//! The pass of no content is made here alone. A handle's call is generic in its caller: it gets one pass, knows
-//! nothing of it, and gives it back at the end. So each call that it makes on the channel shows in that pass,
-//! and the prover refuses one more than its clause names.
+//! A handle's call is generic in its caller, whose one pass it gives back: so the prover refuses a call more than
+//! its clause names. The pass of no content is made here alone.
 ghost use Rattle.std.specs.Prelude.{◌≡◌};
 
 use std::sync::Wait;

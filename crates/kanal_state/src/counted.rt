@@ -1,9 +1,7 @@
-//! That a handle is counted, and that a call waits: tokens of no bytes, each of which has to be counted out.
+//! Zero-sized tokens: each counted handle and each wait has one, and the prover refuses to let it go.
 //!
-//! The prover refuses to let one go. A handle's is counted out by evidence that its drop was made as an internal call,
-//! or into its channel's notices; a wait's by evidence of what became of it, or into the notices. Who takes the notices
-//! has the handles' tokens again. Nothing else makes a handle's token but a new channel, and the state, by evidence
-//! that a call counted one more; nothing makes a wait's but the state, which hands it out where it starts the wait.
+//! A token is counted out by evidence of the call that ended what it stands for, or into the notices. Nothing makes
+//! one but a new channel, and the state, by evidence of a call.
 ghost use Rattle.std.specs.Prelude.{◌≡◌, false, IfErr, IfNone, IfOk, IfSome, Ok};
 ghost use Rattle.kanal_core.specs.Channel.{line_of};
 ghost use Rattle.kanal_core.specs.Tickets.{number_of};

@@ -2,7 +2,7 @@
 ghost use Rattle.std.specs.Prelude.{◌≡◌, ℕ, List};
 ghost use Rattle.kanal_core.specs.Line.{Line};
 ghost use Rattle.kanal_core.specs.declared.internal.outcome.Outcome.{Outcome};
-ghost use Rattle.kanal_state.specs.Calls.{IsSilent, IsToldOn, line_by};
+ghost use Rattle.kanal_state.specs.Calls.{MovesNoMessage, IsToldOn, line_by};
 ghost use Rattle.kanal_state.specs.Exchanges.{TellsExchanges};
 ghost use Rattle.kanal_state.specs.HistoryRelations.{AreSound, HistoryRelations};
 
@@ -30,7 +30,7 @@ pub trait History<T>: Drop {
     /// What is told of internal calls.
     ghost internal_relations: { HistoryRelations T Self.InternalPass };
 
-    /// Who had the first pass put the first messages by one call and got the others, and has the second now.
+    /// One call took the first pass to the second, put the first messages and got the others.
     ghost exchanges: { Self.Pass → Self.Pass → List T → List T → Type 0 };
 
     /// What was seen has it that a call settled the ticket so.
@@ -52,7 +52,7 @@ pub trait History<T>: Drop {
 
     /// Keeps the call that the two values are the entry of, as an internal call. It puts no message, asks for
     /// none and clears none.
-    fn append_silent<X, Y, M: EntryOf<X, Y, Call<T>>>(
+    fn append_internal<X, Y, M: EntryOf<X, Y, Call<T>>>(
         &mut self,
         log: &Self::Log,
         internal_pass: &mut Self::InternalPass,
@@ -61,7 +61,7 @@ pub trait History<T>: Drop {
     )
         requires told { (l : Line _) × stands self.old l
             × IsToldOn l (M.entry about.now answer.now) }
-        requires silent { IsSilent (M.entry about.now answer.now).event }
+        requires no_message { MovesNoMessage (M.entry about.now answer.now).event }
         ensures stands { (l : Line _) → stands self.old l
             → stands self.new (line_by (M.entry about.now answer.now) l) }
         ensures made { internal_relations.appends internal_pass.old internal_pass.new (M.entry about.now answer.now) };
@@ -84,7 +84,7 @@ pub trait History<T>: Drop {
         ensures settled { (pair : ℕ × Outcome _) → relations.saw_settled pass.old pair
             → shows result pair };
 
-    /// The same once more.
+    /// A copy of it.
     fn again(log: &Self::Log, prefix: &mut Self::Prefix) -> Self::Prefix
         ensures same { (pair : ℕ × Outcome _) → shows prefix.old pair → shows prefix.new pair }
         ensures settled { (pair : ℕ × Outcome _) → shows prefix.old pair → shows result pair };

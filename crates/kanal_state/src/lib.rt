@@ -1,11 +1,7 @@
-//! What lies under the lock of a channel: the core, the history of the calls on its line, and what stands for
-//! those who may not wait for the lock.
+//! What lies under the lock of a channel: the core, the history of the calls on its line, and the notices.
 //!
-//! A call lends the core to one step of `kanal_events` and has the call kept. A channel is generic in its history:
-//! `History` is what is kept of the calls, and contracts say by its `HistoryRelations` what a pass tells. `NoHistory`
-//! keeps nothing and has no bytes. A handle and a wait are counted by tokens, which are counted out by evidence of
-//! a call, or into the notices. Nothing here takes the lock, waits, or tells a waiter: `kanal_channel` does, with
-//! what leaves the core.
+//! A call lends the core to one step of `kanal_events` and has the call kept by the channel's `History`. Nothing
+//! here takes the lock, waits, or wakes a waiter: `kanal_channel` does, with what leaves the core.
 #![tactic(auto)]
 
 pub mod answers;

@@ -43,7 +43,7 @@ impl<T> History<T> for NoHistory {
     ) {}
 
     #[inline(always)]
-    fn append_silent<X, Y, M: EntryOf<X, Y, Call<T>>>(
+    fn append_internal<X, Y, M: EntryOf<X, Y, Call<T>>>(
         &mut self,
         _log: &(),
         _internal_pass: &mut (),

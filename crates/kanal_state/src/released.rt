@@ -16,7 +16,7 @@ use std::sync::MutexGuard;
 pub struct Released(());
 
 impl Released {
-    /// Releases the lock; notices that were left meanwhile have to be looked for.
+    /// Releases the lock; notices that were left meanwhile have to be drained.
     /// Example: `let (released, due) = Released::by(guard)`; then `owed.tell(prefix, &released)`.
     #[inline(always)]
     pub fn by<T: Drop, H: History<T>>(guard: MutexGuard<'_, State<T, H>>) -> (Self, MustDrain) {

@@ -12,7 +12,7 @@ ghost use Rattle.kanal_events.specs.Leaving.{Leave, LeaveTried, gone_of};
 ghost use Rattle.kanal_events.specs.Steps.{IsWait, Tells, is_no_memory, only};
 ghost use Rattle.kanal_events.specs.StepResult.{MustWait, Tries, drained_of, entered, got, is_drained, is_plain, may_wait, reply_of, told_of, withdrawn};
 ghost use Rattle.kanal_state.specs.Calls.{IsTold};
-ghost use Rattle.kanal_state.specs.Entries.{entry, receipt, replied, told_by, tried_entry, tried_receipt, withdrawal};
+ghost use Rattle.kanal_state.specs.Entries.{replied, told_by, withdrawal};
 ghost use Rattle.kanal_state.specs.Makes.{HasTooLittleRoom, AppendPost, StepAppendPost, StartPost};
 ghost use Rattle.kanal_state.specs.Counts.{count_of, counts_handle, ticket_of};
 ghost use Rattle.kanal_state.specs.Frames.{OnlyLineMoves};
@@ -31,11 +31,11 @@ use futures::task::Waker;
 pub use internal_calls::DropResult;
 use kanal_core::internal::{Ticket, Waiter};
 use kanal_events::event::{Event, Refusal, Reply, Side};
-use kanal_events::step_result::{Answered, Kept, StepResult};
+use kanal_events::step_result::{FastResult, Placement, StepResult};
 use kanal_events::steps;
 use recording::{
-    Asked, OfAnswer, OfCall, OfEntry, OfReceipt, OfReply, OfTriedEntry, OfTriedReceipt,
-    OfWithdrawal, note, note_made,
+    Asked, OfAnswer, OfCall, OfRecv, OfReply, OfSend, OfTryRecv, OfTrySend, OfWithdrawal, note,
+    note_made,
 };
 use std::marker::Model;
 use std::snapshot::Snapshot;
@@ -116,7 +116,7 @@ impl<T: Drop, H: History<T>> State<T, H> {
         }
     }
 
-    /// The same, for handles: with that of the core's first sender and first receiver.
+    /// As `new`, for handles: with that of the core's first sender and first receiver.
     /// Example: `let (state, first) = State::with_handles(core, NoHistory, ())`.
     pub fn with_handles(
         core: Core<T, H>,
@@ -190,8 +190,8 @@ impl<T: Drop, H: History<T>> State<T, H> {
     /// Makes a send whose message enters where nobody waits; where it doesn't enter so nothing changes.
     #[inline(always)]
     pub fn push(&mut self, log: &H::Log, pass: &mut H::Pass, message: T) -> Result<(), T>
-        ensures made { OnOk result (H.relations.appends pass.old pass.new (entry message)) }
-        ensures told { OnOk result (IsTold (entry message)) }
+        ensures made { OnOk result (H.relations.appends pass.old pass.new (replied (Event.Send message) Reply.Sent)) }
+        ensures told { OnOk result (IsTold (replied (Event.Send message) Reply.Sent)) }
         ensures refused { IfErr result (λ back. (back ≡ message) × (pass.new ≡ pass.old)) }
         ensures step { OnOk result (Tells self.old.1 (Event.Send message) (entered self.new.1)) }
         ensures same { IfErr result (λ _. self.new.1 ≡ self.old.1) }
@@ -200,15 +200,15 @@ impl<T: Drop, H: History<T>> State<T, H> {
         let asked = Snapshot::of(&message);
         steps::push(&mut self.core, message)?;
         let history = &mut self.history;
-        history.append::<Snapshot<T>, (), OfEntry>(log, pass, &asked, &());
+        history.append::<Snapshot<T>, (), OfSend>(log, pass, &asked, &());
         Ok(())
     }
 
     /// Makes a receive that gets its message where nobody waits; where it gets none so nothing changes.
     #[inline(always)]
     pub fn pop(&mut self, log: &H::Log, pass: &mut H::Pass) -> Option<T>
-        ensures made { IfSome result (λ m. H.relations.appends pass.old pass.new (receipt m)) }
-        ensures told { IfSome result (λ m. IsTold (receipt m)) }
+        ensures made { IfSome result (λ m. H.relations.appends pass.old pass.new (replied Event.Recv (Reply.Got m))) }
+        ensures told { IfSome result (λ m. IsTold (replied Event.Recv (Reply.Got m))) }
         ensures refused { IfNone result (pass.new ≡ pass.old) }
         ensures step { IfSome result (λ m. Tells self.old.1 Event.Recv (got m self.new.1)) }
         ensures same { IfNone result (self.new.1 ≡ self.old.1) }
@@ -216,7 +216,7 @@ impl<T: Drop, H: History<T>> State<T, H> {
     {
         let message = steps::pop(&mut self.core)?;
         let history = &mut self.history;
-        history.append::<T, (), OfReceipt>(log, pass, &message, &());
+        history.append::<T, (), OfRecv>(log, pass, &message, &());
         Some(message)
     }
 
@@ -225,15 +225,16 @@ impl<T: Drop, H: History<T>> State<T, H> {
     /// Example: `locked.state.try_push(log, &mut pass, 7)` answers `Ok(())` in a channel with a place.
     #[inline(always)]
     pub fn try_push(&mut self, log: &H::Log, pass: &mut H::Pass, message: T) -> Result<(), T>
-        ensures made { OnOk result (H.relations.appends pass.old pass.new (tried_entry message)) }
-        ensures told { OnOk result (IsTold (tried_entry message)) }
+        ensures made { OnOk result (H.relations.appends pass.old pass.new
+            (replied (Event.TrySend message) Reply.Yes)) }
+        ensures told { OnOk result (IsTold (replied (Event.TrySend message) Reply.Yes)) }
         ensures refused { IfErr result (λ back. (back ≡ message) × (pass.new ≡ pass.old)) }
         ensures rest { OnlyLineMoves self.old self.new }
     {
         let asked = Snapshot::of(&message);
         steps::push(&mut self.core, message)?;
         let history = &mut self.history;
-        history.append::<Snapshot<T>, (), OfTriedEntry>(log, pass, &asked, &());
+        history.append::<Snapshot<T>, (), OfTrySend>(log, pass, &asked, &());
         Ok(())
     }
 
@@ -242,14 +243,15 @@ impl<T: Drop, H: History<T>> State<T, H> {
     /// Example: `locked.state.try_pop(log, &mut pass)` answers `Some(7)` after 7 entered.
     #[inline(always)]
     pub fn try_pop(&mut self, log: &H::Log, pass: &mut H::Pass) -> Option<T>
-        ensures made { IfSome result (λ m. H.relations.appends pass.old pass.new (tried_receipt m)) }
-        ensures told { IfSome result (λ m. IsTold (tried_receipt m)) }
+        ensures made { IfSome result (λ m. H.relations.appends pass.old pass.new
+            (replied Event.TryRecv (Reply.Got m))) }
+        ensures told { IfSome result (λ m. IsTold (replied Event.TryRecv (Reply.Got m))) }
         ensures refused { IfNone result (pass.new ≡ pass.old) }
         ensures rest { OnlyLineMoves self.old self.new }
     {
         let message = steps::pop(&mut self.core)?;
         let history = &mut self.history;
-        history.append::<T, (), OfTriedReceipt>(log, pass, &message, &());
+        history.append::<T, (), OfTryRecv>(log, pass, &message, &());
         Some(message)
     }
 
@@ -262,7 +264,7 @@ impl<T: Drop, H: History<T>> State<T, H> {
         log: &H::Log,
         pass: &mut H::Pass,
         event: Event<T>,
-    ) -> Result<Deferred<Answered<T, WaiterHandle<T, H>>>, Event<T>>
+    ) -> Result<Deferred<FastResult<T, WaiterHandle<T, H>>>, Event<T>>
         requires waits { may_wait event ≡ true }
         ensures tried { StartPost H.relations pass.old pass.new event result }
         ensures step { Tries self.old.1 event result self.new.1 }
@@ -275,7 +277,7 @@ impl<T: Drop, H: History<T>> State<T, H> {
         match tried {
             Ok(answered) => {
                 let lacks = answered.lacks_memory();
-                note::<T, Answered<T, WaiterHandle<T, H>>, OfAnswer, H>(
+                note::<T, FastResult<T, WaiterHandle<T, H>>, OfAnswer, H>(
                     history, log, pass, &asked, &answered, lacks,
                 );
                 Ok(Deferred { inside: answered })
@@ -360,8 +362,8 @@ impl<T: Drop, H: History<T>> State<T, H> {
         let lacks = reply.is_no_memory();
         note::<T, Reply<T>, OfReply, H>(&mut self.history, log, pass, &asked, &reply, lacks);
         match kept {
-            Kept::Ticket(ticket) => WaitStart::Waits(CountedWait::new(ticket)),
-            Kept::Back(waiter) => WaitStart::Refused(
+            Placement::Ticket(ticket) => WaitStart::Waits(CountedWait::new(ticket)),
+            Placement::Back(waiter) => WaitStart::Refused(
                 Deferred { inside: reply },
                 Deferred { inside: waiter },
             ),

@@ -1,7 +1,6 @@
 //! What becomes of a wait, with what a pass has seen of it, on its way from who settles it to who waits.
 //!
-//! Who receives through a cell knows the payload's type and nothing else, so the proof goes into the type: what comes
-//! along has it that a call settled this ticket so.
+//! The type's invariant: what was seen says that a call settled this ticket with this outcome.
 ghost use Rattle.std.specs.Prelude.{◌≡◌, Some};
 ghost use Rattle.kanal_cell.specs.CellRule.{HasNotSettled};
 ghost use Rattle.kanal_cell.specs.CellEnds.{HasSettled, StaysAtCell, kept_waker, settle_view};

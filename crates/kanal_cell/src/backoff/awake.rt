@@ -69,7 +69,7 @@ impl<P: Drop> Asleep<P> {
         self.end.park(rt);
     }
 
-    /// The same, for no longer than the duration.
+    /// Sleeps for no longer than the duration.
     pub(super) fn park_timeout<R: Wait>(&self, rt: &R, duration: Duration) {
         self.end.park_timeout(rt, duration);
     }

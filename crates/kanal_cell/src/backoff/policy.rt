@@ -1,11 +1,8 @@
-//! How a blocked call passes the time between its looks at its cell, when it has looked enough, and how long it first
-//! pauses at a held lock.
+//! How a blocked call passes the time between its looks at its cell, and how long it first pauses at a held lock.
 //!
-//! A pause spins: it keeps the processor, and ends by itself. A yield hands the processor to any thread that is
-//! ready. A thread of the same channel gives it back within a microsecond; a thread that computes keeps it for
-//! milliseconds. No call can know beforehand which of the two it will be. So a call yields only while the channel has
-//! credit for that, and the channel gets credit from waits that ended before they slept. On a busy machine few waits
-//! end so, and a call that is not told soon sleeps until it is told.
+//! A yield hands the processor to any ready thread: one of this channel gives it back within a microsecond, another
+//! may keep it for milliseconds. So a call yields on credit alone, which the channel gets from waits that end
+//! before they sleep.
 use crate::pauses::pause;
 use std::sync::atomic::AtomicU64;
 use std::sync::atomic::Ordering::SeqCst;
@@ -20,7 +17,7 @@ const LONGEST: u32 = 6;
 /// How often a call pauses before it yields or sleeps, where the buffer is short.
 const PAUSES: u32 = 23;
 
-/// The same, where the buffer is long: whoever has the processor meanwhile fills it or empties it.
+/// How often it pauses where the buffer is long: whoever has the processor meanwhile fills it or empties it.
 const FEW_PAUSES: u32 = 14;
 
 /// How often a call yields at most.
@@ -30,7 +27,7 @@ const YIELDS: u32 = 4;
 /// gives 1.
 const COST: u64 = 8;
 
-/// The same, where the buffer is long.
+/// How much credit it needs where the buffer is long.
 const LOW_COST: u64 = 2;
 
 /// How much credit a channel has at most.
@@ -39,7 +36,7 @@ const MOST: u64 = 64;
 /// The first pause of a call that finds the lock held, as a power of two of spins, where the buffer is short.
 const FIRST_PAUSE: u32 = 5;
 
-/// The same, where the buffer is long: whoever tries oftener takes the lock's line from who has the lock.
+/// The first pause where the buffer is long: more tries take the lock's line from who has the lock.
 const LONG_FIRST_PAUSE: u32 = 6;
 
 /// How the calls of one channel wait: for the lock, and for their outcome before they sleep. All of them share it.
@@ -100,24 +97,24 @@ impl WaitPolicy {
 }
 
 /// How often one call has looked at its cell.
-pub(super) struct Looks<'a> {
+pub(super) struct Backoff<'a> {
     policy: &'a WaitPolicy,
     count: u32,
 }
 
-impl Drop for Looks<'_> {
+impl Drop for Backoff<'_> {
     fn drop(self) {
-        let Looks {
+        let Backoff {
             policy: _,
             count: _,
         } = self;
     }
 }
 
-impl<'a> Looks<'a> {
+impl<'a> Backoff<'a> {
     /// Of a call that has not looked yet.
     pub(super) fn new(policy: &'a WaitPolicy) -> Self {
-        Looks { policy, count: 0 }
+        Backoff { policy, count: 0 }
     }
 
     /// The call found its outcome.
@@ -127,7 +124,7 @@ impl<'a> Looks<'a> {
 
     /// Passes the time until the next look, and answers whether there is one: it pauses, yields where there
     /// is credit, and then there is none, and the call sleeps.
-    pub(super) fn go_on(&mut self) -> bool {
+    pub(super) fn snooze(&mut self) -> bool {
         let count = self.count;
         self.count = count.saturating_add(1);
         let pauses = self.policy.pauses;

@@ -1,7 +1,7 @@
 //! The calls on a running cell.
 //!
-//! They stand on `rule` and `pointer`. A put comes before the step that gives its slot to the
-//! other end, and a take after the step that brought the slot.
+//! A put comes before the step that gives its slot to the other end, and a take after the step that brought the
+//! slot.
 ghost use Rattle.std.specs.Prelude.{◌≡◌, ◌↔◌, ◌∷◌, [], true, false, Some, None, if◌then◌else◌, IfOk, IsSome};
 ghost use Rattle.kanal_cell.specs.CellRule.{fresh, after_poll, after_sleep, after_leave, after_settle, HasNotLeft, HasNotSettled, MaySleep};
 ghost use Rattle.kanal_cell.specs.CellEnds.{AreOfOneCell, FindsOutcome, GoesOn, HasSettled, StaysAtCell, wait_view, settle_view, kept_waker};
@@ -147,7 +147,7 @@ impl<P: Drop> WaitEnd<P> {
         self.register(Sleeper::Parker(sleeper))
     }
 
-    /// The same, for a thread that then sleeps on the cell's own word, by `park` or `park_timeout`. It
+    /// Registers a thread that then sleeps on the cell's own word, by `park` or `park_timeout`. It
     /// needs no parker.
     ///
     /// It never waits. The end must not have left, slept or answered the outcome.
@@ -178,7 +178,7 @@ impl<P: Drop> WaitEnd<P> {
         self.signal.table.shared.park(rt, 0, ASLEEP);
     }
 
-    /// The same, for no longer than the duration.
+    /// Sleeps on the cell's word for no longer than the duration.
     ///
     /// ```
     /// wait.park_timeout(rt, Duration::from_millis(1));
@@ -261,7 +261,7 @@ impl<P: Drop> SettleEnd<P> {
         back
     }
 
-    /// The same, with what shows that this cell was settled with this outcome.
+    /// Settles as `settle`, and answers what shows that this cell was settled with this outcome, too.
     ///
     /// ```
     /// let (settlement, back) = settle.hand_over(5);

@@ -1,7 +1,6 @@
 //! The law of the cell, as contracts.
 //!
-//! The functions here do nothing: each is called for what its contract says. They stand on the
-//! definitions of the cell's history and of its rule, and are no place for code.
+//! The functions here do nothing: each is called for what its contract says.
 ghost use Rattle.atomic_table.specs.Table.{State};
 ghost use Rattle.kanal_cell.specs.declared.signal.rule.CellView.{CellView};
 ghost use Rattle.kanal_cell.specs.CellLaw.{CellLaw};

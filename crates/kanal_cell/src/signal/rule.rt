@@ -1,7 +1,6 @@
 //! What the running cell holds, what its ends know, its rule, and the names of its steps.
 //!
-//! It stands on `atomic_table`. Nothing here is called by itself: the ends in `calls` name these
-//! types at their steps. No other module may make a `Seat` of a cell, nor step on its word.
+//! No other module may make a `Seat` of a cell, nor step on its word.
 use atomic_table::{Play, Seat, Split, Table, TableRule};
 use crossbeam_utils::sync::Unparker;
 use std::alloc::Global;

@@ -1,7 +1,6 @@
 //! What shows that a cell was settled, and with which outcome.
 //!
-//! It stands on what shows that the sleeper was woken, and has no bytes. A settle alone makes one, after its
-//! step and after it woke whom it had to.
+//! It has no bytes. A settle alone makes one, after its step and after it woke whom it had to.
 ghost use Rattle.std.specs.Prelude.{◌≡◌, true};
 ghost use Rattle.kanal_cell.specs.CellEnds.{HasSettled, settle_view};
 

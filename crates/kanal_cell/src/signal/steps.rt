@@ -1,7 +1,7 @@
 //! The cell as plain data, for one thread: steps, replies, and any list of steps run on it.
 //!
-//! It is the model of the running cell. It stands on nothing, and no value of it is ever shared.
-//! A step that the running cell's conditions rule out replies `Spent` here and changes nothing.
+//! It is the model of the running cell, and no value of it is ever shared. A step that the running cell's
+//! conditions rule out replies `Spent` here and changes nothing.
 ghost use Rattle.std.specs.Prelude.{◌≡◌, ◌||◌, [], Some, None, if◌then◌else◌, IfOk, IsOk};
 ghost use Rattle.kanal_cell.specs.CellMoves.{empty, is_home, answer, next, word_of, owner_of};
 ghost use Rattle.kanal_cell.specs.declared.signal.steps.CellStep.TheVariants.{Settle};

@@ -1,8 +1,7 @@
 //! Who is woken by a settle: the waker that is kept for it, and the sleeper that it took.
 //!
-//! It stands on `atomic_table`. A kept waker is taken out to be woken only after the settler has made
-//! its step, and what was taken out is let go by waking it and in no other way. No other module may
-//! look into that.
+//! A kept waker is taken out only after the settler's step, and is let go by waking it. No other module may look
+//! into that.
 ghost use Rattle.std.specs.Prelude.{◌≡◌, ◌<◌, true, None, Some};
 
 use super::rule::{EndSeat, Sleeper};

@@ -1,8 +1,7 @@
 //! The lock of a channel as a token that has to be released, and the notices that are applied under it.
 //!
-//! Whoever gets the lock has all notices applied before its own step. A call that may wait for the lock then
-//! releases it where they took something out, tells that, and waits for the lock anew; one that may not makes its
-//! step at once. No other module takes the lock or the notices.
+//! Whoever gets the lock has all notices applied before its own step. No other module takes the lock or the
+//! notices.
 ghost use Rattle.std.specs.Prelude.{◌≡◌, false};
 ghost use Rattle.kanal_channel.specs.Locks.{is_held, takes_nothing};
 
@@ -124,7 +123,7 @@ impl<T: Drop, H: History<T>> Shared<T, H> {
         self.lock_slow(rt)
     }
 
-    /// The same, where the lock was held or there are notices.
+    /// Waits for the guard where the lock was held or there are notices.
     #[cold]
     fn lock_slow<R: Wait>(&self, rt: &R) -> MutexGuard<'_, State<T, H>> {
         for _ in rt.forever() {
@@ -217,7 +216,7 @@ impl<T: Drop, H: History<T>> Shared<T, H> {
         }
     }
 
-    /// Whether there are notices, as who must drain them asks.
+    /// Whether there are notices; this meets the duty.
     #[inline]
     pub(super) fn has_notices(&self, due: MustDrain) -> bool {
         self.notices.has_some(due)

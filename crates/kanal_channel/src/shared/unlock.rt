@@ -1,5 +1,5 @@
 //! The ways out of the lock of a channel: it is released, what the notices took out and what the step settled is
-//! told, what left the core is dropped, and new notices are looked for.
+//! settled, what left the core is dropped, and new notices are drained.
 //!
 //! No other module tells a waiter what became of its wait, and whoever tells shows that the lock was released.
 ghost use Rattle.std.specs.Prelude.{◌≡◌};
@@ -10,15 +10,15 @@ use super::Shared;
 use super::locked::{Applied, Locked, Pending};
 use kanal_core::internal::Waiter;
 use kanal_events::event::Reply;
-use kanal_events::step_result::{Answered, StepResult};
+use kanal_events::step_result::{FastResult, StepResult};
 use kanal_state::{Deferred, DropResult, History, MustDrain, Released, State, WaiterHandle};
 use std::sync::MutexGuard;
 
-/// How often a call looks for notices after it released the lock.
+/// How often a call drains notices after it released the lock.
 const LOOKS: u32 = 64;
 
 impl<T: Drop, H: History<T>> Locked<'_, T, H> {
-    /// Releases the lock after a step that settled no wait, and looks for new notices. What left the core may be
+    /// Releases the lock after a step that settled no wait, and drains new notices. What left the core may be
     /// opened then, by the answer.
     /// Example: `let mut locked = shared.lock(&rt)`; then `locked.unlock_quiet()`.
     #[inline]
@@ -29,7 +29,7 @@ impl<T: Drop, H: History<T>> Locked<'_, T, H> {
         released
     }
 
-    /// Releases the lock. What the step settled may be told then, and notices have to be looked for.
+    /// Releases the lock. What the step settled may be told then, and notices have to be drained.
     /// Example: `let (released, due) = locked.unlock()`; then `made.open(&released)`, and `shared.drain_notices(due)`.
     #[inline]
     pub fn unlock(self) -> (Released, MustDrain) {
@@ -50,7 +50,7 @@ impl<T: Drop, H: History<T>> Locked<'_, T, H> {
 }
 
 impl<T: Drop, H: History<T>> Shared<T, H> {
-    /// Applies the notices. Where they take something out, the lock is released, and that is told.
+    /// Applies the notices. Where they take something out, the lock is released, and whom that ended is woken.
     #[cold]
     pub(super) fn apply_notices<'a>(
         &'a self,
@@ -66,8 +66,8 @@ impl<T: Drop, H: History<T>> Shared<T, H> {
         None
     }
 
-    /// Releases the lock after a step of the caller's, tells those whose waits it settled, drops what it
-    /// cleared, and looks for new notices.
+    /// Releases the lock after a step of the caller's, wakes those whose waits it settled, drops what it
+    /// cleared, and drains new notices.
     pub(crate) fn unlock_and_wake(
         &self,
         locked: Locked<'_, T, H>,
@@ -83,7 +83,7 @@ impl<T: Drop, H: History<T>> Shared<T, H> {
     }
 
     /// Releases a lock that one try got, after a step of the caller's: tells what the notices took out and then those
-    /// whose waits the step settled, drops what it cleared, and looks for new notices.
+    /// whose waits the step settled, drops what it cleared, and drains new notices.
     ///
     /// # Examples
     /// ```text
@@ -114,7 +114,7 @@ impl<T: Drop, H: History<T>> Shared<T, H> {
         &self,
         locked: Locked<'_, T, H>,
         pass: &mut H::Pass,
-        answered: Deferred<Answered<T, WaiterHandle<T, H>>>,
+        answered: Deferred<FastResult<T, WaiterHandle<T, H>>>,
     ) -> Reply<T>
         requires seen { HaveSettled H.relations pass.old (settled_of (made_of answered)) }
         ensures reply { result ≡ reply_of (made_of answered) }
@@ -138,7 +138,7 @@ impl<T: Drop, H: History<T>> Shared<T, H> {
         self.drain_notices(due);
     }
 
-    /// Releases the lock after the drop of a handle as an internal call, and tells those whose waits that
+    /// Releases the lock after the drop of a handle as an internal call, and wakes those whose waits that
     /// ended.
     pub(super) fn unlock_dropped(
         &self,
@@ -167,7 +167,7 @@ impl<T: Drop, H: History<T>> Shared<T, H> {
         self.drain_notices(due);
     }
 
-    /// Tells those whose waits the call settled, drops what it cleared, and looks for new notices.
+    /// Wakes those whose waits the call settled, drops what it cleared, and drains new notices.
     fn settle(
         &self,
         pass: &mut H::Pass,
@@ -185,7 +185,7 @@ impl<T: Drop, H: History<T>> Shared<T, H> {
         reply
     }
 
-    /// Tells those whose waits a call settled, with what was seen of it, and drops what it cleared.
+    /// Wakes those whose waits a call settled, with what was seen of it, and drops what it cleared.
     fn hand_out(
         &self,
         prefix: H::Prefix,
@@ -206,7 +206,7 @@ impl<T: Drop, H: History<T>> Shared<T, H> {
         reply
     }
 
-    /// Lets go of what left, and tells those whose waits ended.
+    /// Lets go of what left, and wakes those whose waits ended.
     #[inline]
     fn tell_pending(&self, pending: Pending<T, H>, released: &Released) {
         if let Some(applied) = pending.into_applied() {
@@ -214,7 +214,7 @@ impl<T: Drop, H: History<T>> Shared<T, H> {
         }
     }
 
-    /// The same, where the notices took something out.
+    /// Wakes those whose waits the notices ended.
     #[cold]
     pub(super) fn tell_applied(&self, applied: Applied<T, H>, released: &Released) {
         let Applied {
@@ -233,13 +233,13 @@ impl<T: Drop, H: History<T>> Shared<T, H> {
         }
     }
 
-    /// Tells those whose waits the drop of a handle ended.
+    /// Wakes those whose waits the drop of a handle ended.
     fn tell_dropped(&self, gone: DropResult<T, H>, released: &Released) {
         let (made, prefix) = gone.into_parts(released);
         let _reply = self.hand_out(prefix, made, released);
     }
 
-    /// Looks for notices after the lock was released or one was left, and applies them while the lock is free, at most
+    /// Drains the notices after the lock was released or one was left: applies them while the lock is free, at most
     /// 64 times.
     /// Example: `shared.drain_notices(due)`, after `let (released, due) = locked.unlock()`.
     #[inline]
@@ -249,7 +249,7 @@ impl<T: Drop, H: History<T>> Shared<T, H> {
         }
     }
 
-    /// The same, where there are some.
+    /// Applies the notices while the lock is free, at most 64 times.
     #[cold]
     fn drain_slow(&self) {
         for _ in 0..LOOKS {

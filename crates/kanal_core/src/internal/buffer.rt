@@ -1,7 +1,7 @@
-//! The buffer: a first-in first-out room for messages, with a limit or without.
+//! The buffer: a first-in first-out queue of messages, with a limit or without.
 //!
-//! A limited buffer has all its memory from the start, so that entering it is never refused for memory. Only the core
-//! holds one.
+//! A limited buffer has all its memory from the start, so that entering it is never refused for memory. Only the
+//! core holds one.
 ghost use Rattle.std.specs.Prelude.{◌≡◌, ◌+◌, ◌^◌, ◌<◌, ◌≤◌, [], ◌∷◌, ◌++◌, length, true, IfOk, IfErr, IsOk, OnOk, MatchOption, None, Some};
 ghost use Rattle.std.specs.Vec.{vec_capacity, vec_len};
 ghost use Rattle.kanal_core.specs.Line.{is_below};
@@ -30,13 +30,13 @@ pub struct Buffer<T> {
 }
 
 impl<T> Model for Buffer<T> {
-    ghost use Rattle.kanal_core.specs.Rooms.{Room};
+    ghost use Rattle.kanal_core.specs.BufferViews.{BufferView};
 
-    ghost Value = { Room T };
+    ghost Value = { BufferView T };
 
-    ghost use Rattle.kanal_core.specs.Stores.{room_of};
+    ghost use Rattle.kanal_core.specs.Stores.{view_of_store};
 
-    ghost view = { λ b. room_of b.store };
+    ghost view = { λ b. view_of_store b.store };
 }
 
 impl<T> Buffer<T> {

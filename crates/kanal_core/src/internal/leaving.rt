@@ -1,8 +1,7 @@
-//! What moves out of the core: the waits that a step ended or whose messages it took, the messages
-//! that a close cleared, and the messages that are left when a channel's life ends.
+//! What moves out of the core: ended waits, cleared messages, and what is left at a channel's end.
 //!
-//! Each value was moved out of the core as it stood, with no memory asked for, so that its waiters can be settled and
-//! its messages dropped after a lock was released.
+//! It moves as it stood and asks for no memory: waiters are settled and messages dropped after the lock was
+//! released.
 ghost use Rattle.std.specs.Prelude.{◌≡◌, ◌+◌, ◌≤◌, [], ◌∷◌, ◌++◌, cond, length, map};
 ghost use Rattle.std.specs.Vec.{vec_capacity, vec_len};
 ghost use Rattle.kanal_core.specs.Calls.{TakesFirst};
@@ -158,12 +157,12 @@ impl<T> Cleared<T> {
 /// The messages that were in a channel's line when its life ended: the buffer's, front first, and
 /// then those of the senders that waited.
 #[derive(Drop)]
-pub struct Left<T, W> {
+pub struct Remaining<T, W> {
     buffer: Buffer<T>,
     waiters: WaitList<T, W>,
 }
 
-impl<T, W> Model for Left<T, W> {
+impl<T, W> Model for Remaining<T, W> {
     ghost use Rattle.std.specs.Prelude.{List, ◌++◌};
     ghost use Rattle.kanal_core.specs.Waiters.{brought};
 
@@ -172,12 +171,12 @@ impl<T, W> Model for Left<T, W> {
     ghost view = { λ l. l.buffer.messages ++ brought l.waiters };
 }
 
-impl<T: Drop, W: Drop> Left<T, W> {
+impl<T: Drop, W: Drop> Remaining<T, W> {
     /// What this buffer holds and these waiters brought.
     pub(crate) fn new(buffer: Buffer<T>, waiters: WaitList<T, W>) -> Self
         ensures { result ≡ buffer.messages ++ brought waiters }
     {
-        Left { buffer, waiters }
+        Remaining { buffer, waiters }
     }
 
     /// Hands out the front message of those that are left.

@@ -1,8 +1,7 @@
 //! The list of those that wait, oldest first.
 //!
-//! Only the core, and what it hands out at an end, hold one. A waiter is named by its ticket, which has the place of
-//! its slot, so that one which leaves is found at once; no other module reads that place. A place is used again after
-//! its waiter has left, and the ticket's number then tells the two apart.
+//! A ticket has the place of its waiter's slot, which no other module reads. A place is used again, and the
+//! ticket's number then tells the two apart.
 ghost use Rattle.std.specs.Prelude.{◌≡◌, ◌+◌, ◌≤◌, ◌↔◌, ℕ, [], ◌++◌, cond, true, drop, length, map, slice_get, IfErr, IfNone, IfOk, IfSome, option_copied};
 ghost use Rattle.std.specs.Vec.{vec_capacity, vec_len};
 ghost use Rattle.std.specs.Borrow.{sem};

@@ -15,7 +15,7 @@ ghost use Rattle.kanal_events.specs.declared.event.Side.TheVariants.{Tx, Rx};
 use super::handles::Handles;
 use kanal_core::internal::{ChannelInternal, Ticket};
 use kanal_events::event::{Event, Refusal, Reply};
-use kanal_events::step_result::{Kept, StepResult as StepResultWith};
+use kanal_events::step_result::{Placement, StepResult as StepResultWith};
 use kanal_events::steps;
 
 /// A core on which nobody brings anything to a wait.
@@ -36,8 +36,8 @@ fn wait<T: Drop>(core: &mut Core<T>, tickets: &mut Vec<Ticket>, event: Event<T>)
 {
     let (made, kept) = steps::make_waiting(core, event, ());
     match kept {
-        Kept::Ticket(ticket) => tickets.push_reserved(ticket),
-        Kept::Back(_nothing) => {},
+        Placement::Ticket(ticket) => tickets.push_reserved(ticket),
+        Placement::Back(_nothing) => {},
     }
     made
 }

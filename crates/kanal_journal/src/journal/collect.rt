@@ -7,7 +7,7 @@ ghost use Rattle.kanal_journal.specs.Runs.{numbered};
 
 use super::calls::StepResult;
 use super::report::Settlement;
-use kanal_core::internal::{Cleared, Left};
+use kanal_core::internal::{Cleared, Remaining};
 use kanal_events::event::Reply;
 use kanal_events::step_result::Wakeup;
 
@@ -24,7 +24,7 @@ fn move_cleared<T: Drop>(messages: Cleared<T>, into: &mut Vec<T>)
 }
 
 /// Moves the messages to the vector's end, where they have room.
-pub(crate) fn move_left<T: Drop>(messages: Left<T, ()>, into: &mut Vec<T>)
+pub(crate) fn move_left<T: Drop>(messages: Remaining<T, ()>, into: &mut Vec<T>)
     requires { vec_len into.old + length messages ≤ vec_capacity into.old }
     ensures items { into.new.items ≡ into.old.items ++ messages }
     ensures room { vec_capacity into.new ≡ vec_capacity into.old }

@@ -89,7 +89,7 @@ pub const ROWS: &[Row<Made, Call, Answer>] = &[
         ready: &[(Send(Form::Plain, 1), Done), (Room(1), Done)],
         calls: &[(BY_THREAD, Drained(1, 1))],
     },
-    // Sends and receives that wait for nobody; messages that find no place stay in their options.
+    // Sends and receives that never wait; messages that find no place stay in their options.
     Row {
         made: Bounded(2),
         ready: &[],

@@ -1,8 +1,7 @@
 //! The notices of a channel: of handles that went away, and of waits that were left, while the lock was held.
 //!
-//! A notice counts a token out; who takes the handles' notices has the tokens again, one after the other, and has to
-//! count each out by a call, or puts it back. Of waits alone it is kept that they are sought. Notices go with their
-//! channel alone, so none is added where nobody looks.
+//! A notice counts a token out; who takes the handles' notices has the tokens again. Notices go with their channel
+//! alone, so none is added where nobody looks.
 ghost use Rattle.std.specs.Prelude.{◌≡◌, ◌+◌, false, true, IfNone, IfSome};
 ghost use Rattle.kanal_state.specs.Counts.{are_sought, gone_handles, has_channel, is_due};
 
@@ -74,7 +73,7 @@ impl GoneWaits {
     }
 }
 
-/// That notices have to be looked for, since one was left or the lock was released. The prover refuses to let it go.
+/// That notices have to be drained, since one was left or the lock was released. The prover refuses to let it go.
 pub struct MustDrain {
     due: bool,
 }
@@ -177,7 +176,7 @@ impl Notices {
         }
     }
 
-    /// Whether there are some, as who must drain them asks.
+    /// Whether there are some; this meets the duty.
     /// Example: `notices.has_some(due)` answers `true` after a handle was added.
     #[inline]
     pub fn has_some(&self, due: MustDrain) -> bool {

@@ -80,7 +80,7 @@ fn take_node<T: Drop, H: History<T>>(
 
 impl<T: Drop, H: History<T>> State<T, H> {
     /// Makes the drop of a handle as an internal call, and answers what was seen then.
-    fn by_nobody(
+    fn make_internal(
         &mut self,
         log: &H::Log,
         event: Event<T>,
@@ -94,7 +94,7 @@ impl<T: Drop, H: History<T>> State<T, H> {
         let asked = Snapshot::of(&event);
         let made = steps::make(&mut self.core, event);
         let history = &mut self.history;
-        history.append_silent::<Asked<T>, StepResult<T, WaiterHandle<T, H>>, OfCall>(
+        history.append_internal::<Asked<T>, StepResult<T, WaiterHandle<T, H>>, OfCall>(
             log,
             &mut self.internal_pass,
             &asked,
@@ -105,7 +105,7 @@ impl<T: Drop, H: History<T>> State<T, H> {
     }
 
     /// Takes the wait with this ticket back, if it waits, as an internal call.
-    fn withdraw_by_nobody(
+    fn withdraw_internal(
         &mut self,
         log: &H::Log,
         ticket: Ticket,
@@ -118,7 +118,7 @@ impl<T: Drop, H: History<T>> State<T, H> {
     {
         let waiter = steps::withdraw(&mut self.core, ticket)?;
         let history = &mut self.history;
-        history.append_silent::<Ticket, Waiter<T, WaiterHandle<T, H>>, OfWithdrawal>(
+        history.append_internal::<Ticket, Waiter<T, WaiterHandle<T, H>>, OfWithdrawal>(
             log,
             &mut self.internal_pass,
             &ticket,
@@ -147,7 +147,7 @@ impl<T: Drop, H: History<T>> State<T, H> {
         };
         let before = Snapshot::of(&self.internal_pass);
         let history = &mut self.history;
-        history.append_silent::<Ticket, Waiter<T, WaiterHandle<T, H>>, OfWithdrawal>(
+        history.append_internal::<Ticket, Waiter<T, WaiterHandle<T, H>>, OfWithdrawal>(
             log,
             &mut self.internal_pass,
             &ticket,
@@ -168,7 +168,7 @@ impl<T: Drop, H: History<T>> State<T, H> {
         ensures seen { HaveShown H.shows result.1 (settled_of result.0) }
     {
         let before = Snapshot::of(&self.internal_pass);
-        let (made, prefix) = self.by_nobody(log, one_less(S::side()));
+        let (made, prefix) = self.make_internal(log, one_less(S::side()));
         counted.count_out::<T, WaiterHandle<T, H>, H>(&before, &self.internal_pass, &made);
         (made, prefix)
     }
@@ -237,7 +237,7 @@ impl<T: Drop, H: History<T>> State<T, H> {
             let Some(node) = take_node(&mut self.core, ticket) else {
                 return Deferred { inside: leavers };
             };
-            let Some(waiter) = self.withdraw_by_nobody(log, ticket) else {
+            let Some(waiter) = self.withdraw_internal(log, ticket) else {
                 unreachable!()
             };
             leavers = node.keep(waiter, leavers);

@@ -11,7 +11,7 @@ ghost use Rattle.kanal_state.specs.Makes.{AppendPost, StepAppendPost};
 use crate::{Call, History};
 use kanal_core::internal::{Ticket, Waiter};
 use kanal_events::event::{Event, Reply};
-use kanal_events::step_result::{Answered, StepResult};
+use kanal_events::step_result::{FastResult, StepResult};
 use kanal_log::EntryOf;
 use std::snapshot::Snapshot;
 
@@ -27,17 +27,17 @@ impl<T, W> EntryOf<Asked<T>, StepResult<T, W>, Call<T>> for OfCall {
     ghost entry = { λ event made. call_from event.value made };
 }
 
-/// The same, of a call that was answered at once.
+/// The entry of a call that was answered at once.
 pub(super) struct OfAnswer;
 
-impl<T, W> EntryOf<Asked<T>, Answered<T, W>, Call<T>> for OfAnswer {
+impl<T, W> EntryOf<Asked<T>, FastResult<T, W>, Call<T>> for OfAnswer {
     ghost use Rattle.kanal_events.specs.StepResult.{made_of};
     ghost use Rattle.kanal_state.specs.Entries.{call_from};
 
     ghost entry = { λ event answered. call_from event.value (made_of answered) };
 }
 
-/// The same, of a call that was replied so, and settled nobody.
+/// The entry of a call that was replied so, and settled nobody.
 pub(super) struct OfReply;
 
 impl<T> EntryOf<Asked<T>, Reply<T>, Call<T>> for OfReply {
@@ -47,39 +47,47 @@ impl<T> EntryOf<Asked<T>, Reply<T>, Call<T>> for OfReply {
 }
 
 /// The entry of a send that entered and settled nobody, by its message.
-pub(super) struct OfEntry;
+pub(super) struct OfSend;
 
-impl<T> EntryOf<Snapshot<T>, (), Call<T>> for OfEntry {
-    ghost use Rattle.kanal_state.specs.Entries.{entry};
+impl<T> EntryOf<Snapshot<T>, (), Call<T>> for OfSend {
+    ghost use Rattle.kanal_events.specs.declared.event.Event.{Event};
+    ghost use Rattle.kanal_events.specs.declared.event.Reply.{Reply};
+    ghost use Rattle.kanal_state.specs.Entries.{replied};
 
-    ghost entry = { λ message _. entry message.value };
+    ghost entry = { λ message _. replied (Event.Send message.value) Reply.Sent };
 }
 
 /// The entry of a receive that got a message and settled nobody, by the message.
-pub(super) struct OfReceipt;
+pub(super) struct OfRecv;
 
-impl<T> EntryOf<T, (), Call<T>> for OfReceipt {
-    ghost use Rattle.kanal_state.specs.Entries.{receipt};
+impl<T> EntryOf<T, (), Call<T>> for OfRecv {
+    ghost use Rattle.kanal_events.specs.declared.event.Event.{Event};
+    ghost use Rattle.kanal_events.specs.declared.event.Reply.{Reply};
+    ghost use Rattle.kanal_state.specs.Entries.{replied};
 
-    ghost entry = { λ message _. receipt message };
+    ghost entry = { λ message _. replied Event.Recv (Reply.Got message) };
 }
 
 /// The entry of a send that doesn't wait, and that entered and settled nobody, by its message.
-pub(super) struct OfTriedEntry;
+pub(super) struct OfTrySend;
 
-impl<T> EntryOf<Snapshot<T>, (), Call<T>> for OfTriedEntry {
-    ghost use Rattle.kanal_state.specs.Entries.{tried_entry};
+impl<T> EntryOf<Snapshot<T>, (), Call<T>> for OfTrySend {
+    ghost use Rattle.kanal_events.specs.declared.event.Event.{Event};
+    ghost use Rattle.kanal_events.specs.declared.event.Reply.{Reply};
+    ghost use Rattle.kanal_state.specs.Entries.{replied};
 
-    ghost entry = { λ message _. tried_entry message.value };
+    ghost entry = { λ message _. replied (Event.TrySend message.value) Reply.Yes };
 }
 
 /// The entry of a receive that doesn't wait, and that got a message and settled nobody, by the message.
-pub(super) struct OfTriedReceipt;
+pub(super) struct OfTryRecv;
 
-impl<T> EntryOf<T, (), Call<T>> for OfTriedReceipt {
-    ghost use Rattle.kanal_state.specs.Entries.{tried_receipt};
+impl<T> EntryOf<T, (), Call<T>> for OfTryRecv {
+    ghost use Rattle.kanal_events.specs.declared.event.Event.{Event};
+    ghost use Rattle.kanal_events.specs.declared.event.Reply.{Reply};
+    ghost use Rattle.kanal_state.specs.Entries.{replied};
 
-    ghost entry = { λ message _. tried_receipt message };
+    ghost entry = { λ message _. replied Event.TryRecv (Reply.Got message) };
 }
 
 /// The entry of a withdrawal: the ticket that was asked for, and the wait that left.
@@ -121,7 +129,7 @@ pub(super) fn note<T: Drop, Y, M: EntryOf<Asked<T>, Y, Call<T>>, H: History<T>>(
     }
 }
 
-/// The same, of what any step told.
+/// Notes what any step told.
 #[inline]
 pub(super) fn note_made<T: Drop, W: Drop, H: History<T>>(
     history: &mut H,

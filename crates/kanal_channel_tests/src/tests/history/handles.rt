@@ -68,7 +68,7 @@ fn streamed<J: LogId, R: Abort>(rt: &R, task: &MockTask, handles: Handles<J>) {
 }
 
 /// All of these on one channel with one place, after a clone, and an option's message that goes through it by
-/// calls that wait for nobody. How many senders there are, with the clone and after its drop.
+/// calls that never wait. How many senders there are, with the clone and after its drop.
 fn rows<J: LogId, R: Wait + Abort>(
     rt: &R,
     alloc: Global,

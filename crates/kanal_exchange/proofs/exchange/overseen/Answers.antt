@@ -1,8 +1,8 @@
 use Rattle.std.proofs.Common.{◌≡◌, ◌++◌, ap, ◌∙◌, subst}
 use mathlib.Core.List.{IsPrefix}
-use Rattle.kanal_log.specs.Views.{Known, OwnsAllButQuiet}
+use Rattle.kanal_log.specs.Views.{Known, OwnsAllBut}
 use Rattle.kanal_state.specs.declared.call.Call.{Call}
-use Rattle.kanal_state.specs.Calls.{IsSilent}
+use Rattle.kanal_state.specs.Calls.{MovesNoMessage}
 use Rattle.kanal_exchange.proofs.Telling.{exchanged}
 use Rattle.kanal_exchange.proofs.exchange.overseen.Goals as goal
 
@@ -18,5 +18,5 @@ returns g c =
           (subst (λ (k : Known (Call g.row.T.Denot)). IsPrefix k.log log) same.0 c.learn.ensures.this)
           (subst (λ (k : Known (Call g.row.T.Denot)). IsPrefix k.log log) same.1 c.learn.ensures.that)
           c.owns_once.ensures.apart c.holds.ensures.legal
-          (subst (λ xs. OwnsAllButQuiet (λ (x : Call g.row.T.Denot). IsSilent x.event) log xs) own c.owns_all.ensures.each);
+          (subst (λ xs. OwnsAllBut (λ (x : Call g.row.T.Denot). MovesNoMessage x.event) log xs) own c.owns_all.ensures.each);
     }

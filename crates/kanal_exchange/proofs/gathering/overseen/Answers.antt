@@ -1,9 +1,9 @@
 use Rattle.std.proofs.Common.{◌≡◌, ◌++◌, ap, ◌∙◌, subst}
 use mathlib.Core.List.{IsPrefix}
-use Rattle.kanal_log.specs.Views.{AreDisjoint, Known, OwnsAllButQuiet}
+use Rattle.kanal_log.specs.Views.{AreDisjoint, Known, OwnsAllBut}
 use Rattle.kanal_log.proofs.Readers.{prefix_trans}
 use Rattle.kanal_state.specs.declared.call.Call.{Call}
-use Rattle.kanal_state.specs.Calls.{IsSilent}
+use Rattle.kanal_state.specs.Calls.{MovesNoMessage}
 use Rattle.kanal_exchange.proofs.Merging.{merged}
 use Rattle.kanal_exchange.proofs.gathering.overseen.Goals as goal
 
@@ -26,5 +26,5 @@ returns g c =
     record {
       merged = λ first second got tells also hears count.
           merged g.J.LogId.capacity c.args.one c.args.two c.args.receiver log first second got tells also hears seen1 seen2 heard apart12 apart13 apart23 c.holds.ensures.legal
-          (subst (λ xs. OwnsAllButQuiet (λ (x : Call g.row.T.Denot). IsSilent x.event) log xs) own c.owns_all.ensures.each) count;
+          (subst (λ xs. OwnsAllBut (λ (x : Call g.row.T.Denot). MovesNoMessage x.event) log xs) own c.owns_all.ensures.each) count;
     }

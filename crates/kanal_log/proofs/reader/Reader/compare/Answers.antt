@@ -6,7 +6,7 @@ use Rattle.kanal_log.proofs.reader.Reader.compare.Goals as goal
 pub split_seat-whole-requires : goal.split_seat-whole-requires
 split_seat-whole-requires g c =
     let b = c.args.log.now in
-    (c.other.invariant.0 ∙ sym b.named, b.words, goes g.E.LogEntry.quiet c.other.inside.seat.id c.other.inside.seat.me.0 (ap (λ m. m.0.keeps) c.other.invariant.1))
+    (c.other.invariant.0 ∙ sym b.named, b.words, goes g.E.LogEntry.unowned c.other.inside.seat.id c.other.inside.seat.me.0 (ap (λ m. m.0.keeps) c.other.invariant.1))
 
 pub join_seat-requires : goal.join_seat-requires
 join_seat-requires g c =
@@ -17,7 +17,7 @@ join_seat-requires g c =
       s.3 ∙ c.other.invariant.0 ∙ sym b.named,
       ap (λ m. m.1) s.4,
       b.words,
-      meets g.E.LogEntry.quiet c.self.inside.seat.id c.self.inside.seat.me.0 whole.id whole.me.0 (ap (λ m. m.0.others_own) c.self.invariant.1) (ap (λ m. m.0.others_own) s.4 ∙ ap (λ m. m.0.others_own) c.other.invariant.1),
+      meets g.E.LogEntry.unowned c.self.inside.seat.id c.self.inside.seat.me.0 whole.id whole.me.0 (ap (λ m. m.0.others_own) c.self.invariant.1) (ap (λ m. m.0.others_own) s.4 ∙ ap (λ m. m.0.others_own) c.other.invariant.1),
     )
 
 pub load-requires : goal.load-requires
@@ -25,13 +25,13 @@ load-requires g c =
     let b = c.args.log.now in
     let j = c.join_seat.ensures in
     let me = c.join_seat.new.seat.me in
-    (j.0 ∙ c.self.invariant.0 ∙ sym b.named, b.words, compares g.E.LogEntry.quiet b.table.shared.table_id.slots c.join_seat.new.seat.id 0 me)
+    (j.0 ∙ c.self.invariant.0 ∙ sym b.named, b.words, compares g.E.LogEntry.unowned b.table.shared.table_id.slots c.join_seat.new.seat.id 0 me)
 
 pub split_seat-seat-requires : goal.split_seat-seat-requires
 split_seat-seat-requires g c =
     let b = c.args.log.now in
     let l = c.load.ensures in
-    (l.0 ∙ c.join_seat.ensures.0 ∙ c.self.invariant.0 ∙ sym b.named, b.words, parts g.E.LogEntry.quiet c.load.new.seat.id c.load.new.seat.me.0)
+    (l.0 ∙ c.join_seat.ensures.0 ∙ c.self.invariant.0 ∙ sym b.named, b.words, parts g.E.LogEntry.unowned c.load.new.seat.id c.load.new.seat.me.0)
 
 pub returns-clause-apart : goal.returns-clause-apart
 returns-clause-apart g c =

@@ -10,11 +10,11 @@ join_seat-requires g c =
       c.other.invariant.0 ∙ sym b.named,
       ap (λ m. m.1) c.other.invariant.1,
       b.words,
-      meets g.E.LogEntry.quiet c.self.inside.seat.id c.self.inside.seat.me.0 whole.id whole.me.0 (ap (λ m. m.0.others_own) c.self.invariant.1) (ap (λ m. m.0.others_own) c.other.invariant.1),
+      meets g.E.LogEntry.unowned c.self.inside.seat.id c.self.inside.seat.me.0 whole.id whole.me.0 (ap (λ m. m.0.others_own) c.self.invariant.1) (ap (λ m. m.0.others_own) c.other.invariant.1),
     )
 
 pub load-requires : goal.load-requires
 load-requires g c =
     let b = c.args.log.now in
     let me = c.join_seat.new.seat.me in
-    (c.join_seat.ensures.0 ∙ c.self.invariant.0 ∙ sym b.named, b.words, learns g.E.LogEntry.quiet b.table.shared.table_id.slots c.join_seat.new.seat.id 0 me)
+    (c.join_seat.ensures.0 ∙ c.self.invariant.0 ∙ sym b.named, b.words, learns g.E.LogEntry.unowned b.table.shared.table_id.slots c.join_seat.new.seat.id 0 me)

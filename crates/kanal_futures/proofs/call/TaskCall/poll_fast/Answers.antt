@@ -1,12 +1,12 @@
 use Rattle.std.proofs.Common.{subst, sym}
 use Rattle.kanal_futures.specs.Answers.{Answers}
-use Rattle.kanal_futures.proofs.call.TaskCall.at_once.Goals as goal
+use Rattle.kanal_futures.proofs.call.TaskCall.poll_fast.Goals as goal
 
 pub new-requires : goal.new-requires
 new-requires g c =
     let w = g.H.History.relations in
     let a = g.A.Asks in
-    let pass = c.at_once.new.pass in
+    let pass = c.make_fast.new.pass in
     let answer = c.in-Ok.answer in
     let opening = c.of-opening in
     let here = subst (λ begun. Answers w (a.event c.in-Some.asked) a.read a.ended begun pass answer) (sym opening.ensures.pass) c.in-Ok.ensures.made in

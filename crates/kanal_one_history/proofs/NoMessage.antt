@@ -12,11 +12,11 @@ use Rattle.kanal_events.specs.declared.event.Side.{Side}
 use Rattle.kanal_events.specs.Steps.{answer, step, withdraw}
 use Rattle.kanal_journal.specs.Paired.{asked, cleared_by, sent}
 use Rattle.kanal_state.specs.declared.call.Call.{Call}
-use Rattle.kanal_state.specs.Calls.{IsSilent, IsTold}
+use Rattle.kanal_state.specs.Calls.{MovesNoMessage, IsTold}
 use Rattle.kanal_one_history.specs.Puts.{ExchangesNothing}
 
 module _ {T : Type 0} where
-  puts-nothing : (e : Event T) (r : Reply T) → IsSilent e → (sent e r ≡ []) × (asked e r ≡ [])
+  puts-nothing : (e : Event T) (r : Reply T) → MovesNoMessage e → (sent e r ≡ []) × (asked e r ≡ [])
   puts-nothing (Withdraw t) r h = (refl, refl)
   puts-nothing CloneTx r h = (refl, refl)
   puts-nothing CloneRx r h = (refl, refl)
@@ -48,7 +48,7 @@ module _ {T : Type 0} where
   answers-nothing l side IsClosed = refl
   answers-nothing l side IsDisconnected = refl
 
-  clears-nothing : (l : Line T) (e : Event T) → IsSilent e → cleared_by (step l e).reply ≡ 0
+  clears-nothing : (l : Line T) (e : Event T) → MovesNoMessage e → cleared_by (step l e).reply ≡ 0
   clears-nothing l (Withdraw t) h = withdraws-nothing l t (found t l.line)
   clears-nothing l CloneTx h = elim (cases_Bool (l.senders == last_count)) [ inl e ↦ rw e refl | inr e ↦ rw e refl ]
   clears-nothing l CloneRx h = elim (cases_Bool (l.receivers == last_count)) [ inl e ↦ rw e refl | inr e ↦ rw e refl ]
@@ -66,7 +66,7 @@ module _ {T : Type 0} where
   clears-nothing l Close h = absurd h
 
   -- a call of a silent event put no message, asked for none and cleared none, whoever made it
-  pub exchanges_nothing : (c : Call T) → IsTold c → IsSilent c.event → ExchangesNothing c
+  pub exchanges_nothing : (c : Call T) → IsTold c → MovesNoMessage c.event → ExchangesNothing c
   exchanges_nothing c told h =
       let p = puts-nothing c.event c.reply h in
       record { sends = p.0; asks = p.1; clears = ap (λ (x : Call T). cleared_by x.reply) told.1 ∙ clears-nothing told.0 c.event h }

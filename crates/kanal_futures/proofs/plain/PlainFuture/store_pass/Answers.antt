@@ -1,6 +1,6 @@
 use Rattle.std.proofs.Common.{subst}
 use Rattle.kanal_futures.specs.Answers.{Answers}
-use Rattle.kanal_futures.proofs.plain.PlainFuture.keep.Goals as goal
+use Rattle.kanal_futures.proofs.plain.PlainFuture.store_pass.Goals as goal
 
 pub returns-clause-made : goal.returns-clause-made
 returns-clause-made g c =

@@ -41,7 +41,7 @@ are_sought gone = gone.are_sought
 
 -- whether notices still have to be looked for
 abbrev pub is_due : MustDrain → Bool
-is_due must = must.due
+is_due must = stands must.stands.numbers
 
 -- whether the channel of the notices is there
 abbrev pub has_channel : Notices → Bool

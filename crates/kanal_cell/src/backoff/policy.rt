@@ -97,18 +97,10 @@ impl WaitPolicy {
 }
 
 /// How often one call has looked at its cell.
+#[derive(Drop)]
 pub(super) struct Backoff<'a> {
     policy: &'a WaitPolicy,
     count: u32,
-}
-
-impl Drop for Backoff<'_> {
-    fn drop(self) {
-        let Backoff {
-            policy: _,
-            count: _,
-        } = self;
-    }
 }
 
 impl<'a> Backoff<'a> {

@@ -7,9 +7,7 @@ ghost use Rattle.kanal_channel.specs.Locks.{is_held, takes_nothing};
 
 use super::Shared;
 use kanal_cell::{Contention, LOCK_TRIES};
-use kanal_state::{
-    Deferred, DropResult, History, LeftWaits, MustDrain, ReceiveSide, SendSide, State,
-};
+use kanal_state::{Deferred, DropResult, History, LeftWaits, ReceiveSide, SendSide, State};
 use std::marker::Model;
 use std::snapshot::Snapshot;
 use std::sync::{MutexGuard, Wait};
@@ -214,12 +212,6 @@ impl<T: Drop, H: History<T>> Shared<T, H> {
                 receivers,
             }),
         }
-    }
-
-    /// Whether there are notices; this meets the duty.
-    #[inline]
-    pub(super) fn has_notices(&self, due: MustDrain) -> bool {
-        self.notices.has_some(due)
     }
 
     /// Whether there are no notices.

@@ -244,7 +244,7 @@ impl<T: Drop, H: History<T>> Shared<T, H> {
     /// Example: `shared.drain_notices(due)`, after `let (released, due) = locked.unlock()`.
     #[inline]
     pub fn drain_notices(&self, due: MustDrain) {
-        if self.has_notices(due) {
+        if self.notices.has_some(due) {
             self.drain_slow();
         }
     }
@@ -258,7 +258,7 @@ impl<T: Drop, H: History<T>> Shared<T, H> {
             };
             let (released, due) = locked.unlock();
             self.tell_pending(pending, &released);
-            if !self.has_notices(due) {
+            if !self.notices.has_some(due) {
                 return;
             }
         }

@@ -75,7 +75,7 @@ impl GoneWaits {
 
 /// That notices have to be drained, since one was left or the lock was released. The prover refuses to let it go.
 pub struct MustDrain {
-    due: bool,
+    stands: Stands,
 }
 
 impl Drop for MustDrain {
@@ -90,13 +90,14 @@ impl MustDrain {
     /// After a release, or a notice.
     #[inline]
     pub(crate) fn new() -> Self {
-        MustDrain { due: true }
+        MustDrain { stands: stands() }
     }
 
     /// It is met by who asks whether there are some.
     #[inline]
     fn end(self) {
-        let MustDrain { due: _due } = self;
+        let MustDrain { stands } = self;
+        drop(stands);
     }
 }
 

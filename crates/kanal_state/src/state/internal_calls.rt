@@ -4,12 +4,12 @@
 ghost use Rattle.std.specs.Prelude.{◌≡◌, IfNone, IfSome, Some, is_some};
 ghost use Rattle.kanal_core.specs.Channel.{line_of};
 ghost use Rattle.kanal_core.specs.Tickets.{number_of};
-ghost use Rattle.kanal_core.specs.Waiters.{waiter_of, with_w, without};
+ghost use Rattle.kanal_core.specs.Waiters.{IsPlaced, waiter_of, with_w, without};
 ghost use Rattle.kanal_events.specs.Leaving.{Leave, gone_of};
 ghost use Rattle.kanal_events.specs.Steps.{Tells};
-ghost use Rattle.kanal_events.specs.StepResult.{settled_of, told_of, withdrawn};
+ghost use Rattle.kanal_events.specs.StepResult.{not_waiting, settled_of, told_of, withdrawn};
 ghost use Rattle.kanal_state.specs.Calls.{IsDrop};
-ghost use Rattle.kanal_state.specs.Entries.{call_from};
+ghost use Rattle.kanal_state.specs.Entries.{call_from, withdrawal};
 ghost use Rattle.kanal_state.specs.HistoryRelations.{HaveShown};
 ghost use Rattle.kanal_state.specs.Counts.{one_less, ticket_of};
 ghost use Rattle.kanal_state.specs.Renewing.{TakesNode};
@@ -112,6 +112,10 @@ impl<T: Drop, H: History<T>> State<T, H> {
     ) -> Option<Waiter<T, WaiterHandle<T, H>>>
         ensures step { IfSome result (λ w. Tells self.old.1 (Event.Withdraw (number_of ticket))
             (withdrawn self.new.1 w.message)) }
+        ensures made { IfSome result (λ w. H.internal_relations.appends self.old.0 self.new.0
+            (withdrawal (number_of ticket) w.message)) }
+        ensures nobody { IfNone result (IsPlaced ticket self.old.2
+            → Tells self.old.1 (Event.Withdraw (number_of ticket)) (not_waiting self.old.1)) }
         ensures waiter { result ≡ waiter_of ticket self.old.2 }
         ensures others { self.new.2 ≡ without ticket self.old.2 }
         ensures same { IfNone result (self.new ≡ self.old) }
@@ -140,19 +144,11 @@ impl<T: Drop, H: History<T>> State<T, H> {
         ensures others { self.new.2 ≡ without (ticket_of counted) self.old.2 }
         ensures same { IfNone result (self.new ≡ self.old) }
     {
-        let ticket = counted.ticket();
-        let Some(waiter) = steps::withdraw(&mut self.core, ticket) else {
+        let before = Snapshot::of(&self.internal_pass);
+        let Some(waiter) = self.withdraw_internal(log, counted.ticket()) else {
             counted.missing::<T, H>(&self.core);
             return None;
         };
-        let before = Snapshot::of(&self.internal_pass);
-        let history = &mut self.history;
-        history.append_internal::<Ticket, Waiter<T, WaiterHandle<T, H>>, OfWithdrawal>(
-            log,
-            &mut self.internal_pass,
-            &ticket,
-            &waiter,
-        );
         counted.taken_back::<T, WaiterHandle<T, H>, H>(&before, &self.internal_pass, &waiter);
         Some(Deferred { inside: waiter })
     }

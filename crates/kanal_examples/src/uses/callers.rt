@@ -1,5 +1,5 @@
 //! One caller of each crate that has a page for callers, with a contract of its own where one can be had.
-ghost use Rattle.std.specs.Prelude.{◌≡◌, ◌≢◌, ◌*◌, ◌/◌, ◌%◌, ◌==◌, ℕ, cond};
+ghost use Rattle.std.specs.Prelude.{◌≡◌, ◌≢◌, ◌*◌, ◌/◌, ◌%◌, ◌==◌, ℕ, if◌then◌else◌};
 ghost use Rattle.std.specs.Prelude.{Ok, Err, Some, None, true, IfOk, IfSome};
 ghost use Rattle.std.proofs.Common.{rules};
 ghost use Rattle.kanal_journal.specs.Paired.{Paired, until};
@@ -101,7 +101,7 @@ impl Job for Half {
     /// The half of an even number; an odd one comes back as the error.
     type Answer = Result<u32, u32>;
 
-    ghost value = { λ half. cond (half.0 % 2 == 0) (Ok (half.0 / 2)) (Err half.0) };
+    ghost value = { λ half. if half.0 % 2 == 0 then Ok (half.0 / 2) else Err half.0 };
 
     fn work(&self) -> Result<Result<u32, u32>, NoMemory> {
         if self.0 % 2 == 0 {

@@ -71,7 +71,7 @@ def functions_of(text, module, known):
             # A `+` is in the names of drops that the checker makes for types of other crates.
             alike = [it for it in known if it.split("::")[-1] == begun[2] and "+" not in it]
             own = [it for it in alike if it.split("::")[-2] == (owner or module)]
-            # What an impl is of stands behind its type's name, as in `OfReceiveAsksUnit`.
+            # What an impl is of stands behind its type's name, as in `OfReceiveOperationUnit`.
             own = own or [it for it in alike if owner and it.split("::")[-2].startswith(owner)]
             yield Function(first, last_of(lines, first, begun[1]), frozenset(own or alike))
 

@@ -9,7 +9,7 @@ ghost use Rattle.kanal_state.specs.Results.{count_by, flag_by, number_by};
 use kanal_channel::Shared;
 use kanal_core::error::{CloseError, TooMany};
 use kanal_events::event::Ask;
-use kanal_state::{CallContext, Counted, History, OfSide};
+use kanal_state::{CallContext, CountedHandle, History, OfSide};
 use std::sync::{Arc, Wait};
 
 /// What the handles of a side share, for threads and for tasks: the questions, `seal` and `close`.
@@ -17,7 +17,7 @@ use std::sync::{Arc, Wait};
 /// It counts as one handle of its side until it is dropped. A drop never waits.
 pub struct Handle<T, H: History<T>, S: OfSide> {
     shared: Arc<Shared<T, H>>,
-    counted: Counted<S>,
+    counted: CountedHandle<S>,
 }
 
 impl<T: Drop, H: History<T>, S: OfSide> Drop for Handle<T, H, S> {
@@ -29,7 +29,7 @@ impl<T: Drop, H: History<T>, S: OfSide> Drop for Handle<T, H, S> {
 
 impl<T: Drop, H: History<T>, S: OfSide> Handle<T, H, S> {
     /// A handle of the channel that is counted.
-    pub(crate) fn new(shared: Arc<Shared<T, H>>, counted: Counted<S>) -> Self {
+    pub(crate) fn new(shared: Arc<Shared<T, H>>, counted: CountedHandle<S>) -> Self {
         Handle { shared, counted }
     }
 

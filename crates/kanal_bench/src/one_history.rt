@@ -4,7 +4,7 @@ ghost use Rattle.kanal_log.specs.Logs.{table_of};
 
 use crate::capacity::Capacity;
 use anyhow::Result;
-use kanal_one_history::{Call, Channel, LogId, NewLog, Pass};
+use kanal_one_history::{Call, Channel, GhostPass, LogId, NewLog};
 use std::alloc::Global;
 use std::marker::Brand;
 use std::sync::Wait;
@@ -13,7 +13,7 @@ use std::sync::Wait;
 fn add_up<J: LogId, R: Wait>(
     rt: &R,
     channel: &Channel<u64, J>,
-    pass: &mut Pass<u64, J>,
+    pass: &mut GhostPass<u64, J>,
     count: u64,
 ) -> Result<u64> {
     let mut sum = 0u64;

@@ -10,9 +10,9 @@ use std::thread::Threads;
 
 /// A job without work: its answer is its number.
 #[derive(Clone, Copy, Debug, PartialEq, Eq)]
-struct Number(u64);
+struct IdleJob(u64);
 
-impl Job for Number {
+impl Job for IdleJob {
     type Answer = u64;
 
     ghost value = { λ number. number.0 };
@@ -52,10 +52,10 @@ pub fn sum<R: Threads + Wait + AllocGlobal + Sync>(
 }
 
 /// The jobs with the numbers below the count.
-fn numbers(alloc: Global, count: u64) -> Result<Vec<Number>> {
+fn numbers(alloc: Global, count: u64) -> Result<Vec<IdleJob>> {
     let mut numbers = Vec::new(alloc);
     for number in 0..count {
-        numbers.push(Number(number))?;
+        numbers.push(IdleJob(number))?;
     }
     Ok(numbers)
 }

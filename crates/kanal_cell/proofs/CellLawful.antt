@@ -12,8 +12,8 @@ use Rattle.kanal_cell.specs.declared.signal.steps.CellReply.{CellReply}
 use Rattle.kanal_cell.specs.declared.signal.steps.CellReply.TheVariants.{Slept, Outcome, Pending, Settled, Left, Flag, Spent}
 use Rattle.kanal_cell.specs.declared.signal.steps.Owner.{Owner}
 use Rattle.kanal_cell.specs.declared.signal.steps.Owner.TheVariants.{Nowhere, Home, Waiter, Settler}
-use Rattle.kanal_cell.specs.CellMoves.{empty, answer, next}
-use Rattle.kanal_cell.specs.CellHistory.{is_sleep, is_settle, is_leave, looks, first, first_sleep, first_settle, first_leave, takes_at, taker, outcome_of, outcome, is_late, told_at, told_there, reply_at, owner_after}
+use Rattle.kanal_cell.specs.CellMoves.{empty, cell_reply, cell_after}
+use Rattle.kanal_cell.specs.CellHistory.{is_sleep, is_settle, is_leave, looks, first, first_sleep, first_settle, first_leave, takes_at, taker, settle_outcome, outcome, is_late, told_at, told_there, cell_reply_at, owner_after}
 use Rattle.kanal_cell.specs.CellLaw.{Makes, Brings, to_waiter, to_settler, gives, OwnedAsTold, IsLawful, CellLaw}
 use Rattle.kanal_cell.proofs.CellBools.{and_left, and_right, both, bool_case}
 use Rattle.kanal_cell.proofs.CellPlaces.{found, up, down, get_length, StateAt, starts, state_kept, answers, leave_taken, sleep_takes}
@@ -21,20 +21,20 @@ use Rattle.kanal_cell.proofs.CellPlaces.{found, up, down, get_length, StateAt, s
 -- The cell after a list of steps.
 abbrev after : CellCore → List CellStep → CellCore
 after c [] = c
-after c (x ∷ xs) = after (next c x) xs
+after c (x ∷ xs) = after (cell_after c x) xs
 
-after_more : (c : CellCore) (xs : List CellStep) (y : CellStep) → after c (xs ++ y ∷ []) ≡ next (after c xs) y
+after_more : (c : CellCore) (xs : List CellStep) (y : CellStep) → after c (xs ++ y ∷ []) ≡ cell_after (after c xs) y
 after_more c [] y = refl
-after_more c (x ∷ xs) y = after_more (next c x) xs y
+after_more c (x ∷ xs) y = after_more (cell_after c x) xs y
 
 after_append : (c : CellCore) (xs ys : List CellStep) → after c (xs ++ ys) ≡ after (after c xs) ys
 after_append c [] ys = refl
-after_append c (x ∷ xs) ys = after_append (next c x) xs ys
+after_append c (x ∷ xs) ys = after_append (cell_after c x) xs ys
 
 reached : (steps : List CellStep) (k : ℕ) → k ≤ length steps → StateAt steps k (after empty (take k steps))
 reached steps zero h = starts steps
 reached steps (suc k) h = let n : suc k ≡ k + 1 = omega arith in let near : k < length steps = omega arith in
-    let one : after empty (take (k + 1) steps) ≡ next (after empty (take k steps)) (get_or steps k Sleep) = ap (after empty) (take_more steps k Sleep near) ∙ after_more empty (take k steps) (get_or steps k Sleep) in
+    let one : after empty (take (k + 1) steps) ≡ cell_after (after empty (take k steps)) (get_or steps k Sleep) = ap (after empty) (take_more steps k Sleep near) ∙ after_more empty (take k steps) (get_or steps k Sleep) in
     subst (λ m. StateAt steps m (after empty (take m steps))) (sym n) (state_kept steps k Sleep (after empty (take k steps)) (after empty (take (k + 1) steps)) near (reached steps k (omega arith)) one)
 
 ending : (steps : List CellStep) → StateAt steps (length steps) (after empty steps)
@@ -48,7 +48,7 @@ kept_if : (b : Bool) (c d : CellCore) → Below c d → Below c (cond b c d)
 kept_if true c d h = ((λ e. e), (λ e. e), (λ e. e))
 kept_if false c d h = h
 
-below_next : (c : CellCore) (x : CellStep) → Below c (next c x)
+below_next : (c : CellCore) (x : CellStep) → Below c (cell_after c x)
 below_next c Sleep = kept_if (c.sleeping || c.left || c.had) c _ ((λ e. refl), (λ e. e), (λ e. e))
 below_next c (Settle p) = kept_if c.ended c _ ((λ e. e), (λ e. refl), (λ e. e))
 below_next c Poll = kept_if c.left c _ ((λ e. e), (λ e. e), (λ e. e))
@@ -57,7 +57,7 @@ below_next c IsLeft = ((λ e. e), (λ e. e), (λ e. e))
 
 below_after : (c : CellCore) (xs : List CellStep) → Below c (after c xs)
 below_after c [] = ((λ e. e), (λ e. e), (λ e. e))
-below_after c (x ∷ xs) = let a = below_next c x in let b = below_after (next c x) xs in ((λ e. b.0 (a.0 e)), (λ e. b.1 (a.1 e)), (λ e. b.2 (a.2 e)))
+below_after c (x ∷ xs) = let a = below_next c x in let b = below_after (cell_after c x) xs in ((λ e. b.0 (a.0 e)), (λ e. b.1 (a.1 e)), (λ e. b.2 (a.2 e)))
 
 cut_below : (steps : List CellStep) (n m : ℕ) → n ≤ m → Below (after empty (take n steps)) (after empty (take m steps))
 cut_below steps n m h = let ys = take m steps in
@@ -75,21 +75,21 @@ some_or : (o : Option CellStep) → (o ≡ None) ⊎ ((x : CellStep) × (o ≡ S
 some_or None = inl refl
 some_or (Some x) = inr (x, refl)
 
-reply_of : (steps : List CellStep) (k : ℕ) (x : CellStep) → slice_get steps k ≡ Some x → reply_at steps k ≡ Some (told_at steps k x)
+reply_of : (steps : List CellStep) (k : ℕ) (x : CellStep) → slice_get steps k ≡ Some x → cell_reply_at steps k ≡ Some (told_at steps k x)
 reply_of steps k x e = ap (told_there steps k) e
 
-no_reply : (steps : List CellStep) (k : ℕ) → slice_get steps k ≡ None → reply_at steps k ≡ None
+no_reply : (steps : List CellStep) (k : ℕ) → slice_get steps k ≡ None → cell_reply_at steps k ≡ None
 no_reply steps k e = ap (told_there steps k) e
 
-reply_by_state : (steps : List CellStep) (k : ℕ) (x : CellStep) → slice_get steps k ≡ Some x → reply_at steps k ≡ Some (answer (after empty (take k steps)) x)
+reply_by_state : (steps : List CellStep) (k : ℕ) (x : CellStep) → slice_get steps k ≡ Some x → cell_reply_at steps k ≡ Some (cell_reply (after empty (take k steps)) x)
 reply_by_state steps k x e = let near = get_length steps k x e in
     reply_of steps k x e ∙ ap Some (answers steps k x e (after empty (take k steps)) (reached steps k (omega (arith, near))))
 
-replies_stay_ : (steps : List CellStep) (n k : ℕ) → k < n → reply_at (take n steps) k ≡ reply_at steps k
+replies_stay_ : (steps : List CellStep) (n k : ℕ) → k < n → cell_reply_at (take n steps) k ≡ cell_reply_at steps k
 replies_stay_ steps n k h = ⊎_elim
     (λ (e : slice_get steps k ≡ None). no_reply (take n steps) k (get_take n steps k h ∙ e) ∙ sym (no_reply steps k e))
     (λ (w : (x : CellStep) × (slice_get steps k ≡ Some x)). reply_by_state (take n steps) k w.0 (get_take n steps k h ∙ w.1)
-    ∙ ap (λ ys. Some (answer (after empty ys) w.0)) (take-take k n steps (omega arith)) ∙ sym (reply_by_state steps k w.0 w.1))
+    ∙ ap (λ ys. Some (cell_reply (after empty ys) w.0)) (take-take k n steps (omega arith)) ∙ sym (reply_by_state steps k w.0 w.1))
     (some_or (slice_get steps k))
 
 -- Which step a test lets through.
@@ -242,7 +242,7 @@ module _ (steps : List CellStep) where
   sleep_there h = let w = there (λ _ y. is_sleep y) h in w.1 ∙ ap Some (sleep_is w.0 w.2)
 
   brought : (p : ℕ) → Brings steps p → outcome steps ≡ p
-  brought p b = ap outcome_of b
+  brought p b = ap settle_outcome b
 
   -- what can take the outcome does so after the settle, with no leave before the settle
   taker_there : t < n → (x : CellStep) × (slice_get steps t ≡ Some x) × (ltb l s ≡ false) × (s < t) × (looks x || eqb t z ≡ true)
@@ -257,7 +257,7 @@ module _ (steps : List CellStep) where
 
   -- the taker is told the outcome, as a leave or as another step
   abbrev Taken : ℕ → Type 0
-  Taken p = ((slice_get steps t ≡ Some Leave) × (reply_at steps t ≡ Some (Left (Some p)))) ⊎ ((x : CellStep) × (slice_get steps t ≡ Some x) × (is_leave x ≡ false) × (reply_at steps t ≡ Some (Outcome p)))
+  Taken p = ((slice_get steps t ≡ Some Leave) × (cell_reply_at steps t ≡ Some (Left (Some p)))) ⊎ ((x : CellStep) × (slice_get steps t ≡ Some x) × (is_leave x ≡ false) × (cell_reply_at steps t ≡ Some (Outcome p)))
 
   taken : (p : ℕ) → Brings steps p → t < n → Taken p
   taken p b h = let w = taker_there h in by w.0 w.1 w.4
@@ -276,17 +276,17 @@ module _ (steps : List CellStep) where
       by Leave e f = inl (e, reply_of steps t Leave e ∙ left_if (ltb l t) (eqb t t) (outcome steps) p (taker_first h) (eq-eqb t t refl) (brought p b))
       by IsLeft e f = absurd (true≢false (sym (down steps t IsLeft e (λ _ y. is_sleep y) (sym (eqb-true t z f)))))
 
-  taken_to_waiter : (p : ℕ) → Brings steps p → t < n → to_waiter (reply_at steps t) ≡ Some p
+  taken_to_waiter : (p : ℕ) → Brings steps p → t < n → to_waiter (cell_reply_at steps t) ≡ Some p
   taken_to_waiter p b h = ⊎_elim
-      (λ (w : (slice_get steps t ≡ Some Leave) × (reply_at steps t ≡ Some (Left (Some p)))). ap to_waiter w.1)
-      (λ (w : (x : CellStep) × (slice_get steps t ≡ Some x) × (is_leave x ≡ false) × (reply_at steps t ≡ Some (Outcome p))). ap to_waiter w.3)
+      (λ (w : (slice_get steps t ≡ Some Leave) × (cell_reply_at steps t ≡ Some (Left (Some p)))). ap to_waiter w.1)
+      (λ (w : (x : CellStep) × (slice_get steps t ≡ Some x) × (is_leave x ≡ false) × (cell_reply_at steps t ≡ Some (Outcome p))). ap to_waiter w.3)
       (taken p b h)
 
   -- where a reply hands the outcome out, its place is the taker, or the settle after a leave
   abbrev Gives : ℕ → Type 0
   Gives k = (k < n) × ((k ≡ t) ⊎ ((k ≡ s) × (l < s)))
 
-  gives_where : (k : ℕ) → gives (reply_at steps k) ≡ true → Gives k
+  gives_where : (k : ℕ) → gives (cell_reply_at steps k) ≡ true → Gives k
   gives_where k g = ⊎_elim
       (λ (e : slice_get steps k ≡ None). absurd (true≢false (sym g ∙ ap gives (no_reply steps k e))))
       (λ (w : (x : CellStep) × (slice_get steps k ≡ Some x)). (get_length steps k w.0 w.1, by w.0 w.1 (sym (ap gives (reply_of steps k w.0 w.1)) ∙ g)))
@@ -305,7 +305,7 @@ module _ (steps : List CellStep) where
   apart : t < n → l < s → ⊥
   apart h e = let w = taker_there h in true≢false (sym (lt-ltb l s e) ∙ w.2)
 
-  gives_once_ : (j k : ℕ) → gives (reply_at steps j) ≡ true → gives (reply_at steps k) ≡ true → j ≡ k
+  gives_once_ : (j k : ℕ) → gives (cell_reply_at steps j) ≡ true → gives (cell_reply_at steps k) ≡ true → j ≡ k
   gives_once_ j k f g = let a = gives_where j f in let b = gives_where k g in ⊎_elim
       (λ (e : j ≡ t). ⊎_elim
       (λ (h : k ≡ t). e ∙ sym h)
@@ -317,11 +317,11 @@ module _ (steps : List CellStep) where
       b.1)
       a.1
 
-  settle_second_ : (p : ℕ) → l < s → Brings steps p → to_settler (reply_at steps s) ≡ Some p
+  settle_second_ : (p : ℕ) → l < s → Brings steps p → to_settler (cell_reply_at steps s) ≡ Some p
   settle_second_ p h b = ap to_settler (reply_of steps s (Settle p) b) ∙ back_if (ltb s s) (ltb l s) (ltb z s && not (is_late z l t)) p (never s) (lt-ltb l s h)
 
-  none_gives : (k : ℕ) → (Gives k → ⊥) → gives (reply_at steps k) ≡ false
-  none_gives k never_ = bool_case (gives (reply_at steps k)) (λ g. absurd (never_ (gives_where k g))) (λ e. e)
+  none_gives : (k : ℕ) → (Gives k → ⊥) → gives (cell_reply_at steps k) ≡ false
+  none_gives k never_ = bool_case (gives (cell_reply_at steps k)) (λ g. absurd (never_ (gives_where k g))) (λ e. e)
 
   owned_ : OwnedAsTold steps (owner_after steps)
   owned_ = owner_case (OwnedAsTold steps) (ltb s n) (ltb l s) (ltb t n)
@@ -344,16 +344,16 @@ module _ (steps : List CellStep) where
       ))
 
   leave_second_ : (p : ℕ) → s < l → Brings steps p → slice_get steps l ≡ Some Leave
-      → (reply_at steps l ≡ Some (Left (Some p))) ⊎ ((k : ℕ) × (s < k) × (k < l) × (reply_at steps k ≡ Some (Outcome p)))
+      → (cell_reply_at steps l ≡ Some (Left (Some p))) ⊎ ((k : ℕ) × (s < k) × (k < l) × (cell_reply_at steps k ≡ Some (Outcome p)))
   leave_second_ p h b e =
       let long = get_length steps l Leave e in
       let by_then = ltb-true t (suc l) (leave_taken steps (suc l) (omega (arith, long)) (le-ltb l s (omega (arith, h))) (lt-ltb s (suc l) (omega (arith, h))) (lt-ltb l (suc l) (omega arith))) in
       let near : t < n = omega (arith, by_then, long) in
       let w = taker_there near in
       ⊎_elim
-      (λ (d : (slice_get steps t ≡ Some Leave) × (reply_at steps t ≡ Some (Left (Some p)))). let low = up steps t Leave d.0 (λ _ y. is_leave y) refl in
-      let same : l ≡ t = omega (arith, low, by_then) in inl (ap (reply_at steps) same ∙ d.1))
-      (λ (d : (x : CellStep) × (slice_get steps t ≡ Some x) × (is_leave x ≡ false) × (reply_at steps t ≡ Some (Outcome p))). dite (dec_lt t l)
+      (λ (d : (slice_get steps t ≡ Some Leave) × (cell_reply_at steps t ≡ Some (Left (Some p)))). let low = up steps t Leave d.0 (λ _ y. is_leave y) refl in
+      let same : l ≡ t = omega (arith, low, by_then) in inl (ap (cell_reply_at steps) same ∙ d.1))
+      (λ (d : (x : CellStep) × (slice_get steps t ≡ Some x) × (is_leave x ≡ false) × (cell_reply_at steps t ≡ Some (Outcome p))). dite (dec_lt t l)
       (λ early. inr (t, w.3, early, d.3))
       (λ later. let same : l ≡ t = omega arith in absurd (true≢false (sym (down steps t d.0 d.1 (λ _ y. is_leave y) same) ∙ d.2))))
       (taken p b near)
@@ -363,12 +363,12 @@ module _ (steps : List CellStep) where
   first_asleep k m = let off = is_spent (not (eqb k z) || is_late z l t) (cond (eqb k t) (Outcome (outcome steps)) Slept) (λ e. m.1 (reply_of steps k Sleep m.0 ∙ e)) in
       (eqb-true k z (off_not (eqb k z) (or_off_left (not (eqb k z)) (is_late z l t) off)), or_off_right (not (eqb k z)) (is_late z l t) off)
 
-  settle_wakes_ : (k p : ℕ) → Makes steps k Sleep → Brings steps p → k < s → (back : Option ℕ) × (reply_at steps s ≡ Some (Settled true back))
+  settle_wakes_ : (k p : ℕ) → Makes steps k Sleep → Brings steps p → k < s → (back : Option ℕ) × (cell_reply_at steps s ≡ Some (Settled true back))
   settle_wakes_ k p m b h = let a = first_asleep k m in let same = a.0 in
       let r = woke_if (ltb s s) (ltb z s && not (is_late z l t)) (cond (ltb l s) (Some p) None) (never s) (both (ltb z s) (not (is_late z l t)) (lt-ltb z s (omega (arith, same, h))) (ap not a.1)) in
       (r.0, reply_of steps s (Settle p) b ∙ r.1)
 
-  sleep_gets_ : (k p : ℕ) → Makes steps k Sleep → Brings steps p → s < k → reply_at steps k ≡ Some (Outcome p)
+  sleep_gets_ : (k p : ℕ) → Makes steps k Sleep → Brings steps p → s < k → cell_reply_at steps k ≡ Some (Outcome p)
   sleep_gets_ k p m b h = let a = first_asleep k m in let same = a.0 in let near = get_length steps k Sleep m.0 in
       let takes : z ≡ t = sleep_takes steps n (omega arith) (lt-ltb z n (omega (arith, same, near))) a.1 (le-ltb z s (omega (arith, same, h))) in
       reply_of steps k Sleep m.0 ∙ outcome_if (not (eqb k z) || is_late z l t) (eqb k t) (outcome steps) p Slept

@@ -11,8 +11,8 @@ use Rattle.kanal_cell.specs.declared.signal.steps.CellReply.TheVariants.{Slept, 
 use Rattle.kanal_cell.specs.declared.signal.steps.Owner.{Owner}
 use Rattle.kanal_cell.specs.declared.signal.steps.Owner.TheVariants.{Nowhere, Home, Waiter, Settler}
 use Rattle.kanal_cell.specs.CellRule.{implies}
-use Rattle.kanal_cell.specs.CellMoves.{cell, empty, is_home, answer, next, word_of, owner_of}
-use Rattle.kanal_cell.specs.CellHistory.{is_sleep, is_settle, is_leave, looks, first_from, first, first_sleep, first_settle, first_leave, takes_at, taker, outcome_of, is_late, outcome, told_at, told_there, reply_at, word_after, owner_after}
+use Rattle.kanal_cell.specs.CellMoves.{cell, empty, is_home, cell_reply, cell_after, cell_word, owner_of}
+use Rattle.kanal_cell.specs.CellHistory.{is_sleep, is_settle, is_leave, looks, first_from, first, first_sleep, first_settle, first_leave, takes_at, taker, settle_outcome, is_late, outcome, told_at, told_there, cell_reply_at, word_after, owner_after}
 use Rattle.kanal_cell.proofs.CellBools.{iff, all, and_left, and_right, both, iff_eq, implied, follows, bool_case, false_not, either, or_left, or_right, iff_same}
 
 -- First places.
@@ -93,14 +93,14 @@ abbrev told_core : Bool → Bool → Bool → Bool → Bool → Bool → ℕ →
 told_core zk lt en le hd ls v = cell (zk && not lt) en le hd (ls && en) v
 
 abbrev Checked : CellStep → Type 0
-Checked x = (v : ℕ) (zk lt en le hd ls : Bool) → prem x zk lt en le hd ls ≡ true → checks x (next (told_core zk lt en le hd ls v) x) zk lt en le hd ls ≡ true
+Checked x = (v : ℕ) (zk lt en le hd ls : Bool) → prem x zk lt en le hd ls ≡ true → checks x (cell_after (told_core zk lt en le hd ls v) x) zk lt en le hd ls ≡ true
 
 checked : (x : CellStep) → Checked x
-checked Sleep v = follows (prem Sleep) (λ zk lt en le hd ls. checks Sleep (next (told_core zk lt en le hd ls v) Sleep) zk lt en le hd ls) refl
-checked (Settle q) v = follows (prem (Settle q)) (λ zk lt en le hd ls. checks (Settle q) (next (told_core zk lt en le hd ls v) (Settle q)) zk lt en le hd ls) refl
-checked Poll v = follows (prem Poll) (λ zk lt en le hd ls. checks Poll (next (told_core zk lt en le hd ls v) Poll) zk lt en le hd ls) refl
-checked Leave v = follows (prem Leave) (λ zk lt en le hd ls. checks Leave (next (told_core zk lt en le hd ls v) Leave) zk lt en le hd ls) refl
-checked IsLeft v = follows (prem IsLeft) (λ zk lt en le hd ls. checks IsLeft (next (told_core zk lt en le hd ls v) IsLeft) zk lt en le hd ls) refl
+checked Sleep v = follows (prem Sleep) (λ zk lt en le hd ls. checks Sleep (cell_after (told_core zk lt en le hd ls v) Sleep) zk lt en le hd ls) refl
+checked (Settle q) v = follows (prem (Settle q)) (λ zk lt en le hd ls. checks (Settle q) (cell_after (told_core zk lt en le hd ls v) (Settle q)) zk lt en le hd ls) refl
+checked Poll v = follows (prem Poll) (λ zk lt en le hd ls. checks Poll (cell_after (told_core zk lt en le hd ls v) Poll) zk lt en le hd ls) refl
+checked Leave v = follows (prem Leave) (λ zk lt en le hd ls. checks Leave (cell_after (told_core zk lt en le hd ls v) Leave) zk lt en le hd ls) refl
+checked IsLeft v = follows (prem IsLeft) (λ zk lt en le hd ls. checks IsLeft (cell_after (told_core zk lt en le hd ls v) IsLeft) zk lt en le hd ls) refl
 
 -- the reply, by the same Bools
 abbrev told_now : Bool → Bool → Bool → Bool → Bool → Bool → ℕ → CellStep → CellReply
@@ -137,7 +137,7 @@ sleep_home = follows (λ zk lt en le hd ls. prem Sleep zk lt en le hd ls && not 
 look_home : (zk lt en le hd ls : Bool) → true ≡ true → iff (not hd && takes_now Poll zk en ls) (home en hd ls) ≡ true
 look_home = follows (λ zk lt en le hd ls. true) (λ zk lt en le hd ls. iff (not hd && takes_now Poll zk en ls) (home en hd ls)) refl
 
-replied : (x : CellStep) (p v : ℕ) (zk lt en le hd ls : Bool) → prem x zk lt en le hd ls ≡ true → (en ≡ true → v ≡ p) → told_now zk lt en le hd ls p x ≡ answer (told_core zk lt en le hd ls v) x
+replied : (x : CellStep) (p v : ℕ) (zk lt en le hd ls : Bool) → prem x zk lt en le hd ls ≡ true → (en ≡ true → v ≡ p) → told_now zk lt en le hd ls p x ≡ cell_reply (told_core zk lt en le hd ls v) x
 replied Sleep p v zk lt en le hd ls h same = cond_both Spent _ _ _ _ (iff_eq _ _ (spent_same zk lt en le hd ls h))
     (λ free. cond_same Outcome Slept _ _ p v (iff_eq _ _ (sleep_home zk lt en le hd ls (both _ _ h (false_not _ free)))) (λ t. same (home_ended en hd ls t)))
 replied (Settle q) p v zk lt en le hd ls h same = refl
@@ -251,12 +251,12 @@ module _ (steps : List CellStep) (k : ℕ) (x : CellStep) (e : slice_get steps k
       by Leave a b = λ i. cond (ltb l k) Spent (Left (cond (b i) (Some (outcome steps)) None))
       by IsLeft a b = refl
 
-  value_of : (y : CellStep) (c : CellCore) → slice_get steps k ≡ Some y → (c.ended ≡ ltb s k) → (is_settle y ≡ true → s ≤ k) → (c.ended ≡ true → c.value ≡ outcome steps) → (next c y).ended ≡ true → (next c y).value ≡ outcome steps
+  value_of : (y : CellStep) (c : CellCore) → slice_get steps k ≡ Some y → (c.ended ≡ ltb s k) → (is_settle y ≡ true → s ≤ k) → (c.ended ≡ true → c.value ≡ outcome steps) → (cell_after c y).ended ≡ true → (cell_after c y).value ≡ outcome steps
   value_of Sleep c g en least same = bool_case (c.sleeping || c.left || c.had) (λ b. subst (λ v. (cond v c (cell true c.ended c.left (c.had || is_home c) c.back c.value)).ended ≡ true → (cond v c (cell true c.ended c.left (c.had || is_home c) c.back c.value)).value ≡ outcome steps) (sym b) same)
       (λ b. subst (λ v. (cond v c (cell true c.ended c.left (c.had || is_home c) c.back c.value)).ended ≡ true → (cond v c (cell true c.ended c.left (c.had || is_home c) c.back c.value)).value ≡ outcome steps) (sym b) same)
   value_of (Settle q) c g en least same = bool_case c.ended (λ b. subst (λ v. (cond v c (cell c.sleeping true c.left c.had c.left q)).ended ≡ true → (cond v c (cell c.sleeping true c.left c.had c.left q)).value ≡ outcome steps) (sym b) same)
       (λ b. subst (λ v. (cond v c (cell c.sleeping true c.left c.had c.left q)).ended ≡ true → (cond v c (cell c.sleeping true c.left c.had c.left q)).value ≡ outcome steps) (sym b)
-      (λ _. let le = least refl in let ge = ltb-false s k (sym en ∙ b) in let here : k ≡ s = omega (arith, le, ge) in sym (ap outcome_of (ap (slice_get steps) (sym here) ∙ g))))
+      (λ _. let le = least refl in let ge = ltb-false s k (sym en ∙ b) in let here : k ≡ s = omega (arith, le, ge) in sym (ap settle_outcome (ap (slice_get steps) (sym here) ∙ g))))
   value_of Poll c g en least same = bool_case c.left (λ b. subst (λ v. (cond v c (cell c.sleeping c.ended c.left (c.had || is_home c) c.back c.value)).ended ≡ true → (cond v c (cell c.sleeping c.ended c.left (c.had || is_home c) c.back c.value)).value ≡ outcome steps) (sym b) same)
       (λ b. subst (λ v. (cond v c (cell c.sleeping c.ended c.left (c.had || is_home c) c.back c.value)).ended ≡ true → (cond v c (cell c.sleeping c.ended c.left (c.had || is_home c) c.back c.value)).value ≡ outcome steps) (sym b) same)
   value_of Leave c g en least same = bool_case c.left (λ b. subst (λ v. (cond v c (cell c.sleeping c.ended true (c.had || is_home c) c.back c.value)).ended ≡ true → (cond v c (cell c.sleeping c.ended true (c.had || is_home c) c.back c.value)).value ≡ outcome steps) (sym b) same)
@@ -272,12 +272,12 @@ module _ (steps : List CellStep) (k : ℕ) (x : CellStep) (e : slice_get steps k
       swap : ltb l s && ltb s k ≡ ltb l s && ltb s k
       swap = refl
 
-  pub answers : (c : CellCore) → StateAt steps k c → told_at steps k x ≡ answer c x
-  answers c f = told_is ∙ (replied x (outcome steps) c.value (ltb z k) (is_late z l t) (ltb s k) (ltb l k) (ltb t k) (ltb l s) prem_ok (λ h. f.5 (f.1 ∙ h)) ∙ ap (λ d. answer d x) (sym (is_told c f)))
+  pub answers : (c : CellCore) → StateAt steps k c → told_at steps k x ≡ cell_reply c x
+  answers c f = told_is ∙ (replied x (outcome steps) c.value (ltb z k) (is_late z l t) (ltb s k) (ltb l k) (ltb t k) (ltb l s) prem_ok (λ h. f.5 (f.1 ∙ h)) ∙ ap (λ d. cell_reply d x) (sym (is_told c f)))
 
-  pub goes_on : (c : CellCore) → StateAt steps k c → StateAt steps (suc k) (next c x)
+  pub goes_on : (c : CellCore) → StateAt steps k c → StateAt steps (suc k) (cell_after c x)
   goes_on c f =
-      let h = subst (λ d. checks x (next d x) (ltb z k) (is_late z l t) (ltb s k) (ltb l k) (ltb t k) (ltb l s) ≡ true) (sym (is_told c f)) (checked x c.value (ltb z k) (is_late z l t) (ltb s k) (ltb l k) (ltb t k) (ltb l s) prem_ok) in
+      let h = subst (λ d. checks x (cell_after d x) (ltb z k) (is_late z l t) (ltb s k) (ltb l k) (ltb t k) (ltb l s) ≡ true) (sym (is_told c f)) (checked x c.value (ltb z k) (is_late z l t) (ltb s k) (ltb l k) (ltb t k) (ltb l s) prem_ok) in
       let h1 = and_left _ _ h in let h2 = and_left _ _ h1 in let h3 = and_left _ _ h2 in (
         iff_eq _ _ (and_left _ _ h3) ∙ ap (λ b. b && not (is_late z l t)) (sym (next_of (λ _ y. is_sleep y))),
         iff_eq _ _ (and_right _ _ h3) ∙ sym (next_of (λ _ y. is_settle y)),
@@ -304,11 +304,11 @@ get_last (x ∷ xs) y = get_last xs y
 abbrev pub Said : List CellStep → ℕ → List CellReply → Type 0
 Said steps n rs = (k : ℕ) (x : CellStep) → k < n → slice_get steps k ≡ Some x → slice_get rs k ≡ Some (told_at steps k x)
 
-pub state_kept : (steps : List CellStep) (k : ℕ) (d : CellStep) (c c' : CellCore) → k < length steps → StateAt steps k c → c' ≡ next c (get_or steps k d) → StateAt steps (k + 1) c'
+pub state_kept : (steps : List CellStep) (k : ℕ) (d : CellStep) (c c' : CellCore) → k < length steps → StateAt steps k c → c' ≡ cell_after c (get_or steps k d) → StateAt steps (k + 1) c'
 state_kept steps k d c c' h f is = let n : suc k ≡ k + 1 = omega arith in
     subst (λ (p : ℕ × CellCore). StateAt steps p.0 p.1) (λ i. (n i, sym is i)) (goes_on steps k (get_or steps k d) (get_there steps k d h) c f)
 
-pub said_more : (steps : List CellStep) (k : ℕ) (d : CellStep) (c : CellCore) (r : CellReply) (rs rs' : List CellReply) → k < length steps → length rs ≡ k → StateAt steps k c → r ≡ answer c (get_or steps k d) → rs' ≡ rs ++ r ∷ []
+pub said_more : (steps : List CellStep) (k : ℕ) (d : CellStep) (c : CellCore) (r : CellReply) (rs rs' : List CellReply) → k < length steps → length rs ≡ k → StateAt steps k c → r ≡ cell_reply c (get_or steps k d) → rs' ≡ rs ++ r ∷ []
     → Said steps k rs → Said steps (k + 1) rs'
 said_more steps k d c r rs rs' h long f is more said j x l e = dite (dec_lt j k)
     (λ b. ap (λ q. slice_get q j) more ∙ get_front rs (r ∷ []) j (omega (arith, b, long)) ∙ said j x b e)
@@ -317,7 +317,7 @@ said_more steps k d c r rs rs' h long f is more said j x l e = dite (dec_lt j k)
     ap (λ q. slice_get q j) more ∙ ap (slice_get (rs ++ r ∷ [])) (last ∙ sym long) ∙ get_last rs r ∙ ap Some (is ∙ sym (answers steps k (get_or steps k d) there c f) ∙ λ i. told_at steps (sym last i) (sym x_is i)))
 
 -- the report
-pub word_is : (steps : List CellStep) (c : CellCore) → StateAt steps (length steps) c → word_of c ≡ word_after steps
+pub word_is : (steps : List CellStep) (c : CellCore) → StateAt steps (length steps) c → cell_word c ≡ word_after steps
 word_is steps c f = λ i. cond (f.0 i) 1 0 + cond (f.1 i) 2 0 + cond (f.2 i) 4 0
 
 swapped : (a b c d h : Bool) (x y u v : Owner) → b ≡ (c && d) → a ≡ d → cond (not a) x (cond b y (cond h u v)) ≡ cond (not d) x (cond c y (cond h u v))
@@ -396,7 +396,7 @@ told_beyond (x ∷ xs) all (r ∷ rs) from long said (suc k) =
 
 pub all_said : (steps : List CellStep) (rs : List CellReply) → length rs ≡ length steps
     → ((k : ℕ) (x : CellStep) → k < length steps → slice_get steps k ≡ Some x → slice_get rs k ≡ Some (told_at steps k x))
-    → (k : ℕ) → slice_get rs k ≡ reply_at steps k
+    → (k : ℕ) → slice_get rs k ≡ cell_reply_at steps k
 all_said steps rs long said k = let n : 0 + k ≡ k = omega arith in
     told_beyond steps steps rs 0 long (λ j x e. let m : j ≡ 0 + j = omega arith in said j x (get_length steps j x e) e ∙ ap (λ i. Some (told_at steps i x)) m) k
     ∙ ap (λ i. told_there steps i (slice_get steps k)) n

@@ -50,5 +50,5 @@ module _ {P : Type 0} where
   StaysAtCell old new = settle_cell new ≡ settle_cell old
 
   -- the cell of this settler was settled with this outcome
-  abbrev pub HasSettled : SettleProof P → SettleEnd P → P → Type 0
-  HasSettled shown end outcome = (settle_cell shown.end.value ≡ settle_cell end) × (shown.outcome.value ≡ outcome)
+  abbrev pub WasSettled : SettleProof P → SettleEnd P → P → Type 0
+  WasSettled shown end outcome = (settle_cell shown.end.value ≡ settle_cell end) × (shown.outcome.value ≡ outcome)

@@ -51,13 +51,13 @@ takes_at settle leave sleep i x = not (nat_lt leave settle) && nat_lt settle i &
 abbrev pub taker : List CellStep → ℕ
 taker steps = first (takes_at (first_settle steps) (first_leave steps) (first_sleep steps)) steps
 
-abbrev pub outcome_of : Option CellStep → ℕ
-outcome_of (Some (Settle p)) = p
-outcome_of step = 0
+abbrev pub settle_outcome : Option CellStep → ℕ
+settle_outcome (Some (Settle p)) = p
+settle_outcome step = 0
 
 -- what the first settle brings
 abbrev pub outcome : List CellStep → ℕ
-outcome steps = outcome_of (slice_get steps (first_settle steps))
+outcome steps = settle_outcome (slice_get steps (first_settle steps))
 
 -- the first sleep is spent: it comes after the first leave or after the taker
 abbrev pub is_late : ℕ → ℕ → ℕ → Bool
@@ -79,8 +79,8 @@ told_there steps k None = None
 told_there steps k (Some x) = Some (told_at steps k x)
 
 -- the reply at the place k, where the list has one
-abbrev pub reply_at : List CellStep → ℕ → Option CellReply
-reply_at steps k = told_there steps k (slice_get steps k)
+abbrev pub cell_reply_at : List CellStep → ℕ → Option CellReply
+cell_reply_at steps k = told_there steps k (slice_get steps k)
 
 -- a sleeper was registered: the first sleep is there and not spent
 abbrev pub has_slept : List CellStep → Bool
@@ -107,6 +107,6 @@ owner_after steps =
 -- a report is the history of these steps
 pub record IsHistory (steps : List CellStep) (report : CellReport) : Type 0 where
   -- one reply a step, and each as the first places tell it
-  pub replies : (k : ℕ) → slice_get report.replies.items k ≡ reply_at steps k
+  pub replies : (k : ℕ) → slice_get report.replies.items k ≡ cell_reply_at steps k
   pub word : report.word ≡ word_after steps
   pub owner : report.owner ≡ owner_after steps

@@ -99,23 +99,23 @@ pub record Recalls (w t : CellView) : Type 0 where
   pub settler_new : t.set.ended ≡ false → t.found ≡ no_bits
 
 -- the outcome is in the cell: it ended, and neither end has it
-abbrev pub is_home : CellView → CellView → Bool
-is_home w t = t.set.ended && not t.had && not w.had
+abbrev pub outcome_is_home : CellView → CellView → Bool
+outcome_is_home w t = t.set.ended && not t.had && not w.had
 
 -- the sleeper is in the cell
 abbrev pub is_asleep : CellView → CellView → Bool
 is_asleep w t = w.set.sleeping && not t.set.ended
 
-abbrev pub Slot : Type 0 → Type 0
-Slot P = Option (Held P)
+abbrev pub CellSlot : Type 0 → Type 0
+CellSlot P = Option (Held P)
 
 -- a view, and the slots that its end is lent
 abbrev pub Seated : Type 0 → Type 0
-Seated P = Me (Slot P) CellView
+Seated P = Me (CellSlot P) CellView
 
 module _ {P : Type 0} where
   -- the slot is at home with something of this kind if the test holds, else it is lent out
-  abbrev pub LiesIf : Bool → (Held P → Type 0) → maybe.Option (Slot P) → Type 0
+  abbrev pub LiesIf : Bool → (Held P → Type 0) → maybe.Option (CellSlot P) → Type 0
   LiesIf true kind h = (x : Held P) × (h ≡ some (Some x)) × kind x
   LiesIf false kind h = h ≡ none
 
@@ -128,25 +128,25 @@ module _ {P : Type 0} where
   IsSleeper (Sleeper u) = Unit {0}
 
   -- the outcome's slot: with the settler until it ends, then at home until an end takes it
-  abbrev pub OutcomeLies : CellView → CellView → Role → maybe.Option (Slot P) → Type 0
+  abbrev pub OutcomeLies : CellView → CellView → Role → maybe.Option (CellSlot P) → Type 0
   OutcomeLies w t SettlerToBe h = (h ≡ some None) × (t ≡ fresh SettlerToBe)
-  OutcomeLies w t Settler h = LiesIf (is_home w t) IsOutcome h
+  OutcomeLies w t Settler h = LiesIf (outcome_is_home w t) IsOutcome h
   OutcomeLies w t role h = ⊥
 
   -- a cell with this word, these two slots and these views
-  abbrev pub cell_state : ℕ → maybe.Option (Slot P) → maybe.Option (Slot P) → List CellView → State (Slot P) CellView
+  abbrev pub cell_state : ℕ → maybe.Option (CellSlot P) → maybe.Option (CellSlot P) → List CellView → State (CellSlot P) CellView
   cell_state n h k vs = record { words = n ∷ []; homes = h ∷ k ∷ []; views = vs }
 
   -- while the cell is made, there is one seat, and the word is 0
-  abbrev pub IsBeingMade : State (Slot P) CellView → Type 0
+  abbrev pub IsBeingMade : State (CellSlot P) CellView → Type 0
   IsBeingMade s = (s ≡ cell_state 0 (some None) (some None) (fresh Maker ∷ [])) ⊎ (s ≡ cell_state 0 (some None) none (fresh WaiterToBe ∷ []))
 
   -- the cell has its two ends
-  pub record Runs (s : State (Slot P) CellView) : Type 0 where
+  pub record HasBothEnds (s : State (CellSlot P) CellView) : Type 0 where
     pub waiter : CellView
     pub settler : CellView
-    pub outcome : maybe.Option (Slot P)
-    pub sleeper : maybe.Option (Slot P)
+    pub outcome : maybe.Option (CellSlot P)
+    pub sleeper : maybe.Option (CellSlot P)
     pub is : s ≡ cell_state (number (word_bits waiter settler)) outcome sleeper (waiter ∷ settler ∷ [])
     pub waits : waiter.role ≡ Waiter
     pub agreed : agree waiter settler ≡ true
@@ -155,46 +155,46 @@ module _ {P : Type 0} where
     pub recalls : Recalls waiter settler
 
   -- the rule of the cell
-  abbrev pub FollowsRule : State (Slot P) CellView → Type 0
-  FollowsRule s = IsBeingMade s ⊎ Runs s
+  abbrev pub FollowsRule : State (CellSlot P) CellView → Type 0
+  FollowsRule s = IsBeingMade s ⊎ HasBothEnds s
 
   -- the making of a cell: the waiter is lent the sleeper's slot, and the settler the outcome's
-  abbrev pub waiter_began : Step (Slot P) → Seated P → ℕ → Seated P → Type 0
+  abbrev pub waiter_began : Step (CellSlot P) → Seated P → ℕ → Seated P → Type 0
   waiter_began st m r n = n ≡ (fresh WaiterToBe, (1, None) ∷ [])
 
-  abbrev pub settler_began : Step (Slot P) → Seated P → ℕ → Seated P → Type 0
+  abbrev pub settler_began : Step (CellSlot P) → Seated P → ℕ → Seated P → Type 0
   settler_began st m r n = n ≡ (fresh Settler, (0, None) ∷ [])
 
   -- the end was lent the slot k with something of this kind if the test holds, else no slot more
-  abbrev pub TookIf : Bool → ℕ → (Held P → Type 0) → List (ℕ × Slot P) → List (ℕ × Slot P) → Type 0
+  abbrev pub TookIf : Bool → ℕ → (Held P → Type 0) → List (ℕ × CellSlot P) → List (ℕ × CellSlot P) → Type 0
   TookIf true k kind c d = (x : Held P) × kind x × (d ≡ (k, Some x) ∷ c)
   TookIf false k kind c d = d ≡ c
 
   -- What each step tells: the bits that it found, its end's view after it, and the slots that the end is lent then.
   -- a settle gives the outcome's slot unless LEFT was there, and takes the sleeper's if SLEEPING was
-  abbrev pub settled : Step (Slot P) → Seated P → ℕ → Seated P → Type 0
+  abbrev pub settled : Step (CellSlot P) → Seated P → ℕ → Seated P → Type 0
   settled st m r n = (f : Bits) × (r ≡ number f) × (n.0 ≡ after_settle m.0 f) × TookIf f.sleeping 1 IsSleeper (if f.left then m.1 else rest m.1) n.1
 
   -- a sleep takes the outcome's slot if ENDED was there, and else gives the sleeper's
-  abbrev pub slept : Step (Slot P) → Seated P → ℕ → Seated P → Type 0
+  abbrev pub slept : Step (CellSlot P) → Seated P → ℕ → Seated P → Type 0
   slept st m r n = (f : Bits) × (r ≡ number f) × (n.0 ≡ after_sleep m.0 f) × TookIf f.ended 0 IsOutcome (if f.ended then m.1 else rest m.1) n.1
 
   -- a poll takes the outcome's slot if ENDED was there and the waiter hadn't it before
-  abbrev pub polled : Step (Slot P) → Seated P → ℕ → Seated P → Type 0
+  abbrev pub polled : Step (CellSlot P) → Seated P → ℕ → Seated P → Type 0
   polled st m r n = (f : Bits) × (r ≡ number f) × (n.0 ≡ after_poll m.0 f) × TookIf (f.ended && not m.0.had) 0 IsOutcome m.1 n.1
 
   -- a leave does the same
-  abbrev pub quit : Step (Slot P) → Seated P → ℕ → Seated P → Type 0
+  abbrev pub quit : Step (CellSlot P) → Seated P → ℕ → Seated P → Type 0
   quit st m r n = (f : Bits) × (r ≡ number f) × (n.0 ≡ after_leave m.0 f) × TookIf (f.ended && not m.0.had) 0 IsOutcome m.1 n.1
 
   -- the slot that was taken last is k, with something of this kind
-  abbrev pub Carries : ℕ → (Held P → Type 0) → List (ℕ × Slot P) → Type 0
+  abbrev pub Carries : ℕ → (Held P → Type 0) → List (ℕ × CellSlot P) → Type 0
   Carries k kind c = (x : Held P) × kind x × (c ≡ (k, Some x) ∷ rest c)
 
   -- the waiter has the sleeper's slot, empty, until it sleeps or has the outcome
-  abbrev pub IsWaiter : CellView → List (ℕ × Slot P) → Type 0
+  abbrev pub IsWaiter : CellView → List (ℕ × CellSlot P) → Type 0
   IsWaiter v c = (v.role ≡ Waiter) × (v.set.sleeping || v.had ≡ false → c ≡ (1, None) ∷ [])
 
   -- the settler has the outcome's slot, empty, until it settles
-  abbrev pub IsSettler : CellView → List (ℕ × Slot P) → Type 0
+  abbrev pub IsSettler : CellView → List (ℕ × CellSlot P) → Type 0
   IsSettler v c = (v.role ≡ Settler) × (v.set.ended ≡ false → c ≡ (0, None) ∷ [])

@@ -8,7 +8,7 @@ use Rattle.kanal_cell.specs.declared.signal.steps.Owner.TheVariants.{Nowhere, Ho
 use Rattle.kanal_cell.specs.declared.signal.rule.Bits.{Bits}
 use Rattle.kanal_cell.specs.declared.signal.rule.CellView.{CellView}
 use Rattle.kanal_cell.specs.declared.signal.rule.Held.{Held}
-use Rattle.kanal_cell.specs.CellRule.{Slot, Seated, Runs, is_within, number, word_bits, IsOutcome, IsSleeper, Carries, settled, slept, quit, after_settle, after_sleep, after_poll, after_leave, HasNotLeft, HasNotSettled}
+use Rattle.kanal_cell.specs.CellRule.{CellSlot, Seated, HasBothEnds, is_within, number, word_bits, IsOutcome, IsSleeper, Carries, settled, slept, quit, after_settle, after_sleep, after_poll, after_leave, HasNotLeft, HasNotSettled}
 
 -- who has the outcome, by the two views
 abbrev pub owner_now : CellView → CellView → Owner
@@ -27,22 +27,22 @@ pub record StepLaw : Type 0 where
 
 module _ {P : Type 0} where
   -- something of this kind lies in the slot at home
-  abbrev pub LiesIn : (Held P → Type 0) → maybe.Option (Slot P) → Type 0
+  abbrev pub LiesIn : (Held P → Type 0) → maybe.Option (CellSlot P) → Type 0
   LiesIn kind h = (x : Held P) × (h ≡ some (Some x)) × kind x
 
   -- nothing of this kind lies in the slot at home
-  abbrev pub LacksIn : (Held P → Type 0) → maybe.Option (Slot P) → Type 0
+  abbrev pub LacksIn : (Held P → Type 0) → maybe.Option (CellSlot P) → Type 0
   LacksIn kind h = LiesIn kind h → ⊥
 
   -- the outcome is with the owner and with nobody else
-  abbrev pub OwnedBy : CellView → CellView → maybe.Option (Slot P) → Owner → Type 0
+  abbrev pub OwnedBy : CellView → CellView → maybe.Option (CellSlot P) → Owner → Type 0
   OwnedBy w t h Nowhere = (w.had ≡ false) × (t.had ≡ false) × LacksIn IsOutcome h
   OwnedBy w t h Home = (w.had ≡ false) × (t.had ≡ false) × LiesIn IsOutcome h
   OwnedBy w t h Waiter = (w.had ≡ true) × (t.had ≡ false) × LacksIn IsOutcome h
   OwnedBy w t h Settler = (w.had ≡ false) × (t.had ≡ true) × LacksIn IsOutcome h
 
   -- the law, of the cell in the state s
-  pub record RunningLaw (s : State (Slot P) CellView) (r : Runs s) : Type 0 where
+  pub record RunningLaw (s : State (CellSlot P) CellView) (r : HasBothEnds s) : Type 0 where
     -- the one word and the two slots of the cell
     pub word : s.words ≡ number (word_bits r.waiter r.settler) ∷ []
     pub slots : s.homes ≡ r.outcome ∷ r.sleeper ∷ []
@@ -67,11 +67,11 @@ module _ {P : Type 0} where
 -- what the second comer holds right after its step, where m is its end before the step, n after it
 pub record SecondHolds (P : Type 0) : Type 0 where
   -- a settle that found SLEEPING holds the sleeper
-  pub settle_sleeper : (st : Step (Slot P)) (m : Seated P) (r : ℕ) (n : Seated P) → settled st m r n → n.0.found.sleeping ≡ true → Carries 1 IsSleeper n.1
+  pub settle_sleeper : (st : Step (CellSlot P)) (m : Seated P) (r : ℕ) (n : Seated P) → settled st m r n → n.0.found.sleeping ≡ true → Carries 1 IsSleeper n.1
   -- a settle that found LEFT still holds the outcome that it put, with the sleeper on top if there was one
-  pub settle_outcome : (st : Step (Slot P)) (m : Seated P) (r : ℕ) (n : Seated P) (x : Held P) → settled st m r n → n.0.found.left ≡ true → m.1 ≡ (0, Some x) ∷ []
+  pub outcome_of : (st : Step (CellSlot P)) (m : Seated P) (r : ℕ) (n : Seated P) (x : Held P) → settled st m r n → n.0.found.left ≡ true → m.1 ≡ (0, Some x) ∷ []
       → (n.1 ≡ (0, Some x) ∷ []) ⊎ ((y : Held P) × (n.1 ≡ (1, Some y) ∷ (0, Some x) ∷ []))
   -- a sleep that found ENDED holds the outcome
-  pub sleep_outcome : (st : Step (Slot P)) (m : Seated P) (r : ℕ) (n : Seated P) → slept st m r n → n.0.found.ended ≡ true → Carries 0 IsOutcome n.1
+  pub sleep_outcome : (st : Step (CellSlot P)) (m : Seated P) (r : ℕ) (n : Seated P) → slept st m r n → n.0.found.ended ≡ true → Carries 0 IsOutcome n.1
   -- a leave that found ENDED holds the outcome, unless a poll or a sleep had it before
-  pub leave_outcome : (st : Step (Slot P)) (m : Seated P) (r : ℕ) (n : Seated P) → quit st m r n → n.0.found.ended ≡ true → m.0.had ≡ false → Carries 0 IsOutcome n.1
+  pub leave_outcome : (st : Step (CellSlot P)) (m : Seated P) (r : ℕ) (n : Seated P) → quit st m r n → n.0.found.ended ≡ true → m.0.had ≡ false → Carries 0 IsOutcome n.1

@@ -4,7 +4,7 @@ use mathlib.Core.Option.{some, none}
 use mathlib.Core.Option as maybe
 use lib.ListN.{get_elem?}
 use Rattle.atomic_table.specs.Table.{Act, Valid, homes_after, carried_after}
-use Rattle.kanal_cell.specs.CellRule.{Slot}
+use Rattle.kanal_cell.specs.CellRule.{CellSlot}
 
 module _ {S : Type 0} where
   -- the slot k is not among those that an end is lent
@@ -29,14 +29,14 @@ module _ {S : Type 0} where
 -- and `a` is what the step does with them: it may take slots that lie at home, and give back what its end is lent.
 pub record SlotLaw (P : Type 0) : Type 0 where
   -- what an end is lent by a step is what lay at home,
-  pub taken : (k : ℕ) (v w : Slot P) (homes : List (maybe.Option (Slot P))) (lent : List (ℕ × Slot P)) (a : Act (Slot P)) → Valid homes lent a
+  pub taken : (k : ℕ) (v w : CellSlot P) (homes : List (maybe.Option (CellSlot P))) (lent : List (ℕ × CellSlot P)) (a : Act (CellSlot P)) → Valid homes lent a
       → LiesAtHome k v homes → IsNotLent k lent → IsLentWith k w (carried_after lent a) → w ≡ v
   -- what lies at home after the end gave its slot back is what the end had put there,
-  pub given : (k : ℕ) (v : Slot P) (homes : List (maybe.Option (Slot P))) (lent : List (ℕ × Slot P)) (a : Act (Slot P)) → Valid homes lent a
+  pub given : (k : ℕ) (v : CellSlot P) (homes : List (maybe.Option (CellSlot P))) (lent : List (ℕ × CellSlot P)) (a : Act (CellSlot P)) → Valid homes lent a
       → IsOut k homes → IsLentWith k v lent → IsNotLent k (carried_after lent a) → LiesAtHome k v (homes_after homes lent a)
   -- a slot that lies at home, and that the end is not lent by the step, holds what it held,
-  pub untouched : (k : ℕ) (v : Slot P) (homes : List (maybe.Option (Slot P))) (lent : List (ℕ × Slot P)) (a : Act (Slot P)) → Valid homes lent a
+  pub untouched : (k : ℕ) (v : CellSlot P) (homes : List (maybe.Option (CellSlot P))) (lent : List (ℕ × CellSlot P)) (a : Act (CellSlot P)) → Valid homes lent a
       → LiesAtHome k v homes → IsNotLent k lent → IsNotLent k (carried_after lent a) → LiesAtHome k v (homes_after homes lent a)
   -- and a slot that another end is lent stays out, so nobody else fills it.
-  pub elsewhere : (k : ℕ) (homes : List (maybe.Option (Slot P))) (lent : List (ℕ × Slot P)) (a : Act (Slot P)) → Valid homes lent a
+  pub elsewhere : (k : ℕ) (homes : List (maybe.Option (CellSlot P))) (lent : List (ℕ × CellSlot P)) (a : Act (CellSlot P)) → Valid homes lent a
       → IsOut k homes → IsNotLent k lent → IsOut k (homes_after homes lent a) × IsNotLent k (carried_after lent a)

@@ -11,7 +11,7 @@ use crate::shared::Shared;
 use kanal_core::error::{CloseError, TooMany};
 use kanal_events::event::{Ask, Event, Reply, Side};
 use kanal_state::answers::{closed_by, count_by, flag_by, number_by};
-use kanal_state::{Counted, History, OfSide};
+use kanal_state::{CountedHandle, History, OfSide};
 use std::sync::Wait;
 
 impl<T: Drop, H: History<T>> Shared<T, H> {
@@ -65,13 +65,13 @@ impl<T: Drop, H: History<T>> Shared<T, H> {
         &self,
         rt: &R,
         pass: &mut H::Pass,
-    ) -> Result<Counted<S>, TooMany>
+    ) -> Result<CountedHandle<S>, TooMany>
         ensures counted { IsReplied H.relations pass.old pass.new (one_more S.side) counted_by
             (whether_counted result) }
     {
         let mut locked = self.lock(rt);
         let counted = locked.state.count(&self.log, pass);
-        locked.unlock_quiet();
+        locked.unlock_and_drain();
         counted
     }
 

@@ -112,7 +112,7 @@ impl<T: Drop, H: History<T>> Shared<T, H> {
         rt: &R,
         locked: Locked<'_, T, H>,
     ) -> Locked<'_, T, H> {
-        locked.unlock_quiet();
+        locked.unlock_and_drain();
         pause_once();
         self.lock(rt)
     }
@@ -152,7 +152,7 @@ impl<T: Drop, H: History<T>> Shared<T, H> {
             return Ok((locked, event));
         }
         let reply = locked.state.refuse(&self.log, pass, event);
-        let released = locked.unlock_quiet();
+        let released = locked.unlock_and_drain();
         Err(reply.open(&released))
     }
 
@@ -182,11 +182,11 @@ impl<T: Drop, H: History<T>> Shared<T, H> {
     {
         let mut locked = locked;
         let Some((end, waiter)) = cell else {
-            locked.unlock_quiet();
+            locked.unlock_and_drain();
             return Err(event.refused(Refusal::NoMemory));
         };
         let start = locked.state.wait(&self.log, pass, event, waiter);
-        let released = locked.unlock_quiet();
+        let released = locked.unlock_and_drain();
         match start {
             WaitStart::Waits(counted) => Ok((counted, end)),
             WaitStart::Refused(reply, waiter) => {

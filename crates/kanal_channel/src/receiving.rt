@@ -46,7 +46,7 @@ impl<T: Drop, H: History<T>> Shared<T, H> {
         let mut locked = self.lock(rt);
         match locked.state.pop(&self.log, pass) {
             Some(message) => {
-                locked.unlock_quiet();
+                locked.unlock_and_drain();
                 Ok(message)
             },
             None => self.recv_held(rt, locked, pass),
@@ -87,7 +87,7 @@ impl<T: Drop, H: History<T>> Shared<T, H> {
         let mut locked = self.pause_released(rt, locked);
         match locked.state.pop(&self.log, pass) {
             Some(message) => {
-                locked.unlock_quiet();
+                locked.unlock_and_drain();
                 Ok(message)
             },
             None => self.recv_waiting(rt, locked, pass),
@@ -132,7 +132,7 @@ impl<T: Drop, H: History<T>> Shared<T, H> {
         let mut locked = self.lock(rt);
         match locked.state.try_pop(&self.log, pass) {
             Some(message) => {
-                locked.unlock_quiet();
+                locked.unlock_and_drain();
                 Ok(Some(message))
             },
             None => self.try_recv_held(locked, pass),
@@ -228,7 +228,7 @@ impl<T: Drop, H: History<T>> Shared<T, H> {
         let mut locked = self.lock(rt);
         match locked.state.pop(&self.log, pass) {
             Some(message) => {
-                locked.unlock_quiet();
+                locked.unlock_and_drain();
                 WaitOutcome::Replied(Reply::Got(message))
             },
             None => {

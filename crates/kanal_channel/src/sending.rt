@@ -58,7 +58,7 @@ impl<T: Drop, H: History<T>> Shared<T, H> {
         let mut locked = self.lock(rt);
         match locked.state.push(&self.log, pass, message) {
             Ok(()) => {
-                locked.unlock_quiet();
+                locked.unlock_and_drain();
                 Ok(())
             },
             Err(message) => self.send_held(rt, locked, pass, message),
@@ -101,7 +101,7 @@ impl<T: Drop, H: History<T>> Shared<T, H> {
         let mut locked = self.pause_released(rt, locked);
         match locked.state.push(&self.log, pass, message) {
             Ok(()) => {
-                locked.unlock_quiet();
+                locked.unlock_and_drain();
                 Ok(())
             },
             Err(message) => self.send_waiting(rt, locked, pass, message),
@@ -170,7 +170,7 @@ impl<T: Drop, H: History<T>> Shared<T, H> {
         let mut locked = self.lock(rt);
         match locked.state.try_push(&self.log, pass, message) {
             Ok(()) => {
-                locked.unlock_quiet();
+                locked.unlock_and_drain();
                 Ok(true)
             },
             Err(message) => self.offer_held(locked, pass, message, back),
@@ -392,7 +392,7 @@ impl<T: Drop, H: History<T>> Shared<T, H> {
         let mut locked = self.lock(rt);
         match locked.state.push(&self.log, pass, message) {
             Ok(()) => {
-                locked.unlock_quiet();
+                locked.unlock_and_drain();
                 WaitOutcome::Replied(Reply::Sent)
             },
             Err(message) => {

@@ -15,7 +15,7 @@ use kanal_cell::signal::WaitEnd;
 use kanal_core::error::NewError;
 use kanal_core::mutex::Mutex;
 use kanal_state::{
-    Core, Counted, CountedWait, FirstHandles, History, Notices, OfSide, State, WaitResult,
+    Core, CountedHandle, CountedWait, FirstHandles, History, Notices, OfSide, State, WaitResult,
 };
 pub use locked::{Locked, Pending};
 use std::alloc::Global;
@@ -131,7 +131,7 @@ impl<T: Drop, H: History<T>> Shared<T, H> {
 
     /// A handle goes away: it never waits.
     /// Example: `shared.drop_handle(counted)`: the last sender ends the receivers that wait.
-    pub fn drop_handle<S: OfSide>(&self, counted: Counted<S>) {
+    pub fn drop_handle<S: OfSide>(&self, counted: CountedHandle<S>) {
         match self.try_lock() {
             Some((locked, pending)) => {
                 let mut state = locked.into_guard();

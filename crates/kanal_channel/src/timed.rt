@@ -91,7 +91,7 @@ impl<T: Drop, H: History<T>> Shared<T, H> {
     {
         let mut locked = self.lock(rt);
         let withdrawn = locked.state.withdraw(&self.log, pass, counted);
-        let released = locked.unlock_quiet();
+        let released = locked.unlock_and_drain();
         match withdrawn {
             Ok(waiter) => {
                 let Waiter {

@@ -10,7 +10,7 @@ use Rattle.kanal_core.specs.declared.internal.outcome.Ticket.{Ticket}
 use Rattle.kanal_core.specs.declared.internal.outcome.Waiter.{Waiter}
 use Rattle.kanal_core.specs.Line.{LineEntry, bare, waiting, tickets, is_below, has, has_place, holds_ticket, found, IsWithin}
 use Rattle.kanal_core.specs.Moves.{Moved, enter, leave, wait_send, wait_recv}
-use Rattle.kanal_core.specs.Channel.{Channel, line_of, entry_of, demand_of}
+use Rattle.kanal_core.specs.Channel.{ChannelView, line_of, entry_of, demand_of}
 use Rattle.kanal_core.specs.Waiters.{same_ticket, waiter_of, without, IsPlaced, receiver_first, sender_first}
 use Rattle.kanal_core.specs.Calls.{Enters, TakesFront, MovesTo, Withdraws}
 use Rattle.kanal_core.specs.Sided.{AllSend, AllReceive, Rises, IsOneSided}
@@ -57,7 +57,7 @@ module _ {T : Type 0} where
 
 module _ {T W : Type 0} (c : Option ℕ) (s r n : ℕ) where
   -- a channel with this buffer and these waiters
-  abbrev pub row : List T → List (Waiter T W) → Channel T W
+  abbrev pub row : List T → List (Waiter T W) → ChannelView T W
   row ms ws = record { buffer = ms; waiters = ws; capacity = c; senders = s; receivers = r; next = n }
 
   module _ (first : Waiter T W) (new : List (Waiter T W)) (m : T) where

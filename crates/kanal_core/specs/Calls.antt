@@ -10,7 +10,7 @@ use Rattle.kanal_core.specs.declared.internal.outcome.Take.{Take}
 use Rattle.kanal_core.specs.declared.internal.outcome.Take.TheVariants.{Got, Closed as TakeClosed, SendClosed, Empty}
 use Rattle.kanal_core.specs.Line.{LineEntry, Line, has_place, has, found}
 use Rattle.kanal_core.specs.Moves.{Moved, enter, leave, without_entry, without_demand}
-use Rattle.kanal_core.specs.Channel.{Channel, settlement, settlements}
+use Rattle.kanal_core.specs.Channel.{ChannelView, settlement, settlements}
 use Rattle.kanal_core.specs.Tickets.{number_of}
 
 -- the first of the list was taken out, or nothing where the list is empty
@@ -42,7 +42,7 @@ abbrev pub Stays : {T : Type 0} → Line T → Line T → Type 0
 Stays old new = (old.receivers ≢ 0) × (new ≡ old)
 
 -- a side that was gone is gone still
-abbrev pub StaysGone : {T W : Type 0} → Channel T W → Channel T W → Type 0
+abbrev pub StaysGone : {T W : Type 0} → ChannelView T W → ChannelView T W → Type 0
 StaysGone old new = (old.senders ≡ 0 → new.senders ≡ 0) × (old.receivers ≡ 0 → new.receivers ≡ 0)
 
 -- an offer would be answered `Full`

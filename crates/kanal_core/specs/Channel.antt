@@ -11,7 +11,7 @@ use Rattle.kanal_core.specs.Line.{LineEntry, Line, bare, waiting}
 use Rattle.kanal_core.specs.Waiters.{receiver_first, sender_first}
 
 -- the buffer from front to back, those that wait from the oldest on, and the counts
-pub record Channel (T W : Type 0) : Type 0 where
+pub record ChannelView (T W : Type 0) : Type 0 where
   pub buffer : List T
   pub waiters : List (Waiter T W)
   pub capacity : Option ℕ
@@ -34,7 +34,7 @@ module _ {T W : Type 0} where
   demand_of w = unserved w.message w.ticket.number
 
   -- the line: the buffer and then the messages of the waiting senders; the waiting receivers are its demands
-  abbrev pub line_of : Channel T W → Line T
+  abbrev pub line_of : ChannelView T W → Line T
   line_of c =
       record {
         capacity = c.capacity;
@@ -46,19 +46,19 @@ module _ {T W : Type 0} where
       }
 
   -- a new channel
-  abbrev pub opening : Option ℕ → Channel T W
+  abbrev pub opening : Option ℕ → ChannelView T W
   opening capacity = record { buffer = []; waiters = []; capacity = capacity; senders = 1; receivers = 1; next = 0 }
 
   -- a channel with these numbers, in which nothing is and nobody waits
-  abbrev pub starting : Option ℕ → ℕ → ℕ → ℕ → Channel T W
+  abbrev pub starting : Option ℕ → ℕ → ℕ → ℕ → ChannelView T W
   starting capacity first senders receivers = record { buffer = []; waiters = []; capacity = capacity; senders = senders; receivers = receivers; next = first }
 
   -- a channel that was sealed: no sender is left, and receivers wait no more
-  abbrev pub sealed : Channel T W → Channel T W
+  abbrev pub sealed : ChannelView T W → ChannelView T W
   sealed c = record c { waiters = cond (receiver_first c.waiters) [] c.waiters; senders = 0 }
 
   -- a channel that was closed
-  abbrev pub closed : Channel T W → Channel T W
+  abbrev pub closed : ChannelView T W → ChannelView T W
   closed c = record c { buffer = []; waiters = []; senders = 0; receivers = 0 }
 
   -- how a waiter ends
@@ -70,15 +70,15 @@ module _ {T W : Type 0} where
   taken_by w = record { ticket = w.ticket; w = w.w; outcome = Taken }
 
   -- a channel after a drop of a sender: with the last one all that wait leave
-  abbrev pub sender_dropped : Channel T W → Channel T W
+  abbrev pub sender_dropped : ChannelView T W → ChannelView T W
   sender_dropped c = record c { waiters = cond (c.senders == 1) [] c.waiters; senders = c.senders - 1 }
 
   -- a channel after a drop of a receiver: with the last one all that wait leave
-  abbrev pub receiver_dropped : Channel T W → Channel T W
+  abbrev pub receiver_dropped : ChannelView T W → ChannelView T W
   receiver_dropped c = record c { waiters = cond (c.receivers == 1) [] c.waiters; receivers = c.receivers - 1 }
 
   -- a channel after a drain: the buffer and the waiting senders leave, and waiting receivers stay
-  abbrev pub after_drain : Channel T W → Channel T W
+  abbrev pub after_drain : ChannelView T W → ChannelView T W
   after_drain c = record c { buffer = []; waiters = cond (sender_first c.waiters) [] c.waiters }
 
   -- a settled waiter, as the line tells it

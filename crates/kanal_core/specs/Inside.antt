@@ -2,12 +2,12 @@
 use Rattle.std.specs.Prelude.{◌≡◌, ◌<◌, length}
 use Rattle.kanal_core.specs.Line.{IsWithin}
 use Rattle.kanal_core.specs.Sided.{IsOneSided, Rises}
-use Rattle.kanal_core.specs.Channel.{Channel}
+use Rattle.kanal_core.specs.Channel.{ChannelView}
 use Rattle.kanal_core.specs.declared.internal.ChannelInternal.TheInside.{Inside}
 
 module _ {T W : Type 0} where
   -- the core as contracts see it
-  abbrev pub channel_of : Inside T W → Channel T W
+  abbrev pub channel_of : Inside T W → ChannelView T W
   channel_of c =
       record {
         buffer = c.buffer.messages;

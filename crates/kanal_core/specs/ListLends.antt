@@ -8,5 +8,5 @@ use Rattle.kanal_core.specs.Waiters.{with_w}
 
 module _ (T W : RattleType) (s : MutBor (List (Waiter T.Denot W.Denot))) (t : Ticket) where
   -- once the borrow r ends, the waiter with the ticket has the last W written through r
-  abbrev pub lends_w : Option (MutBor W.Denot) → Fml
-  lends_w r = LendsIf (the_row T W) W s r (λ w. with_w t w s.now) s.now
+  abbrev pub list_lends_w : Option (MutBor W.Denot) → Fml
+  list_lends_w r = LendsIf (the_row T W) W s r (λ w. with_w t w s.now) s.now

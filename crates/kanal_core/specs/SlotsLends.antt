@@ -14,5 +14,5 @@ module _ (T W : RattleType) (s : MutBor (Slots T.Denot W.Denot)) (place : ℕ) w
   lends_slot r = LendsIf (the_row T W) (slot.the_row T W) s r (λ w. record s.now { slab = with_value s.now.slab place w }) s.now
 
   -- once the borrow r ends, the waiter at the place has the last W written through r
-  abbrev pub lends_w : MutBor W.Denot → Fml
-  lends_w r = Lends (the_row T W) W s r (λ w. record s.now { slab = put_w s.now.slab place (get s.now.slab place) w })
+  abbrev pub slots_lends_w : MutBor W.Denot → Fml
+  slots_lends_w r = Lends (the_row T W) W s r (λ w. record s.now { slab = put_w s.now.slab place (get s.now.slab place) w })

@@ -8,6 +8,6 @@ RoseByAtMost k (Some n) None = ⊥
 RoseByAtMost k (Some n) (Some m) = (n ≤ m) × (m ≤ n + k)
 
 -- one visit more, if anybody counts
-abbrev pub one_more : Option ℕ → Option ℕ
-one_more None = None
-one_more (Some n) = Some (n + 1)
+abbrev pub one_visit_more : Option ℕ → Option ℕ
+one_visit_more None = None
+one_visit_more (Some n) = Some (n + 1)

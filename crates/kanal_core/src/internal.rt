@@ -92,9 +92,9 @@ pub struct ChannelInternal<T, W> {
 }
 
 impl<T, W> Model for ChannelInternal<T, W> {
-    ghost use Rattle.kanal_core.specs.Channel.{Channel};
+    ghost use Rattle.kanal_core.specs.Channel.{ChannelView};
 
-    ghost Value = { Channel T W };
+    ghost Value = { ChannelView T W };
 
     ghost use Rattle.kanal_core.specs.Inside.{channel_of, IsSound};
 
@@ -104,7 +104,7 @@ impl<T, W> Model for ChannelInternal<T, W> {
 }
 
 impl<T, W> ChannelInternal<T, W> {
-    ghost use Rattle.kanal_core.specs.CoreLends.{lends_w};
+    ghost use Rattle.kanal_core.specs.CoreLends.{core_lends_w};
     ghost use Rattle.kanal_core.specs.declared.internal.outcome.Waiter.{Waiter};
 
     /// An empty channel with this capacity, one sender and one receiver.
@@ -407,7 +407,7 @@ impl<T, W> ChannelInternal<T, W> {
     /// }
     /// ```
     pub fn waiting(&mut self, ticket: Ticket) -> Option<&mut W>
-        ensures* writes_back { sem 𝓛 (lends_w T.row W.row self.entry ticket result) }
+        ensures* writes_back { sem 𝓛 (core_lends_w T.row W.row self.entry ticket result) }
         ensures value { option_copied_mut result
             ≡ option_map (λ (w : Waiter T W). w.w) (waiter_of ticket self.old.waiters) }
     {

@@ -6,7 +6,7 @@ use std::fmt;
 
 /// Why nothing is drawn.
 #[derive(Clone, Copy, Debug)]
-pub enum Fault {
+pub enum Failure {
     /// The line of this number, counted from 1, can't be read, and why.
     Unreadable(usize, &'static str),
     /// Memory was refused.
@@ -15,53 +15,56 @@ pub enum Fault {
     Device,
 }
 
-impl Fault {
+impl Failure {
     /// The status that the program ends with.
     pub fn status(self) -> u8 {
         match self {
-            Fault::Unreadable(_, _) => 2,
-            Fault::NoMemory | Fault::Device => 1,
+            Failure::Unreadable(_, _) => 2,
+            Failure::NoMemory | Failure::Device => 1,
         }
     }
 }
 
-impl fmt::Display for Fault {
+impl fmt::Display for Failure {
     fn fmt<W: fmt::Write>(&self, f: &mut fmt::Formatter<W>) -> fmt::Result {
         match self {
-            Fault::Unreadable(line, why) => write!(f, "kanal_draw: line {line}: {why}"),
-            Fault::NoMemory => write!(f, "kanal_draw: no memory"),
-            Fault::Device => write!(f, "kanal_draw: device fault"),
+            Failure::Unreadable(line, why) => write!(f, "kanal_draw: line {line}: {why}"),
+            Failure::NoMemory => write!(f, "kanal_draw: no memory"),
+            Failure::Device => write!(f, "kanal_draw: device fault"),
         }
     }
 }
 
-impl From<AllocError> for Fault {
-    fn from(_error: AllocError) -> Fault {
-        Fault::NoMemory
+impl From<AllocError> for Failure {
+    fn from(_error: AllocError) -> Failure {
+        Failure::NoMemory
     }
 }
 
-impl<T: Drop> From<AllocFailed<T>> for Fault {
-    fn from(_failed: AllocFailed<T>) -> Fault {
-        Fault::NoMemory
+impl<T: Drop> From<AllocFailed<T>> for Failure {
+    fn from(_failed: AllocFailed<T>) -> Failure {
+        Failure::NoMemory
     }
 }
 
-impl From<ParseError> for Fault {
-    fn from(error: ParseError) -> Fault {
+impl From<ParseError> for Failure {
+    fn from(error: ParseError) -> Failure {
         match error {
-            ParseError::Unreadable(1) => Fault::Unreadable(1, "no `cap N` and no `cap unbounded`"),
-            ParseError::Unreadable(line) => Fault::Unreadable(line, "no event behind the party"),
-            ParseError::NoMemory => Fault::NoMemory,
+            ParseError::Unreadable(1) => Failure::Unreadable(
+                1,
+                "no `cap N` and no `cap unbounded`",
+            ),
+            ParseError::Unreadable(line) => Failure::Unreadable(line, "no event behind the party"),
+            ParseError::NoMemory => Failure::NoMemory,
         }
     }
 }
 
-impl From<NewError> for Fault {
-    fn from(error: NewError) -> Fault {
+impl From<NewError> for Failure {
+    fn from(error: NewError) -> Failure {
         match error {
-            NewError::TooLarge => Fault::Unreadable(1, "the capacity is too large"),
-            NewError::NoMemory => Fault::NoMemory,
+            NewError::TooLarge => Failure::Unreadable(1, "the capacity is too large"),
+            NewError::NoMemory => Failure::NoMemory,
         }
     }
 }

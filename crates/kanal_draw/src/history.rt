@@ -1,6 +1,6 @@
 //! Makes the calls on `kanal_journal`'s recorded channel, and follows each message and each wait as its journal tells it.
-use crate::fault::Fault;
-use crate::reading::{Call, Reading};
+use crate::fault::Failure;
+use crate::reading::{CallLine, Reading};
 use crate::ways::{Arrow, Sent, Spot, Ways};
 use kanal_core::internal::Outcome;
 use kanal_journal::journal::{Entry, Event, Journal, RecordedState, Reply, Settlement};
@@ -19,7 +19,7 @@ pub enum Mark {
 
 /// One entry, with the words of its call and its answer, and the line after it.
 #[derive(Drop)]
-pub struct Row<'a> {
+pub struct DrawnRow<'a> {
     pub party: u32,
     pub call: &'a str,
     pub answer: String,
@@ -29,14 +29,14 @@ pub struct Row<'a> {
 
 /// A history, as it is drawn. Rows are counted from 0.
 #[derive(Drop)]
-pub struct History<'a> {
-    pub rows: Vec<Row<'a>>,
+pub struct DrawnHistory<'a> {
+    pub rows: Vec<DrawnRow<'a>>,
     pub ways: Ways,
 }
 
-impl<'a> History<'a> {
+impl<'a> DrawnHistory<'a> {
     /// Makes the calls that were read, and follows what was told.
-    pub fn of(alloc: Global, reading: Reading<'a>) -> Result<History<'a>, Fault> {
+    pub fn of(alloc: Global, reading: Reading<'a>) -> Result<DrawnHistory<'a>, Failure> {
         let calls = reading.calls;
         let journal = play(alloc, reading.capacity, calls.as_slice(), reading.events)?;
         let ways = Ways {
@@ -57,7 +57,7 @@ impl<'a> History<'a> {
             rows.push(follower.row(row, call, entry)?)?;
         }
         let ways = follower.ways;
-        Ok(History { rows, ways })
+        Ok(DrawnHistory { rows, ways })
     }
 }
 
@@ -65,13 +65,13 @@ impl<'a> History<'a> {
 fn play(
     alloc: Global,
     capacity: Option<usize>,
-    calls: &[Call<'_>],
+    calls: &[CallLine<'_>],
     events: Vec<Event<u64>>,
-) -> Result<Journal<u64>, Fault> {
+) -> Result<Journal<u64>, Failure> {
     let mut state = RecordedState::new(alloc, capacity)?;
     for (call, event) in calls.iter().zip(events) {
         if state.step(call.party, event).is_no_memory() {
-            return Err(Fault::NoMemory);
+            return Err(Failure::NoMemory);
         }
     }
     Ok(state.into_journal())
@@ -99,9 +99,9 @@ impl<'j> Follower<'j> {
     fn row<'a>(
         &mut self,
         row: usize,
-        call: &Call<'a>,
+        call: &CallLine<'a>,
         entry: &Entry<u64>,
-    ) -> Result<Row<'a>, Fault> {
+    ) -> Result<DrawnRow<'a>, Failure> {
         let (party, slot) = (entry.party, 0);
         let own = Spot { row, party, slot };
         let is_handed = self.settle(own)?;
@@ -112,7 +112,7 @@ impl<'j> Follower<'j> {
             (Event::Close, _) => Mark::Close,
             _ => Mark::Plain,
         };
-        Ok(Row {
+        Ok(DrawnRow {
             party,
             call: call.words,
             answer: self.answer(&entry.reply)?,
@@ -138,7 +138,7 @@ impl<'j> Follower<'j> {
     }
 
     /// Moves what the entry itself moved.
-    fn step(&mut self, from: Spot, entry: &Entry<u64>, is_handed: bool) -> Result<(), Fault> {
+    fn step(&mut self, from: Spot, entry: &Entry<u64>, is_handed: bool) -> Result<(), Failure> {
         match entry.reply {
             Reply::Sent | Reply::Yes => {
                 if !is_handed {
@@ -159,7 +159,7 @@ impl<'j> Follower<'j> {
     }
 
     /// The event's message enters the line, if it has one; the wait that it withdraws is over.
-    fn enter(&mut self, from: Spot, event: Event<u64>, ticket: Option<u64>) -> Result<(), Fault> {
+    fn enter(&mut self, from: Spot, event: Event<u64>, ticket: Option<u64>) -> Result<(), Failure> {
         match event {
             Event::Send(message) | Event::TrySend(message) => {
                 self.ways.line.push(Sent {
@@ -175,7 +175,7 @@ impl<'j> Follower<'j> {
     }
 
     /// The words of a reply, with the messages that it counts.
-    fn answer(&mut self, reply: &Reply<u64>) -> Result<String, Fault> {
+    fn answer(&mut self, reply: &Reply<u64>) -> Result<String, Failure> {
         let messages = match reply {
             Reply::Drained(count) => taken(&mut self.drained, *count),
             Reply::Cleared(count) => taken(&mut self.cleared, *count),
@@ -183,7 +183,7 @@ impl<'j> Follower<'j> {
         };
         let mut bytes = Vec::new(self.alloc);
         if print_reply(&mut bytes, reply, messages).is_err() {
-            return Err(Fault::NoMemory);
+            return Err(Failure::NoMemory);
         }
         let line = str::from_utf8(&bytes).unwrap_or("");
         Ok(String::from_str(self.alloc, line.trim_end())?)

@@ -1,5 +1,5 @@
 //! Writes a history as an SVG sequence diagram, what lies behind first; only numbers and fixed words, so nothing is escaped.
-use crate::history::{History, Mark, Row};
+use crate::history::{DrawnHistory, DrawnRow, Mark};
 use crate::ways::{Arrow, Spot, Wait};
 use std::alloc::{AllocError, Global};
 
@@ -70,7 +70,7 @@ fn row_foot(row: usize) -> usize {
 
 impl Drawing {
     /// Lays out a history: lanes are as wide as the widest words and the most bars side by side.
-    fn of(alloc: Global, history: &History<'_>) -> Drawing {
+    fn of(alloc: Global, history: &DrawnHistory<'_>) -> Drawing {
         let (mut parties, mut words, mut line) = (0, 5, 4);
         for row in &history.rows {
             parties = parties.max(row.party.saturating_add(1));
@@ -178,7 +178,7 @@ impl Drawing {
     }
 
     /// Writes an entry: its dot, its number, its words, the line after it, and the line across that it asks for.
-    fn entry(&mut self, place: usize, row: &Row<'_>) -> Result<(), AllocError> {
+    fn entry(&mut self, place: usize, row: &DrawnRow<'_>) -> Result<(), AllocError> {
         let (x, foot, line) = (self.x(row.party, 0), row_foot(place), self.line);
         let (left, y) = (x.saturating_add(8), foot.saturating_sub(7));
         let number = place.saturating_add(1);
@@ -210,7 +210,7 @@ impl Drawing {
 /// Draws a history as a picture.
 ///
 /// The error says that memory was refused.
-pub fn draw(alloc: Global, history: &History<'_>) -> Result<String, AllocError> {
+pub fn draw(alloc: Global, history: &DrawnHistory<'_>) -> Result<String, AllocError> {
     let mut drawing = Drawing::of(alloc, history);
     drawing.open(history.ways.capacity)?;
     drawing.lanes()?;

@@ -1,6 +1,6 @@
 //! Histories of which nothing is drawn, each with what is told of it.
 use crate::draw;
-use crate::fault::Fault;
+use crate::fault::Failure;
 use std::alloc::Global;
 use std::test::Fail;
 
@@ -42,14 +42,14 @@ const INPUTS: &[(&[u8], &str)] = &[
 ];
 
 /// Why nothing is drawn of these bytes, if nothing is.
-fn fault_of(alloc: Global, bytes: &[u8]) -> Option<Fault> {
+fn fault_of(alloc: Global, bytes: &[u8]) -> Option<Failure> {
     draw(alloc, bytes).err()
 }
 
 #[test]
 fn tells_the_line_and_why(rt: HostRuntime) -> Result<(), Fail> {
     for (bytes, told) in INPUTS {
-        let fault = fault_of(rt.alloc(), bytes).unwrap_or(Fault::Device);
+        let fault = fault_of(rt.alloc(), bytes).unwrap_or(Failure::Device);
         assert!(rt; fault.status() == 2);
         assert!(rt; fault.to_string(rt.alloc())?.as_str() == *told);
     }

@@ -3,7 +3,7 @@ use Rattle.std.proofs.Common.{◌≡◌, ℕ, ◌+◌, zero, suc, List, [], ◌�
 use Rattle.std.proofs.lemmas.Bool.{cases_Bool}
 use Rattle.kanal_core.specs.declared.internal.outcome.Ticket.{Ticket}
 use Rattle.kanal_core.specs.declared.internal.outcome.Waiter.{Waiter}
-use Rattle.kanal_core.specs.Channel.{Channel, after_drain}
+use Rattle.kanal_core.specs.Channel.{ChannelView, after_drain}
 use Rattle.kanal_core.specs.Waiters.{same_ticket, sender_first, without}
 use Rattle.kanal_core.specs.Calls.{WaitsLast}
 use Rattle.kanal_events.specs.declared.step_result.Placement.{Placement}
@@ -32,18 +32,18 @@ module _ {T W : Type 0} where
       ]
 
   -- nobody gets a ticket where one is withdrawn, and where all senders leave
-  pub none-without : (old new : Channel T W) (t : Ticket) → new.next ≡ old.next → new.waiters ≡ without t old.waiters → GivesNone old new
+  pub none-without : (old new : ChannelView T W) (t : Ticket) → new.next ≡ old.next → new.waiters ≡ without t old.waiters → GivesNone old new
   none-without old new t next left = record { next = next; kept = λ ts k. subst (λ ws. AreKept ts ws) (sym left) (kept-without ts t old.waiters k) }
 
   kept-drained : (ts : List Ticket) (sends : Bool) (ws : List (Waiter T W)) → AreKept ts ws → AreKept ts (cond sends [] ws)
   kept-drained ts true ws k = tt
   kept-drained ts false ws k = k
 
-  pub none-drained : (old new : Channel T W) → new ≡ after_drain old → GivesNone old new
+  pub none-drained : (old new : ChannelView T W) → new ≡ after_drain old → GivesNone old new
   none-drained old new e = rw e (record { next = refl; kept = λ ts k. kept-drained ts (sender_first old.waiters) old.waiters k })
 
   -- nor where all leave who wait, or nobody
-  pub none-left : (old new : Channel T W) (all : Bool) → new.next ≡ old.next → new.waiters ≡ cond all [] old.waiters → GivesNone old new
+  pub none-left : (old new : ChannelView T W) (all : Bool) → new.next ≡ old.next → new.waiters ≡ cond all [] old.waiters → GivesNone old new
   none-left old new all next stay = record { next = next; kept = λ ts k. subst (λ ws. AreKept ts ws) (sym stay) (kept-drained ts all old.waiters k) }
 
   kept-more : (ts : List Ticket) (t : Ticket) (ws : List (Waiter T W)) → AreKept ts ws → AreKept (ts ++ t ∷ []) ws
@@ -55,7 +55,7 @@ module _ {T W : Type 0} where
   kept-last ts (x ∷ ws) w k e = (k.0, kept-last ts ws w k.1 e)
 
   -- one who begins to wait has the next ticket, and stands last
-  pub gives-last : (old new : Channel T W) (message : Option T) (w : W) (t : Ticket) → WaitsLast old.next message w t old.waiters new.waiters → new.next ≡ old.next + 1 → GivesOne t old new
+  pub gives-last : (old new : ChannelView T W) (message : Option T) (w : W) (t : Ticket) → WaitsLast old.next message w t old.waiters new.waiters → new.next ≡ old.next + 1 → GivesOne t old new
   gives-last old new message w t waits next =
       record {
         number = waits.0;
@@ -66,7 +66,7 @@ module _ {T W : Type 0} where
       }
 
   -- a step that gave no ticket, and one behind it
-  pub gives-after : (kept : Placement W) (old mid new : Channel T W) → GivesNone old mid → Gives kept mid new → Gives kept old new
+  pub gives-after : (kept : Placement W) (old mid new : ChannelView T W) → GivesNone old mid → Gives kept mid new → Gives kept old new
   gives-after (Waiting t) old mid new none one =
       record {
         number = one.number ∙ none.next;

@@ -4,7 +4,7 @@ use Rattle.kanal_core.specs.declared.internal.outcome.Reason.{Reason}
 use Rattle.kanal_core.specs.declared.internal.outcome.Settled.{Settled}
 use Rattle.kanal_core.specs.declared.internal.outcome.Waiter.{Waiter}
 use Rattle.kanal_core.specs.Calls.{MovesTo, OldestLeft}
-use Rattle.kanal_core.specs.Channel.{Channel, after_drain, closed, ended_by, line_of, receiver_dropped, sealed, sender_dropped, settlement, taken_by}
+use Rattle.kanal_core.specs.Channel.{ChannelView, after_drain, closed, ended_by, line_of, receiver_dropped, sealed, sender_dropped, settlement, taken_by}
 use Rattle.kanal_core.specs.Moves.{drop_receiver, drop_sender, seal}
 use Rattle.kanal_core.specs.Waiters.{receiver_first, sender_first}
 use Rattle.kanal_events.specs.declared.event.Event.{Event}
@@ -41,33 +41,33 @@ module _ {T W : Type 0} where
   moved old gone is new now e f l = subst (λ ws. Leave old is ws) (sym f) (subst (λ ss. Leave old ss new) (sym e) l)
 
   -- a step that moves the line so, and by which all leave who wait, or nobody
-  all-or-nobody : (all : Bool) (reason : Reason) (old after new : Channel T W) (event : Event T) (ended : List (Settled T W)) → after.next ≡ old.next → after.waiters ≡ cond all [] old.waiters
+  all-or-nobody : (all : Bool) (reason : Reason) (old after new : ChannelView T W) (event : Event T) (ended : List (Settled T W)) → after.next ≡ old.next → after.waiters ≡ cond all [] old.waiters
       → step (line_of old) event ≡ moving (record { line = line_of new; settled = map settlement ended }) Done → new ≡ after → ended ≡ cond all (map (ended_by reason) old.waiters) [] → IsStep old event (record { leaving = All Done ended }) new
   all-or-nobody all reason old after new event ended next stay told now is =
-      let stays = ap (λ (c : Channel T W). c.waiters) now ∙ stay in
-      record { told = inl (sym told); tickets = none-left old new all (ap (λ (c : Channel T W). c.next) now ∙ next) stays; leave = moved old.waiters _ ended _ new.waiters is stays (ended-if all reason old.waiters) }
+      let stays = ap (λ (c : ChannelView T W). c.waiters) now ∙ stay in
+      record { told = inl (sym told); tickets = none-left old new all (ap (λ (c : ChannelView T W). c.next) now ∙ next) stays; leave = moved old.waiters _ ended _ new.waiters is stays (ended-if all reason old.waiters) }
 
   -- with the last sender all leave, and otherwise nobody
-  pub sender_leaves : (old new : Channel T W) (reason : Reason) (ended : List (Settled T W)) → MovesTo (drop_sender (line_of old)) (map settlement ended) (line_of new)
+  pub sender_leaves : (old new : ChannelView T W) (reason : Reason) (ended : List (Settled T W)) → MovesTo (drop_sender (line_of old)) (map settlement ended) (line_of new)
       → new ≡ sender_dropped old → ended ≡ cond (old.senders == 1) (map (ended_by reason) old.waiters) [] → IsStep old DropTx (record { leaving = All Done ended }) new
   sender_leaves old new reason ended moves = all-or-nobody (old.senders == 1) reason old (sender_dropped old) new DropTx ended refl refl (ap (λ m. moving m Done) moves)
 
   -- so with the last receiver
-  pub receiver_leaves : (old new : Channel T W) (reason : Reason) (ended : List (Settled T W)) → MovesTo (drop_receiver (line_of old)) (map settlement ended) (line_of new)
+  pub receiver_leaves : (old new : ChannelView T W) (reason : Reason) (ended : List (Settled T W)) → MovesTo (drop_receiver (line_of old)) (map settlement ended) (line_of new)
       → new ≡ receiver_dropped old → ended ≡ cond (old.receivers == 1) (map (ended_by reason) old.waiters) [] → IsStep old DropRx (record { leaving = All Done ended }) new
   receiver_leaves old new reason ended moves = all-or-nobody (old.receivers == 1) reason old (receiver_dropped old) new DropRx ended refl refl (ap (λ m. moving m Done) moves)
 
   -- by a seal the receivers leave that wait
-  pub sealed_leaves : (old new : Channel T W) (reason : Reason) (ended : List (Settled T W)) → old.senders ≢ 0 → MovesTo (seal (line_of old)) (map settlement ended) (line_of new)
+  pub sealed_leaves : (old new : ChannelView T W) (reason : Reason) (ended : List (Settled T W)) → old.senders ≢ 0 → MovesTo (seal (line_of old)) (map settlement ended) (line_of new)
       → new ≡ sealed old → ended ≡ cond (receiver_first old.waiters) (map (ended_by reason) old.waiters) [] → IsStep old Seal (record { leaving = All Done ended }) new
   sealed_leaves old new reason ended sender moves = all-or-nobody (receiver_first old.waiters) reason old (sealed old) new Seal ended refl refl (grind arith)
 
   -- by a close all leave
-  pub closed_leaves : (old new : Channel T W) (reason : Reason) (ended : List (Settled T W))
+  pub closed_leaves : (old new : ChannelView T W) (reason : Reason) (ended : List (Settled T W))
       → new ≡ closed old → ended ≡ map (ended_by reason) old.waiters → Leave old.waiters ended new.waiters
-  closed_leaves old new reason ended after is = moved old.waiters _ ended _ new.waiters is (ap (λ (c : Channel T W). c.waiters) after) (all-ended reason old.waiters)
+  closed_leaves old new reason ended after is = moved old.waiters _ ended _ new.waiters is (ap (λ (c : ChannelView T W). c.waiters) after) (all-ended reason old.waiters)
 
   -- by a drain the senders leave that wait
-  pub drained_leaves : (old new : Channel T W) (ended : List (Settled T W))
+  pub drained_leaves : (old new : ChannelView T W) (ended : List (Settled T W))
       → new ≡ after_drain old → ended ≡ cond (sender_first old.waiters) (map taken_by old.waiters) [] → Leave old.waiters ended new.waiters
-  drained_leaves old new ended after is = moved old.waiters _ ended _ new.waiters is (ap (λ (c : Channel T W). c.waiters) after) (taken-if (sender_first old.waiters) old.waiters)
+  drained_leaves old new ended after is = moved old.waiters _ ended _ new.waiters is (ap (λ (c : ChannelView T W). c.waiters) after) (taken-if (sender_first old.waiters) old.waiters)

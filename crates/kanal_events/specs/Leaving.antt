@@ -2,7 +2,7 @@
 use Rattle.std.specs.Prelude.{◌≡◌, List, [], ◌∷◌, ◌++◌, Option, None, Some, Result, Ok, Err}
 use Rattle.kanal_core.specs.declared.internal.outcome.Settled.{Settled}
 use Rattle.kanal_core.specs.declared.internal.outcome.Waiter.{Waiter}
-use Rattle.kanal_core.specs.Channel.{Channel, line_of}
+use Rattle.kanal_core.specs.Channel.{ChannelView, line_of}
 use Rattle.kanal_events.specs.declared.event.Event.{Event}
 use Rattle.kanal_events.specs.declared.step_result.Leaving.{Leaving}
 use Rattle.kanal_events.specs.declared.step_result.Leaving.TheVariants.{One, All, Shut, Drained}
@@ -48,7 +48,7 @@ module _ {T W : Type 0} where
   WaitPost old event w (Back back) new = (back ≡ w) × (new ≡ old)
 
   -- the whole of a step that starts no wait: what the event told, that no ticket was given, and who left
-  pub record IsStep (old : Channel T W) (event : Event T) (made : StepResult T W) (new : Channel T W) : Type 0 where
+  pub record IsStep (old : ChannelView T W) (event : Event T) (made : StepResult T W) (new : ChannelView T W) : Type 0 where
     pub told : Tells (line_of old) event (told_of (line_of new) made)
     pub tickets : GivesNone old new
     pub leave : Leave old.waiters (gone_of made) new.waiters

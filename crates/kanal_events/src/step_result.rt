@@ -13,7 +13,7 @@ use std::snapshot::Snapshot;
 
 /// What a vector held before a drain and after it, for proofs alone. It has no bytes.
 #[derive(Drop)]
-pub struct Moved<T> {
+pub struct DrainSnapshot<T> {
     /// What it held before.
     pub before: Snapshot<Vec<T>>,
     /// What it held after.
@@ -140,7 +140,7 @@ enum Leaving<T, W> {
     /// A close, with the waits that it ended and the messages that it cleared.
     Shut(Closing<T, W>),
     /// A drain of so many messages, with the waits that it settled and what it moved.
-    Drained(usize, Ended<T, W>, Moved<T>),
+    Drained(usize, Ended<T, W>, DrainSnapshot<T>),
 }
 
 /// What a step of the core told. The waits that it settled leave it by `next` alone.
@@ -209,7 +209,7 @@ impl<T: Drop, W: Drop> StepResult<T, W> {
     }
 
     /// A drain of so many messages, with the waits that it settled and what it moved.
-    pub(crate) fn drained(count: usize, ended: Ended<T, W>, moved: Moved<T>) -> Self
+    pub(crate) fn drained(count: usize, ended: Ended<T, W>, moved: DrainSnapshot<T>) -> Self
         ensures { result ≡ record { leaving = Leaving.Drained count ended moved } }
     {
         StepResult {

@@ -14,7 +14,7 @@ ghost use Rattle.kanal_events.specs.Leaving.{IsStep, WaitPost, Leave, LeaveTried
 ghost use Rattle.kanal_events.specs.StepResult.{Keeps, MustWait, Tries, drained_of, entered, got, is_drained, is_plain, may_wait, not_waiting, reply_of, told_of, withdrawn};
 
 use crate::event::{Ask, Event, Refusal, Reply, Side};
-use crate::step_result::{FastResult, Moved, Placement, StepResult};
+use crate::step_result::{DrainSnapshot, FastResult, Placement, StepResult};
 use kanal_core::error::{DrainError, WaitError};
 use kanal_core::internal::{ChannelInternal, Offer, Settled, Steps, Take, Ticket, Waiter};
 use std::marker::Brand;
@@ -304,7 +304,7 @@ pub fn drain<T: Drop, W: Drop>(
     match core.drain_into(into) {
         Ok((count, ended)) => {
             let after = Snapshot::of(&*into);
-            StepResult::drained(count, ended, Moved { before, after })
+            StepResult::drained(count, ended, DrainSnapshot { before, after })
         },
         Err(DrainError::Closed) => StepResult::replied(Reply::Refused(Refusal::Closed, None)),
         Err(DrainError::NoMemory) => StepResult::replied(Reply::Refused(Refusal::NoMemory, None)),

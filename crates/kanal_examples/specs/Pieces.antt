@@ -9,10 +9,10 @@ abbrev pub checksum : List ℕ → ℕ
 checksum bytes = sum bytes % 2 ^ 32
 
 -- the number that the digits write: one decimal digit or more, nothing else, and 32 bits hold it
-abbrev pub number_of : List ℕ → Result ℕ NoNumber
-number_of digits = cond (nat_lt 0 (length digits) && all_ascii_digits digits && nat_lt (digits_value 10 digits) (2 ^ 32))
+abbrev pub number_in : List ℕ → Result ℕ NoNumber
+number_in digits = cond (nat_lt 0 (length digits) && all_ascii_digits digits && nat_lt (digits_value 10 digits) (2 ^ 32))
     (Ok (digits_value 10 digits)) (Err (record {}))
 
 -- what a text is read as; a plus may stand first
 abbrev pub read_number : List ℕ → Result ℕ NoNumber
-read_number text = number_of (without_leading_plus text)
+read_number text = number_in (without_leading_plus text)

@@ -15,10 +15,10 @@ use std::sync::Wait;
 use std::thread::{self, JoinHandle, Threads};
 
 /// What a thread that sends answers at its end.
-type Sent = std::result::Result<(), SendError>;
+type SendResult = std::result::Result<(), SendError>;
 
 /// Sends the numbers from 1 to the last.
-fn send_each<R: Wait>(rt: &R, numbers: &Sender<u64>, last: u64) -> Sent {
+fn send_each<R: Wait>(rt: &R, numbers: &Sender<u64>, last: u64) -> SendResult {
     for number in 1..=last {
         numbers.send(rt, number)?;
     }
@@ -30,7 +30,7 @@ fn produce<R: Threads + Wait + Copy + Send + 'static>(
     rt: R,
     numbers: Sender<u64>,
     last: u64,
-) -> Result<JoinHandle<Sent>> {
+) -> Result<JoinHandle<SendResult>> {
     let thread = thread::spawn(&rt, move || send_each(&rt, &numbers, last))?;
     Ok(thread)
 }

@@ -35,11 +35,11 @@ impl Job for Piece<'_> {
 
 /// A text of its own, whose characters are counted.
 #[derive(PartialEq, Eq, Drop)]
-struct Line {
+struct TextLine {
     text: String,
 }
 
-impl Job for Line {
+impl Job for TextLine {
     type Answer = usize;
 
     ghost value = { λ line. length (chars (string_bytes line.text)) };
@@ -100,7 +100,7 @@ pub fn show<R: Threads + Wait + AllocGlobal + Print + Sync>(rt: &R) -> Result<()
     let mut lines = Vec::new(rt.alloc());
     for text in ["one", "zwölf", ""] {
         let text = String::from_str(rt.alloc(), text)?;
-        lines.push(Line { text })?;
+        lines.push(TextLine { text })?;
     }
     println!(rt; "characters {:?}", by_three(rt, lines.as_slice())?)?;
 

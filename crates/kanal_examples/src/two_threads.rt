@@ -11,23 +11,23 @@ use std::thread;
 use std::thread::Threads;
 
 /// The channel of both threads.
-type Channel = Recorded<u64>;
+type Numbers = Recorded<u64>;
 
 /// What the sender hands on, once it has sent.
-type Handed = Mutex<Option<Seen>>;
+type Handoff = Mutex<Option<Seen>>;
 
 /// How often the receiver looks for what the sender hands on.
 const TURNS: u32 = 1_000_000;
 
 /// Sends 7, and hands on what the pass has seen.
-fn send<R: Wait>(rt: &R, channel: &Channel, handed: &Handed, mut pass: Pass<u64>) -> Pass<u64> {
+fn send<R: Wait>(rt: &R, channel: &Numbers, handed: &Handoff, mut pass: Pass<u64>) -> Pass<u64> {
     pass.try_send(rt, channel, 7);
     *handed.lock(rt) = Some(pass.tell());
     pass
 }
 
 /// Waits for what the sender hands on, hears it, and receives.
-fn receive<R: Wait>(rt: &R, channel: &Channel, handed: &Handed, mut pass: Pass<u64>) -> Pass<u64> {
+fn receive<R: Wait>(rt: &R, channel: &Numbers, handed: &Handoff, mut pass: Pass<u64>) -> Pass<u64> {
     for _ in 0..TURNS {
         let told = *handed.lock(rt);
         if let Some(seen) = told {
@@ -43,7 +43,7 @@ fn receive<R: Wait>(rt: &R, channel: &Channel, handed: &Handed, mut pass: Pass<u
 /// Lets both threads make their calls.
 fn talk<R: Threads + Wait + Sync>(
     rt: &R,
-    channel: &Channel,
+    channel: &Numbers,
     sender: Pass<u64>,
     receiver: Pass<u64>,
 ) -> (Pass<u64>, Pass<u64>) {
@@ -57,7 +57,7 @@ fn talk<R: Threads + Wait + Sync>(
 
 /// Prints the history of a send and a receive.
 pub fn show<R: Threads + Wait + AllocGlobal + Print + Sync>(rt: &R) -> Result<()> {
-    let channel: Channel = Recorded::new(rt.alloc(), Some(1))?;
+    let channel: Numbers = Recorded::new(rt.alloc(), Some(1))?;
     let sender = channel.pass(rt)?;
     let receiver = channel.pass(rt)?;
     let (sender, receiver) = talk(rt, &channel, sender, receiver);

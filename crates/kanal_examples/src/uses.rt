@@ -15,7 +15,7 @@ mod threads;
 mod timed;
 
 use anyhow::Result;
-use callers::{Half, Square};
+use callers::{Half, SquareJob};
 use kanal::Sender;
 use kanal::error::SendError;
 use std::alloc::AllocGlobal;
@@ -25,10 +25,10 @@ use std::thread::{self, JoinHandle, Threads};
 use std::time::Clock;
 
 /// What a thread that sends answers at its end.
-type Sent = std::result::Result<(), SendError>;
+type SendResult = std::result::Result<(), SendError>;
 
 /// Sends one message from a thread.
-fn send_one<R, T>(rt: R, sender: Sender<T>, message: T) -> Result<JoinHandle<Sent>>
+fn send_one<R, T>(rt: R, sender: Sender<T>, message: T) -> Result<JoinHandle<SendResult>>
 where
     R: Threads + Wait + Copy + Send + 'static,
     T: Drop + Send + 'static,
@@ -47,7 +47,7 @@ fn call_each<R: Threads + Wait + AllocGlobal + Print + Sync>(rt: &R) -> Result<(
     if let Some(journal) = callers::one_message(rt, rt.alloc()) {
         println!(rt; "{}", journal.entries.len())?;
     }
-    let jobs = [Square(2), Square(3)];
+    let jobs = [SquareJob(2), SquareJob(3)];
     for value in callers::by_two(rt, rt.alloc(), jobs.as_slice())? {
         println!(rt; "{value}")?;
     }

@@ -5,7 +5,7 @@ use Rattle.std.proofs.Math.Seq.{take-length}
 use Rattle.std.proofs.lemmas.Bool.{cases_Bool}
 use Rattle.kanal_log.specs.Views.{Known, IsAmong, AreDisjoint, OwnsAllBut}
 use Rattle.kanal_log.proofs.Places.{among-cases, among-left, among-right}
-use Rattle.kanal_journal.specs.Paired.{History, Demand, sent, asked, cleared_by, kept, receipts, receipts_from, send_stays, demand_stays, without_last, ArePaired, Paired}
+use Rattle.kanal_journal.specs.Paired.{PairedHistory, Demand, sent, asked, cleared_by, kept, receipts, receipts_from, send_stays, demand_stays, without_last, ArePaired, Paired}
 use Rattle.kanal_state.specs.declared.call.Call.{Call}
 use Rattle.kanal_state.specs.Calls.{MovesNoMessage}
 use Rattle.kanal_one_history.specs.Calls.{IsLegal, history_of}
@@ -14,8 +14,8 @@ use Rattle.kanal_one_history.proofs.Exchanging.{got_longer, got_none, got_receiv
 use Rattle.kanal_one_history.proofs.Pairing.{legal-paired}
 use Rattle.kanal_one_history.proofs.Waits.{waits_as_settled}
 use Rattle.kanal_exchange.specs.Merges.{IsMerge, Neither, First, Second}
-use Rattle.kanal_exchange.specs.Readings.{is_at, read_at}
-use Rattle.kanal_exchange.specs.Tales.{sent_in, asked_in, cleared_in, Tells}
+use Rattle.kanal_exchange.specs.Readings.{is_among, read_at}
+use Rattle.kanal_exchange.specs.Tales.{sent_in, asked_in, cleared_in, HasExchanged}
 use Rattle.kanal_exchange.proofs.Places.{AreCovered, at-false, at-true, covered-more, read_all, read-longer}
 use Rattle.kanal_exchange.proofs.Telling.{all-taken, along-calls, cleared-calls, cleared-none, owned_covered, paired-take}
 
@@ -67,8 +67,8 @@ module _ {E X : Type 0} (f : E → List X) where
       → IsMerge (read_all f xs) (read_at f one n xs) (read_at f two n xs)
   read-merged calm unowned one two other n [] all ab ac bc none = Neither
   read-merged calm unowned one two other n (x ∷ xs) all ab ac bc none =
-      let front : cond (is_at n other) (f x) [] ≡ [] = left-nil (cond (is_at n other) (f x) []) (read_at f other (suc n) xs) none in
-      let back : read_at f other (suc n) xs ≡ [] = right-nil (cond (is_at n other) (f x) []) (read_at f other (suc n) xs) none in
+      let front : cond (is_among n other) (f x) [] ≡ [] = left-nil (cond (is_among n other) (f x) []) (read_at f other (suc n) xs) none in
+      let back : read_at f other (suc n) xs ≡ [] = right-nil (cond (is_among n other) (f x) []) (read_at f other (suc n) xs) none in
       let r = read-merged calm unowned one two other (suc n) xs all.1 ab ac bc back in
       ⊎_elim
       (λ (a : IsAmong n (other ++ (two ++ one))).
@@ -93,9 +93,9 @@ module _ {E X : Type 0} (f : E → List X) where
       (among-cases n other (two ++ one) a))
       (λ (s : calm x).
       let e : f x ≡ [] = unowned x s in
-      subst (λ (us : List X). IsMerge (us ++ read_all f xs) (cond (is_at n one) us [] ++ read_at f one (suc n) xs) (cond (is_at n two) us [] ++ read_at f two (suc n) xs)) (sym e)
-      (subst (λ (us : List X). IsMerge (read_all f xs) (us ++ read_at f one (suc n) xs) (cond (is_at n two) [] [] ++ read_at f two (suc n) xs)) (sym (nil-either (is_at n one)))
-      (subst (λ (us : List X). IsMerge (read_all f xs) (read_at f one (suc n) xs) (us ++ read_at f two (suc n) xs)) (sym (nil-either (is_at n two))) r)))
+      subst (λ (us : List X). IsMerge (us ++ read_all f xs) (cond (is_among n one) us [] ++ read_at f one (suc n) xs) (cond (is_among n two) us [] ++ read_at f two (suc n) xs)) (sym e)
+      (subst (λ (us : List X). IsMerge (read_all f xs) (us ++ read_at f one (suc n) xs) (cond (is_among n two) [] [] ++ read_at f two (suc n) xs)) (sym (nil-either (is_among n one)))
+      (subst (λ (us : List X). IsMerge (read_all f xs) (read_at f one (suc n) xs) (us ++ read_at f two (suc n) xs)) (sym (nil-either (is_among n two))) r)))
       all.0
     where
       left-nil : (us bs : List X) → us ++ bs ≡ [] → us ≡ []
@@ -121,13 +121,13 @@ turned k xs ys zs a =
 
 module _ {T : Type 0} where
   -- three passes beside whom nobody put or got: what the third got, if that is as much as the two put, is a merge of what they put
-  pub merged : (capacity : Option ℕ) (one two other : Known (Call T)) (log : List (Call T)) (first second got : List T) → Tells first [] one → Tells second [] two → Tells [] got other → IsPrefix one.log log → IsPrefix two.log log → IsPrefix other.log log
+  pub merged : (capacity : Option ℕ) (one two other : Known (Call T)) (log : List (Call T)) (first second got : List T) → HasExchanged first [] one → HasExchanged second [] two → HasExchanged [] got other → IsPrefix one.log log → IsPrefix two.log log → IsPrefix other.log log
       → AreDisjoint one.own two.own → AreDisjoint one.own other.own → AreDisjoint two.own other.own → IsLegal capacity log → OwnsAllBut (λ (c : Call T). MovesNoMessage c.event) log (other.own ++ (two.own ++ one.own)) → length got ≡ length first + length second → IsMerge got first second
   merged capacity one two other log first second got s1 s2 r seen1 seen2 heard ab ac bc legal owns count =
       let all = owned_covered capacity log (other.own ++ (two.own ++ one.own)) legal owns in
       let waits : WaitsAsSettled log = waits_as_settled capacity log legal in
       let paired : Paired (history_of log) = legal-paired capacity log legal in
-      let h : History T = history_of log in
+      let h : PairedHistory T = history_of log in
       let ss1 : List (T × Option ℕ) = read_at sent_in one.own 0 one.log in
       let ss2 : List (T × Option ℕ) = read_at sent_in two.own 0 two.log in
       let ds : List (Demand T) = read_at asked_in other.own 0 other.log in

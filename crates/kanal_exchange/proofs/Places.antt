@@ -6,7 +6,7 @@ use Rattle.std.proofs.lemmas.Bool.Decides.{Decides-eqb}
 use mathlib.Core.List.{IsPrefix}
 use Rattle.kanal_log.specs.Views.{IsAmong, AreDisjoint, AreBelow}
 use Rattle.kanal_log.proofs.Places.{among-cases, among-left, among-right}
-use Rattle.kanal_exchange.specs.Readings.{is_at, read_at}
+use Rattle.kanal_exchange.specs.Readings.{is_among, read_at}
 
 -- what f reads from all entries, in order
 abbrev pub read_all : {E X : Type 0} → (E → List X) → List E → List X
@@ -19,7 +19,7 @@ AreCovered unowned own n [] = Unit {0}
 AreCovered unowned own n (e ∷ es) = (IsAmong n own ⊎ unowned e) × AreCovered unowned own (suc n) es
 
 -- the test and the fact
-pub at-true : (k : ℕ) (xs : List ℕ) → IsAmong k xs → is_at k xs ≡ true
+pub at-true : (k : ℕ) (xs : List ℕ) → IsAmong k xs → is_among k xs ≡ true
 at-true k [] a = absurd a
 at-true k (x ∷ xs) (inl e) = let t : (k == x) ≡ true = (Decides-eqb k x).1 e in rw t refl
 at-true k (x ∷ xs) (inr a) =
@@ -29,7 +29,7 @@ at-true k (x ∷ xs) (inr a) =
       | inr u ↦ rw u t
     ]
 
-pub at-false : (k : ℕ) (xs : List ℕ) → (IsAmong k xs → ⊥) → is_at k xs ≡ false
+pub at-false : (k : ℕ) (xs : List ℕ) → (IsAmong k xs → ⊥) → is_among k xs ≡ false
 at-false k [] a = refl
 at-false k (x ∷ xs) a =
     elim (cases_Bool (k == x)) [
@@ -44,13 +44,13 @@ module _ {E X : Type 0} (f : E → List X) where
       let r = read-append own (suc n) xs ys in
       let s : suc n + length xs ≡ n + suc (length xs) = omega arith in
       let t : read_at f own (suc n) (xs ++ ys) ≡ read_at f own (suc n) xs ++ read_at f own (n + suc (length xs)) ys = r ∙ ap (λ k. read_at f own (suc n) xs ++ read_at f own k ys) s in
-      ap (λ zs. cond (is_at n own) (f x) [] ++ zs) t ∙ sym (append_assoc (cond (is_at n own) (f x) []) (read_at f own (suc n) xs) (read_at f own (n + suc (length xs)) ys))
+      ap (λ zs. cond (is_among n own) (f x) [] ++ zs) t ∙ sym (append_assoc (cond (is_among n own) (f x) []) (read_at f own (suc n) xs) (read_at f own (n + suc (length xs)) ys))
 
   -- nothing is read behind all places
   pub read-behind : (own : List ℕ) (m n : ℕ) (xs : List E) → AreBelow m own → m ≤ n → read_at f own n xs ≡ []
   read-behind own m n [] below le = refl
   read-behind own m n (x ∷ xs) below le =
-      let out : is_at n own ≡ false = at-false n own (λ a. let b = below n a in absurd (omega arith)) in
+      let out : is_among n own ≡ false = at-false n own (λ a. let b = below n a in absurd (omega arith)) in
       let rest = read-behind own m (suc n) xs below (omega arith) in
       rw (out, rest) refl
 
@@ -75,26 +75,26 @@ module _ {E X : Type 0} (f : E → List X) where
       let a = read-append (length before ∷ own) 0 before (call ∷ []) in
       let b = read-more (length before) own 0 before (omega arith) in
       let c = read-longer own old before below p in
-      let here : is_at (0 + length before) (length before ∷ own) ≡ true = at-true (0 + length before) (length before ∷ own) (inl (omega arith)) in
+      let here : is_among (0 + length before) (length before ∷ own) ≡ true = at-true (0 + length before) (length before ∷ own) (inl (omega arith)) in
       a ∙ (ap (λ zs. zs ++ read_at f (length before ∷ own) (0 + length before) (call ∷ [])) (b ∙ c) ∙ ap (λ zs. read_at f own 0 old ++ zs) (rw here (append-nil (f call))))
 
-  -- where each entry at the places of neither is silent, and nothing is read at those of one, all is read at those of the other
+  -- where each entry at the places of neither reads as nothing, and nothing is read at those of one, all is read at those of the other
   pub read-whole : (unowned : E → Type 0) → ((e : E) → unowned e → f e ≡ []) → (mine theirs : List ℕ) (n : ℕ) (xs : List E) → AreCovered unowned (theirs ++ mine) n xs → AreDisjoint mine theirs → read_at f theirs n xs ≡ [] → read_all f xs ≡ read_at f mine n xs
   read-whole unowned none-read mine theirs n [] all apart none = refl
   read-whole unowned none-read mine theirs n (x ∷ xs) all apart none =
-      let front : cond (is_at n theirs) (f x) [] ≡ [] = left-nil (cond (is_at n theirs) (f x) []) (read_at f theirs (suc n) xs) none in
-      let back : read_at f theirs (suc n) xs ≡ [] = right-nil (cond (is_at n theirs) (f x) []) (read_at f theirs (suc n) xs) none in
+      let front : cond (is_among n theirs) (f x) [] ≡ [] = left-nil (cond (is_among n theirs) (f x) []) (read_at f theirs (suc n) xs) none in
+      let back : read_at f theirs (suc n) xs ≡ [] = right-nil (cond (is_among n theirs) (f x) []) (read_at f theirs (suc n) xs) none in
       let r = read-whole unowned none-read mine theirs (suc n) xs all.1 apart back in
-      let head : f x ≡ cond (is_at n mine) (f x) [] =
+      let head : f x ≡ cond (is_among n mine) (f x) [] =
       ⊎_elim
       (λ (a : IsAmong n (theirs ++ mine)).
       ⊎_elim
       (λ (b : IsAmong n theirs). let t = at-true n theirs b in let u = at-false n mine (λ m. apart n m b) in let e : f x ≡ [] = subst (λ (c : Bool). cond c (f x) [] ≡ []) t front in rw u e)
       (λ (m : IsAmong n mine). let t = at-true n mine m in rw t refl)
       (among-cases n theirs mine a))
-      (λ (s : unowned x). let e : f x ≡ [] = none-read x s in still (is_at n mine) (f x) e)
+      (λ (s : unowned x). let e : f x ≡ [] = none-read x s in still (is_among n mine) (f x) e)
       all.0 in
-      ap (λ zs. zs ++ read_all f xs) head ∙ ap (λ zs. cond (is_at n mine) (f x) [] ++ zs) r
+      ap (λ zs. zs ++ read_all f xs) head ∙ ap (λ zs. cond (is_among n mine) (f x) [] ++ zs) r
     where
       left-nil : (us bs : List X) → us ++ bs ≡ [] → us ≡ []
       left-nil [] bs e = refl

@@ -12,7 +12,7 @@ use Rattle.kanal_journal.specs.Runs.{numbered, opening_line}
 use Rattle.kanal_events.specs.declared.event.Event.{Event}
 use Rattle.kanal_events.specs.declared.event.Reply.{Reply}
 use Rattle.kanal_journal.specs.declared.journal.report.Settlement.{Settlement}
-use Rattle.kanal_journal.specs.Paired.{History, Demand, history_from, along, sent, asked, cleared_by, kept, receipts, receipts_from, send_stays, demand_stays, without_last, ArePaired, Paired}
+use Rattle.kanal_journal.specs.Paired.{PairedHistory, Demand, history_from, along, sent, asked, cleared_by, kept, receipts, receipts_from, send_stays, demand_stays, without_last, ArePaired, Paired}
 use Rattle.kanal_state.specs.declared.call.Call.{Call}
 use Rattle.kanal_state.specs.Calls.{MovesNoMessage}
 use Rattle.kanal_one_history.specs.Calls.{AreTold, IsLegal, with_calls, history_of}
@@ -23,7 +23,7 @@ use Rattle.kanal_one_history.proofs.Pairing.{legal-paired}
 use Rattle.kanal_one_history.proofs.NoMessage.{exchanges_nothing}
 use Rattle.kanal_one_history.proofs.Waits.{waits_as_settled}
 use Rattle.kanal_exchange.specs.Readings.{read_at}
-use Rattle.kanal_exchange.specs.Tales.{marks_of, sent_in, asked_in, cleared_in, Tells}
+use Rattle.kanal_exchange.specs.Tales.{marks_of, sent_in, asked_in, cleared_in, HasExchanged}
 use Rattle.kanal_exchange.proofs.Places.{AreCovered, among-swap, covered-all, covered-more, read_all, read-behind, read-longer, read-call, read-whole}
 
 module _ {T : Type 0} where
@@ -63,8 +63,8 @@ module _ {T : Type 0} where
       prefix_trans old.log m.mid.log new.log (prefix_trans old.log m.made.before m.mid.log m.made.seen here) m.extends.seen
 
   -- what one call adds to the tale
-  pub tells_more : (capacity : Option ℕ) (put got more_put more_got : List T) (old new : Known (Call T)) → Tells put got old → Exchanges capacity old new more_put more_got
-      → Tells (put ++ more_put) (got ++ more_got) new × (new.share ≡ old.share)
+  pub tells_more : (capacity : Option ℕ) (put got more_put more_got : List T) (old new : Known (Call T)) → HasExchanged put got old → Exchanges capacity old new more_put more_got
+      → HasExchanged (put ++ more_put) (got ++ more_got) new × (new.share ≡ old.share)
   tells_more capacity put got more_put more_got old new t x =
       let call = x.call in
       let m = x.made in
@@ -84,7 +84,7 @@ module _ {T : Type 0} where
       )
 
   -- who has seen more, and has no other calls, tells the same
-  pub tells_longer : (put got : List T) (old new : Known (Call T)) → Tells put got old → IsPrefix old.log new.log → new.own ≡ old.own → Tells put got new
+  pub tells_longer : (put got : List T) (old new : Known (Call T)) → HasExchanged put got old → IsPrefix old.log new.log → new.own ≡ old.own → HasExchanged put got new
   tells_longer put got old new t seen own =
       let long = prefix_length old.log new.log seen in
       record {
@@ -98,7 +98,7 @@ module _ {T : Type 0} where
       same f = ap (λ (xs : List ℕ). read_at f xs 0 new.log) own ∙ read-longer f old.own old.log new.log t.below seen
 
   -- a pass that has made no call
-  pub tells_none : (known : Known (Call T)) → known.own ≡ [] → Tells [] [] known
+  pub tells_none : (known : Known (Call T)) → known.own ≡ [] → HasExchanged [] [] known
   tells_none known none =
       record {
         below = λ k a. absurd (subst (λ (own : List ℕ). IsAmong k own) none a);
@@ -152,7 +152,7 @@ module _ {T : Type 0} where
   whole-one f unowned one other log below below' seen heard apart all none =
       read-whole f ExchangesNothing unowned one.own other.own 0 log all apart (read-longer f other.own other.log log below' heard ∙ none) ∙ read-longer f one.own one.log log below seen
 
-  -- calls of silent events put nothing and got nothing, where each was told what its line tells
+  -- calls of events that move no message put nothing and got nothing, where each was told what its line tells
   covered-told : (l : Line T) (own : List ℕ) (n : ℕ) (log : List (Call T)) → AreTold l log → AreCovered (λ (c : Call T). MovesNoMessage c.event) own n log → AreCovered ExchangesNothing own n log
   covered-told l own n [] told all = tt
   covered-told l own n (c ∷ cs) told all = (
@@ -160,7 +160,7 @@ module _ {T : Type 0} where
     covered-told (step l c.event).line own (suc n) cs told.1 all.1,
   )
 
-  -- who owns all but silent calls of a legal history owns all that put or got
+  -- who owns all calls that move messages of a legal history owns all that put or got
   pub owned_covered : (capacity : Option ℕ) (log : List (Call T)) (own : List ℕ) → IsLegal capacity log → OwnsAllBut (λ (c : Call T). MovesNoMessage c.event) log own → AreCovered ExchangesNothing own 0 log
   owned_covered capacity log own legal owns =
       covered-told (opening_line capacity) own 0 log legal (covered-all (λ (c : Call T). MovesNoMessage c.event) own 0 log (λ k lt. subst (λ j. IsAmong j own ⊎ HoldsAt (λ (c : Call T). MovesNoMessage c.event) log k) (plus-nothing k) (owns.all k lt)))
@@ -169,7 +169,7 @@ module _ {T : Type 0} where
       plus-nothing k = omega arith
 
   -- two passes beside whom nobody put or got: what the one got is what the other put first
-  pub exchanged : (capacity : Option ℕ) (one other : Known (Call T)) (log : List (Call T)) (put got : List T) → Tells put [] one → Tells [] got other → IsPrefix one.log log → IsPrefix other.log log
+  pub exchanged : (capacity : Option ℕ) (one other : Known (Call T)) (log : List (Call T)) (put got : List T) → HasExchanged put [] one → HasExchanged [] got other → IsPrefix one.log log → IsPrefix other.log log
       → AreDisjoint one.own other.own → IsLegal capacity log → OwnsAllBut (λ (c : Call T). MovesNoMessage c.event) log (other.own ++ one.own) → got ≡ take (length got) put
   exchanged capacity one other log put got s r seen heard apart legal owns =
       let all = owned_covered capacity log (other.own ++ one.own) legal owns in
@@ -177,7 +177,7 @@ module _ {T : Type 0} where
       let paired : Paired (history_of log) = legal-paired capacity log legal in
       let all' : AreCovered ExchangesNothing (one.own ++ other.own) 0 log = covered-more ExchangesNothing (other.own ++ one.own) (one.own ++ other.own) 0 log (among-swap other.own one.own) all in
       let apart' : AreDisjoint other.own one.own = λ k a b. apart k b a in
-      let h : History T = history_of log in
+      let h : PairedHistory T = history_of log in
       let ss : List (T × Option ℕ) = read_at sent_in one.own 0 one.log in
       let ds : List (Demand T) = read_at asked_in other.own 0 other.log in
       let asks : read_at asked_in one.own 0 one.log ≡ [] = got_none one.log (read_at asked_in one.own 0 one.log) s.gets in

@@ -6,11 +6,11 @@ use Rattle.kanal_exchange.specs.declared.error.ExchangeError.{ExchangeError}
 use Rattle.kanal_exchange.specs.declared.error.ExchangeError.TheVariants.{Send, Receive}
 
 -- it tells no more than that somebody closed the channel
-abbrev pub is_closed : ExchangeError → Bool
-is_closed (Send SendClosed) = true
-is_closed (Receive ReceiveClosed) = true
-is_closed error = false
+abbrev pub says_closed : ExchangeError → Bool
+says_closed (Send SendClosed) = true
+says_closed (Receive ReceiveClosed) = true
+says_closed error = false
 
 -- the one of two errors that tells why: the first, if it tells more than that somebody closed the channel
 abbrev pub cause_of : ExchangeError → ExchangeError → ExchangeError
-cause_of one other = cond (is_closed one) other one
+cause_of one other = cond (says_closed one) other one

@@ -3,7 +3,7 @@ use Rattle.std.specs.Prelude.{◌≡◌, ℕ, List, [], ◌∷◌, length, map, 
 use Rattle.kanal_log.specs.Views.{Known}
 use Rattle.kanal_state.specs.declared.call.Call.{Call}
 use Rattle.kanal_one_history.specs.Puts.{Exchanges}
-use Rattle.kanal_exchange.specs.Tales.{Tells}
+use Rattle.kanal_exchange.specs.Tales.{HasExchanged}
 
 -- what one stage makes of the messages, and then another of that
 abbrev pub by_two : {A B C : Type 0} → (A → B) → (B → C) → List A → List C
@@ -20,12 +20,12 @@ module _ {A B : Type 0} where
   pub record Staged (value : A → B) (count : ℕ) (hears : Known (Call A)) (tells : Known (Call B)) : Type 0 where
     pub came : List A
     pub all : length came ≡ count
-    pub heard : Tells [] came hears
-    pub told : Tells (map value came) [] tells
+    pub heard : HasExchanged [] came hears
+    pub told : HasExchanged (map value came) [] tells
 
   -- so many messages came by this pass, and this is what the stages made of all of them
-  pub record Made (all : List A → List B) (count : ℕ) (made : List B) (hears : Known (Call A)) : Type 0 where
+  pub record StagesMade (all : List A → List B) (count : ℕ) (made : List B) (hears : Known (Call A)) : Type 0 where
     pub came : List A
     pub whole : length came ≡ count
-    pub heard : Tells [] came hears
+    pub heard : HasExchanged [] came hears
     pub is : made ≡ all came

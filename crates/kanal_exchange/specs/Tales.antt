@@ -24,7 +24,7 @@ module _ {T : Type 0} where
   cleared_in c = marks_of (cleared_by c.reply)
 
   -- the pass's own calls put these messages and got those, in this order, and cleared none
-  pub record Tells (put got : List T) (pass : Known (Call T)) : Type 0 where
+  pub record HasExchanged (put got : List T) (pass : Known (Call T)) : Type 0 where
     pub below : AreBelow (length pass.log) pass.own
     pub puts : ArePut pass.log (read_at sent_in pass.own 0 pass.log) put
     pub gets : AreGot pass.log (read_at asked_in pass.own 0 pass.log) got

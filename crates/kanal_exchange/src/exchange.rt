@@ -6,11 +6,11 @@ ghost use Rattle.std.specs.Prelude.{◌≡◌, List, [], Ok, IfOk, take, length}
 ghost use Rattle.kanal_log.specs.Logs.{table_of};
 ghost use Rattle.kanal_log.specs.Shares.{IsWhole, both, half, whole};
 ghost use Rattle.kanal_log.specs.Views.{known};
-ghost use Rattle.kanal_exchange.specs.Tales.{GetsOne, Tells};
+ghost use Rattle.kanal_exchange.specs.Tales.{GetsOne, HasExchanged};
 
 use crate::error::{Answer, ExchangeError};
 use crate::threads::both;
-use kanal_one_history::{Call, Channel, LogId, NewLog, Pass};
+use kanal_one_history::{Call, Channel, GhostPass, LogId, NewLog};
 use std::alloc::Global;
 use std::snapshot::Snapshot;
 use std::sync::Wait;
@@ -23,11 +23,11 @@ use std::thread::{Promise, Threads};
 pub(crate) fn send_all<T: Drop, J: LogId, R: Wait>(
     rt: &R,
     channel: &Channel<T, J>,
-    mut pass: Pass<T, J>,
+    mut pass: GhostPass<T, J>,
     messages: Vec<T>,
-) -> Result<Pass<T, J>, ExchangeError>
+) -> Result<GhostPass<T, J>, ExchangeError>
     requires fresh { pass.own ≡ [] }
-    ensures sent { IfOk result (λ p. Tells messages.items [] p) }
+    ensures sent { IfOk result (λ p. HasExchanged messages.items [] p) }
     ensures share { IfOk result (λ p. p.share ≡ pass.share) }
 {
     for message in messages {
@@ -43,7 +43,7 @@ pub(crate) fn send_all<T: Drop, J: LogId, R: Wait>(
 fn receive_one<T: Drop, J: LogId, R: Wait>(
     rt: &R,
     channel: &Channel<T, J>,
-    pass: &mut Pass<T, J>,
+    pass: &mut GhostPass<T, J>,
     got: &mut Vec<T>,
 ) -> Result<(), ExchangeError>
     ensures received { IfOk result (λ _. GetsOne J.capacity pass.old pass.new got.old.items got.new.items) }
@@ -62,11 +62,11 @@ pub(crate) fn receive_all<T: Drop, J: LogId, R: Wait>(
     rt: &R,
     alloc: Global,
     channel: &Channel<T, J>,
-    mut pass: Pass<T, J>,
+    mut pass: GhostPass<T, J>,
     count: usize,
-) -> Result<(Vec<T>, Pass<T, J>), ExchangeError>
+) -> Result<(Vec<T>, GhostPass<T, J>), ExchangeError>
     requires fresh { pass.own ≡ [] }
-    ensures received { IfOk result (λ r. Tells [] r.0.items r.1) }
+    ensures received { IfOk result (λ r. HasExchanged [] r.0.items r.1) }
     ensures share { IfOk result (λ r. r.1.share ≡ pass.share) }
     ensures count { IfOk result (λ r. length r.0.items ≡ count) }
 {
@@ -84,11 +84,11 @@ pub(crate) fn receive_all<T: Drop, J: LogId, R: Wait>(
 /// what the one received is what the other sent first. It makes no call.
 pub(crate) fn overseen<T: Drop, J: LogId>(
     channel: &Channel<T, J>,
-    sender: Pass<T, J>,
-    receiver: Pass<T, J>,
+    sender: GhostPass<T, J>,
+    receiver: GhostPass<T, J>,
 )
     requires all { IsWhole (both receiver.share sender.share) }
-    ensures in_order { (put got : List T) → Tells put [] sender → Tells [] got receiver
+    ensures in_order { (put got : List T) → HasExchanged put [] sender → HasExchanged [] got receiver
         → got ≡ take (length got) put }
 {
     let log = channel.log();
@@ -102,25 +102,25 @@ pub(crate) fn overseen<T: Drop, J: LogId>(
 
 /// That a thread sent these messages by this pass.
 #[derive(Drop)]
-struct Sent<T, J: LogId> {
+struct SentCall<T, J: LogId> {
     messages: Snapshot<Vec<T>>,
-    pass: Snapshot<Pass<T, J>>,
+    pass: Snapshot<GhostPass<T, J>>,
 }
 
-impl<T, J: LogId> Promise<Answer<Pass<T, J>>> for Sent<T, J> {
-    ghost kept_by = { λ p answer. IfOk answer (λ sender. Tells p.messages.value.items [] sender
+impl<T, J: LogId> Promise<Answer<GhostPass<T, J>>> for SentCall<T, J> {
+    ghost kept_by = { λ p answer. IfOk answer (λ sender. HasExchanged p.messages.value.items [] sender
         × (sender.share ≡ p.pass.value.share)) };
 }
 
 /// That a thread received so many messages by this pass.
 #[derive(Drop)]
-struct Received<T, J: LogId> {
-    pass: Snapshot<Pass<T, J>>,
+struct ReceivedCall<T, J: LogId> {
+    pass: Snapshot<GhostPass<T, J>>,
     count: usize,
 }
 
-impl<T, J: LogId> Promise<Answer<(Vec<T>, Pass<T, J>)>> for Received<T, J> {
-    ghost kept_by = { λ p answer. IfOk answer (λ r. Tells [] r.0.items r.1
+impl<T, J: LogId> Promise<Answer<(Vec<T>, GhostPass<T, J>)>> for ReceivedCall<T, J> {
+    ghost kept_by = { λ p answer. IfOk answer (λ r. HasExchanged [] r.0.items r.1
         × (r.1.share ≡ p.pass.value.share) × (length r.0.items ≡ p.count)) };
 }
 
@@ -129,9 +129,9 @@ impl<T, J: LogId> Promise<Answer<(Vec<T>, Pass<T, J>)>> for Received<T, J> {
 pub(crate) fn started_with<T: Drop, J: LogId, R: Wait>(
     rt: &R,
     channel: &Channel<T, J>,
-    mut rest: Pass<T, J>,
+    mut rest: GhostPass<T, J>,
     started: Answer<()>,
-) -> Answer<Pass<T, J>>
+) -> Answer<GhostPass<T, J>>
     ensures same { IfOk result (λ p. p ≡ rest) }
 {
     if let Err(refused) = started {
@@ -145,10 +145,10 @@ pub(crate) fn started_with<T: Drop, J: LogId, R: Wait>(
 pub(crate) fn sending<T, J, R, G, B>(
     rt: &R,
     channel: &Channel<T, J>,
-    pass: Pass<T, J>,
+    pass: GhostPass<T, J>,
     messages: Vec<T>,
     g: G,
-) -> Answer<(Pass<T, J>, B)>
+) -> Answer<(GhostPass<T, J>, B)>
 where
     T: Drop + Send,
     J: LogId + Send + Sync,
@@ -157,10 +157,10 @@ where
     B: Drop,
     requires fresh { pass.own ≡ [] }
     requires other { G.IsAlwaysCallable g }
-    ensures sent { IfOk result (λ r. Tells messages.items [] r.0 × (r.0.share ≡ pass.share)) }
+    ensures sent { IfOk result (λ r. HasExchanged messages.items [] r.0 × (r.0.share ≡ pass.share)) }
     ensures other { IfOk result (λ r. G.post g (Ok tt) (Ok r.1)) }
 {
-    let promise = Sent {
+    let promise = SentCall {
         messages: Snapshot::of(&messages),
         pass: Snapshot::of(&pass),
     };
@@ -178,10 +178,10 @@ pub(crate) fn receiving<T, J, R, G, B>(
     rt: &R,
     alloc: Global,
     channel: &Channel<T, J>,
-    pass: Pass<T, J>,
+    pass: GhostPass<T, J>,
     count: usize,
     g: G,
-) -> Answer<((Vec<T>, Pass<T, J>), B)>
+) -> Answer<((Vec<T>, GhostPass<T, J>), B)>
 where
     T: Drop + Send,
     J: LogId + Send + Sync,
@@ -190,11 +190,11 @@ where
     B: Drop,
     requires fresh { pass.own ≡ [] }
     requires other { G.IsAlwaysCallable g }
-    ensures received { IfOk result (λ r. Tells [] r.0.0.items r.0.1 × (r.0.1.share ≡ pass.share)
+    ensures received { IfOk result (λ r. HasExchanged [] r.0.0.items r.0.1 × (r.0.1.share ≡ pass.share)
         × (length r.0.0.items ≡ count)) }
     ensures other { IfOk result (λ r. G.post g (Ok tt) (Ok r.1)) }
 {
-    let promise = Received {
+    let promise = ReceivedCall {
         pass: Snapshot::of(&pass),
         count,
     };
@@ -211,7 +211,7 @@ fn between<T: Drop + Send, J: LogId + Send + Sync, R: Threads + Wait + Sync>(
     rt: &R,
     alloc: Global,
     channel: &Channel<T, J>,
-    pass: Pass<T, J>,
+    pass: GhostPass<T, J>,
     messages: Vec<T>,
 ) -> Result<Vec<T>, ExchangeError>
     requires first { pass ≡ known [] [] whole }
@@ -225,9 +225,9 @@ fn between<T: Drop + Send, J: LogId + Send + Sync, R: Threads + Wait + Sync>(
         channel,
         sends,
         messages,
-        move |started: Answer<()>| -> Answer<(Vec<T>, Pass<T, J>)>
+        move |started: Answer<()>| -> Answer<(Vec<T>, GhostPass<T, J>)>
             requires { (receives.own ≡ []) × (receives.share ≡ half whole) }
-            ensures { IfOk result (λ r. Tells [] r.0.items r.1 × (r.1.share ≡ half whole)
+            ensures { IfOk result (λ r. HasExchanged [] r.0.items r.1 × (r.1.share ≡ half whole)
                 × (length r.0.items ≡ count)) }
         {
             let receives = started_with(rt, channel, receives, started)?;
@@ -243,7 +243,7 @@ pub(crate) fn channel_of<T: Drop, J: LogId>(
     alloc: Global,
     capacity: Option<usize>,
     opened: NewLog<Call<T>>,
-) -> Result<(Channel<T, J>, Pass<T, J>), ExchangeError>
+) -> Result<(Channel<T, J>, GhostPass<T, J>), ExchangeError>
     requires name { table_of opened ≡ J.table }
     requires capacity { J.capacity ≡ capacity }
     ensures first { IfOk result (λ r. r.1 ≡ known [] [] whole) }

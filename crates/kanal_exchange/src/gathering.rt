@@ -7,11 +7,11 @@ ghost use Rattle.kanal_log.specs.Logs.{table_of};
 ghost use Rattle.kanal_log.specs.Shares.{IsWhole, both, half, whole};
 ghost use Rattle.kanal_log.specs.Views.{known};
 ghost use Rattle.kanal_exchange.specs.Merges.{IsMerge};
-ghost use Rattle.kanal_exchange.specs.Tales.{Tells};
+ghost use Rattle.kanal_exchange.specs.Tales.{HasExchanged};
 
 use crate::error::{Answer, ExchangeError};
 use crate::exchange::{channel_of, receive_all, sending, started_with};
-use kanal_one_history::{Call, Channel, LogId, NewLog, Pass};
+use kanal_one_history::{Call, Channel, GhostPass, LogId, NewLog};
 use std::alloc::Global;
 use std::sync::Wait;
 use std::thread::Threads;
@@ -20,13 +20,13 @@ use std::thread::Threads;
 /// what the one received, if it is as much as the others sent, is a merge of what they sent. It makes no call.
 fn overseen<T: Drop, J: LogId>(
     channel: &Channel<T, J>,
-    one: Pass<T, J>,
-    two: Pass<T, J>,
-    receiver: Pass<T, J>,
+    one: GhostPass<T, J>,
+    two: GhostPass<T, J>,
+    receiver: GhostPass<T, J>,
 )
     requires all { IsWhole (both receiver.share (both two.share one.share)) }
-    ensures merged { (first second got : List T) → Tells first [] one → Tells second [] two
-        → Tells [] got receiver → length got ≡ length first + length second
+    ensures merged { (first second got : List T) → HasExchanged first [] one → HasExchanged second [] two
+        → HasExchanged [] got receiver → length got ≡ length first + length second
         → IsMerge got first second }
 {
     let log = channel.log();
@@ -47,14 +47,14 @@ fn send_and_receive<T: Drop + Send, J: LogId + Send + Sync, R: Threads + Wait + 
     rt: &R,
     alloc: Global,
     channel: &Channel<T, J>,
-    sends: Pass<T, J>,
+    sends: GhostPass<T, J>,
     messages: Vec<T>,
-    receives: Pass<T, J>,
+    receives: GhostPass<T, J>,
     count: usize,
-) -> Result<(Pass<T, J>, (Vec<T>, Pass<T, J>)), ExchangeError>
+) -> Result<(GhostPass<T, J>, (Vec<T>, GhostPass<T, J>)), ExchangeError>
     requires fresh { (sends.own ≡ []) × (receives.own ≡ []) }
-    ensures sent { IfOk result (λ r. Tells messages.items [] r.0) }
-    ensures received { IfOk result (λ r. Tells [] r.1.0.items r.1.1) }
+    ensures sent { IfOk result (λ r. HasExchanged messages.items [] r.0) }
+    ensures received { IfOk result (λ r. HasExchanged [] r.1.0.items r.1.1) }
     ensures count { IfOk result (λ r. length r.1.0.items ≡ count) }
     ensures shares { IfOk result (λ r. (r.0.share ≡ sends.share) × (r.1.1.share ≡ receives.share)) }
 {
@@ -63,9 +63,9 @@ fn send_and_receive<T: Drop + Send, J: LogId + Send + Sync, R: Threads + Wait + 
         channel,
         sends,
         messages,
-        move |started: Answer<()>| -> Answer<(Vec<T>, Pass<T, J>)>
+        move |started: Answer<()>| -> Answer<(Vec<T>, GhostPass<T, J>)>
             requires { receives.own ≡ [] }
-            ensures { IfOk result (λ r. Tells [] r.0.items r.1 × (r.1.share ≡ receives.share)
+            ensures { IfOk result (λ r. HasExchanged [] r.0.items r.1 × (r.1.share ≡ receives.share)
                 × (length r.0.items ≡ count)) }
         {
             let receives = started_with(rt, channel, receives, started)?;
@@ -79,7 +79,7 @@ fn gathered_on<T: Drop + Send, J: LogId + Send + Sync, R: Threads + Wait + Sync>
     rt: &R,
     alloc: Global,
     channel: &Channel<T, J>,
-    pass: Pass<T, J>,
+    pass: GhostPass<T, J>,
     first: Vec<T>,
     second: Vec<T>,
 ) -> Result<Vec<T>, ExchangeError>
@@ -97,11 +97,11 @@ fn gathered_on<T: Drop + Send, J: LogId + Send + Sync, R: Threads + Wait + Sync>
         channel,
         one,
         first,
-        move |started: Answer<()>| -> Answer<(Pass<T, J>, (Vec<T>, Pass<T, J>))>
+        move |started: Answer<()>| -> Answer<(GhostPass<T, J>, (Vec<T>, GhostPass<T, J>))>
             requires { (two.share ≡ half (half whole)) × (two.own ≡ [])
                 × (other.share ≡ half (half whole)) × (other.own ≡ []) }
-            ensures { IfOk result (λ r. Tells second.items [] r.0 × (r.0.share ≡ half (half whole))
-                × Tells [] r.1.0.items r.1.1 × (r.1.1.share ≡ half (half whole))
+            ensures { IfOk result (λ r. HasExchanged second.items [] r.0 × (r.0.share ≡ half (half whole))
+                × HasExchanged [] r.1.0.items r.1.1 × (r.1.1.share ≡ half (half whole))
                 × (length r.1.0.items ≡ count)) }
         {
             let other = started_with(rt, channel, other, started)?;

@@ -6,13 +6,13 @@ ghost use Rattle.std.specs.Prelude.{◌≡◌, [], Ok, IfOk, IfSome, map};
 ghost use Rattle.kanal_log.specs.Logs.{table_of};
 ghost use Rattle.kanal_log.specs.Shares.{half, whole};
 ghost use Rattle.kanal_log.specs.Views.{known};
-ghost use Rattle.kanal_exchange.specs.Stages.{Handed, Made, Staged, by_two};
-ghost use Rattle.kanal_exchange.specs.Tales.{Tells};
+ghost use Rattle.kanal_exchange.specs.Stages.{Handed, StagesMade, Staged, by_two};
+ghost use Rattle.kanal_exchange.specs.Tales.{HasExchanged};
 
 use crate::error::{Answer, ExchangeError};
 use crate::exchange::{channel_of, overseen, receiving, sending, started_with};
 use crate::threads::both;
-use kanal_one_history::{Call, Channel, LogId, NewLog, Pass};
+use kanal_one_history::{Call, Channel, GhostPass, LogId, NewLog};
 use std::alloc::Global;
 use std::snapshot::Snapshot;
 use std::sync::Wait;
@@ -55,9 +55,9 @@ fn hand_on<S: Stage, J: LogId, K: LogId, R: Wait>(
     rt: &R,
     stage: &S,
     before: &Channel<S::Input, J>,
-    hears: &mut Pass<S::Input, J>,
+    hears: &mut GhostPass<S::Input, J>,
     behind: &Channel<S::Output, K>,
-    tells: &mut Pass<S::Output, K>,
+    tells: &mut GhostPass<S::Output, K>,
 ) -> Result<(), ExchangeError>
     ensures handed { IfOk result (λ _. Handed J.capacity K.capacity (S.value stage.now)
         hears.old hears.new tells.old tells.new) }
@@ -77,12 +77,12 @@ fn hand_on_all<S: Stage, J: LogId, K: LogId, R: Wait>(
     rt: &R,
     stage: &S,
     before: &Channel<S::Input, J>,
-    hears: Pass<S::Input, J>,
+    hears: GhostPass<S::Input, J>,
     behind: &Channel<S::Output, K>,
-    mut tells: Pass<S::Output, K>,
+    mut tells: GhostPass<S::Output, K>,
     count: usize,
     started: Answer<()>,
-) -> Result<(Pass<S::Input, J>, Pass<S::Output, K>), ExchangeError>
+) -> Result<(GhostPass<S::Input, J>, GhostPass<S::Output, K>), ExchangeError>
     requires fresh { (hears.own ≡ []) × (tells.own ≡ []) }
     ensures staged { IfOk result (λ r. Staged (S.value stage.now) count r.0 r.1) }
     ensures shares { IfOk result (λ r. (r.0.share ≡ hears.share) × (r.1.share ≡ tells.share)) }
@@ -104,11 +104,11 @@ fn receive_by_stage<S, J, K, R>(
     alloc: Global,
     stage: &S,
     before: &Channel<S::Input, J>,
-    hears: Pass<S::Input, J>,
+    hears: GhostPass<S::Input, J>,
     behind: &Channel<S::Output, K>,
-    first: Pass<S::Output, K>,
+    first: GhostPass<S::Output, K>,
     count: usize,
-) -> Result<(Vec<S::Output>, Pass<S::Input, J>), ExchangeError>
+) -> Result<(Vec<S::Output>, GhostPass<S::Input, J>), ExchangeError>
 where
     S: Stage + Sync,
     J: LogId + Send + Sync,
@@ -116,13 +116,15 @@ where
     R: Threads + Wait + Sync,
     requires fresh { hears.own ≡ [] }
     requires first { first ≡ known [] [] whole }
-    ensures made { IfOk result (λ r. Made (λ messages. map (S.value stage.now) messages) count
+    ensures made { IfOk result (λ r. StagesMade (λ messages. map (S.value stage.now) messages) count
         r.0.items r.1) }
     ensures share { IfOk result (λ r. r.1.share ≡ hears.share) }
 {
     let mut tells = first;
     let reads = tells.again(behind.log());
-    let hand_on = move |started: Answer<()>| -> Answer<(Pass<S::Input, J>, Pass<S::Output, K>)>
+    let hand_on = move |started: Answer<()>| -> Answer<
+        (GhostPass<S::Input, J>, GhostPass<S::Output, K>),
+    >
         requires { (hears.own ≡ []) × (tells ≡ known [] [] (half whole)) }
         ensures { IfOk result (λ r. Staged (S.value stage.entry.now) count r.0 r.1
             × (r.0.share ≡ hears.share) × (r.1.share ≡ half whole)) }
@@ -139,9 +141,9 @@ fn mapped_on<S, J, K, R>(
     alloc: Global,
     stage: &S,
     before: &Channel<S::Input, J>,
-    pass: Pass<S::Input, J>,
+    pass: GhostPass<S::Input, J>,
     behind: &Channel<S::Output, K>,
-    first: Pass<S::Output, K>,
+    first: GhostPass<S::Output, K>,
     messages: Vec<S::Input>,
 ) -> Result<Vec<S::Output>, ExchangeError>
 where
@@ -156,9 +158,9 @@ where
     let mut sends = pass;
     let hears = sends.again(before.log());
     let count = messages.len();
-    let receive = move |started: Answer<()>| -> Answer<(Vec<S::Output>, Pass<S::Input, J>)>
+    let receive = move |started: Answer<()>| -> Answer<(Vec<S::Output>, GhostPass<S::Input, J>)>
         requires { (hears ≡ known [] [] (half whole)) × (first ≡ known [] [] whole) }
-        ensures { IfOk result (λ r. Made (λ messages. map (S.value stage.entry.now) messages)
+        ensures { IfOk result (λ r. StagesMade (λ messages. map (S.value stage.entry.now) messages)
             count r.0.items r.1 × (r.1.share ≡ half whole)) }
     {
         let hears = started_with(rt, before, hears, started)?;
@@ -217,12 +219,13 @@ where
 #[derive(Drop)]
 struct Staging<S: Stage, J: LogId> {
     stage: Snapshot<S>,
-    pass: Snapshot<Pass<S::Input, J>>,
+    pass: Snapshot<GhostPass<S::Input, J>>,
     count: usize,
 }
 
-impl<S: Stage, J: LogId> Promise<Answer<(Vec<S::Output>, Pass<S::Input, J>)>> for Staging<S, J> {
-    ghost kept_by = { λ p answer. IfOk answer (λ r. Made (λ messages. map (S.value p.stage.value) messages) p.count
+impl<S: Stage, J: LogId> Promise<Answer<(Vec<S::Output>, GhostPass<S::Input, J>)>>
+    for Staging<S, J> {
+    ghost kept_by = { λ p answer. IfOk answer (λ r. StagesMade (λ messages. map (S.value p.stage.value) messages) p.count
         r.0.items r.1 × (r.1.share ≡ p.pass.value.share)) };
 }
 
@@ -233,12 +236,12 @@ fn receiving_by_stage<S, J, K, R, G, B>(
     alloc: Global,
     stage: &S,
     before: &Channel<S::Input, J>,
-    hears: Pass<S::Input, J>,
+    hears: GhostPass<S::Input, J>,
     behind: &Channel<S::Output, K>,
-    first: Pass<S::Output, K>,
+    first: GhostPass<S::Output, K>,
     count: usize,
     g: G,
-) -> Answer<((Vec<S::Output>, Pass<S::Input, J>), B)>
+) -> Answer<((Vec<S::Output>, GhostPass<S::Input, J>), B)>
 where
     S: Stage + Sync,
     J: LogId + Send + Sync,
@@ -248,7 +251,7 @@ where
     B: Drop,
     requires first { (hears.own ≡ []) × (first ≡ known [] [] whole) }
     requires other { G.IsAlwaysCallable g }
-    ensures made { IfOk result (λ r. Made (λ messages. map (S.value stage.now) messages) count
+    ensures made { IfOk result (λ r. StagesMade (λ messages. map (S.value stage.now) messages) count
         r.0.0.items r.0.1 × (r.0.1.share ≡ hears.share)) }
     ensures other { IfOk result (λ r. G.post g (Ok tt) (Ok r.1)) }
 {
@@ -257,9 +260,9 @@ where
         pass: Snapshot::of(&hears),
         count,
     };
-    let receive = move || -> Answer<(Vec<S::Output>, Pass<S::Input, J>)>
+    let receive = move || -> Answer<(Vec<S::Output>, GhostPass<S::Input, J>)>
         requires { (hears.own ≡ []) × (first ≡ known [] [] whole) }
-        ensures { IfOk result (λ r. Made (λ messages. map (S.value stage.entry.now) messages) count
+        ensures { IfOk result (λ r. StagesMade (λ messages. map (S.value stage.entry.now) messages) count
             r.0.items r.1 × (r.1.share ≡ hears.share)) }
     { receive_by_stage(rt, alloc, stage, before, hears, behind, first, count) };
     both(rt, promise, receive, g)
@@ -272,13 +275,13 @@ fn receive_by_two<S, U, J, K, L, R>(
     stage: &S,
     after: &U,
     before: &Channel<S::Input, J>,
-    hears: Pass<S::Input, J>,
+    hears: GhostPass<S::Input, J>,
     between: &Channel<S::Output, K>,
-    first: Pass<S::Output, K>,
+    first: GhostPass<S::Output, K>,
     behind: &Channel<U::Output, L>,
-    second: Pass<U::Output, L>,
+    second: GhostPass<U::Output, L>,
     count: usize,
-) -> Result<(Vec<U::Output>, Pass<S::Input, J>), ExchangeError>
+) -> Result<(Vec<U::Output>, GhostPass<S::Input, J>), ExchangeError>
 where
     S: Stage + Sync,
     U: Stage<Input = S::Output> + Sync,
@@ -288,12 +291,14 @@ where
     R: Threads + Wait + Sync,
     requires fresh { hears.own ≡ [] }
     requires first { (first ≡ known [] [] whole) × (second ≡ known [] [] whole) }
-    ensures made { IfOk result (λ r. Made (by_two (S.value stage.now) (U.value after.now)) count r.0.items r.1) }
+    ensures made { IfOk result (λ r. StagesMade (by_two (S.value stage.now) (U.value after.now)) count r.0.items r.1) }
     ensures share { IfOk result (λ r. r.1.share ≡ hears.share) }
 {
     let mut tells = first;
     let reads = tells.again(between.log());
-    let hand_on = move |started: Answer<()>| -> Answer<(Pass<S::Input, J>, Pass<S::Output, K>)>
+    let hand_on = move |started: Answer<()>| -> Answer<
+        (GhostPass<S::Input, J>, GhostPass<S::Output, K>),
+    >
         requires { (hears.own ≡ []) × (tells ≡ known [] [] (half whole)) }
         ensures { IfOk result (λ r. Staged (S.value stage.entry.now) count r.0 r.1
             × (r.0.share ≡ hears.share) × (r.1.share ≡ half whole)) }
@@ -313,11 +318,11 @@ fn mapped_by_two_on<S, U, J, K, L, R>(
     stage: &S,
     after: &U,
     before: &Channel<S::Input, J>,
-    pass: Pass<S::Input, J>,
+    pass: GhostPass<S::Input, J>,
     between: &Channel<S::Output, K>,
-    first: Pass<S::Output, K>,
+    first: GhostPass<S::Output, K>,
     behind: &Channel<U::Output, L>,
-    second: Pass<U::Output, L>,
+    second: GhostPass<U::Output, L>,
     messages: Vec<S::Input>,
 ) -> Result<Vec<U::Output>, ExchangeError>
 where
@@ -333,9 +338,9 @@ where
     let mut sends = pass;
     let hears = sends.again(before.log());
     let count = messages.len();
-    let receive = move |started: Answer<()>| -> Answer<(Vec<U::Output>, Pass<S::Input, J>)>
+    let receive = move |started: Answer<()>| -> Answer<(Vec<U::Output>, GhostPass<S::Input, J>)>
         requires { (hears ≡ known [] [] (half whole)) × (first ≡ known [] [] whole) × (second ≡ known [] [] whole) }
-        ensures { IfOk result (λ r. Made (by_two (S.value stage.entry.now) (U.value after.entry.now)) count
+        ensures { IfOk result (λ r. StagesMade (by_two (S.value stage.entry.now) (U.value after.entry.now)) count
             r.0.items r.1 × (r.1.share ≡ half whole)) }
     {
         let hears = started_with(rt, before, hears, started)?;

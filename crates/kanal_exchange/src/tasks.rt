@@ -7,13 +7,13 @@ ghost use Rattle.kanal_log.specs.Logs.{table_of};
 ghost use Rattle.kanal_log.specs.Shares.{both, half, whole};
 ghost use Rattle.kanal_log.specs.Views.{known};
 ghost use Rattle.kanal_one_history.specs.Puts.{Exchanges};
-ghost use Rattle.kanal_exchange.specs.Tales.{Tells};
+ghost use Rattle.kanal_exchange.specs.Tales.{HasExchanged};
 
 use crate::error::{Answer, ExchangeError};
 use crate::exchange::{channel_of, overseen, receiving, sending, started_with};
 use futures::executor::block_on;
 use kanal_futures::{recv_in_task, send_in_task};
-use kanal_one_history::{Call, Channel, LogId, NewLog, Pass};
+use kanal_one_history::{Call, Channel, GhostPass, LogId, NewLog};
 use std::alloc::{AllocGlobal, Global};
 use std::random::RandomSource;
 use std::sync::Wait;
@@ -23,9 +23,9 @@ use std::thread::Threads;
 fn send_one<T: Drop, J: LogId, R: Wait + RandomSource + AllocGlobal>(
     rt: &R,
     channel: &Channel<T, J>,
-    pass: Pass<T, J>,
+    pass: GhostPass<T, J>,
     message: T,
-) -> Result<Pass<T, J>, ExchangeError>
+) -> Result<GhostPass<T, J>, ExchangeError>
     ensures put { IfOk result (λ p. Exchanges J.capacity pass p (message ∷ []) []) }
 {
     match block_on(rt, send_in_task(channel, pass, message)) {
@@ -43,8 +43,8 @@ fn send_one<T: Drop, J: LogId, R: Wait + RandomSource + AllocGlobal>(
 fn receive_one<T: Drop, J: LogId, R: Wait + RandomSource + AllocGlobal>(
     rt: &R,
     channel: &Channel<T, J>,
-    pass: Pass<T, J>,
-) -> Result<(T, Pass<T, J>), ExchangeError>
+    pass: GhostPass<T, J>,
+) -> Result<(T, GhostPass<T, J>), ExchangeError>
     ensures got { IfOk result (λ r. Exchanges J.capacity pass r.1 [] (r.0 ∷ [])) }
 {
     match block_on(rt, recv_in_task(channel, pass)) {
@@ -61,11 +61,11 @@ fn receive_one<T: Drop, J: LogId, R: Wait + RandomSource + AllocGlobal>(
 fn send_each<T: Drop, J: LogId, R: Wait + RandomSource + AllocGlobal>(
     rt: &R,
     channel: &Channel<T, J>,
-    mut pass: Pass<T, J>,
+    mut pass: GhostPass<T, J>,
     messages: Vec<T>,
-) -> Result<Pass<T, J>, ExchangeError>
+) -> Result<GhostPass<T, J>, ExchangeError>
     requires fresh { pass.own ≡ [] }
-    ensures sent { IfOk result (λ p. Tells messages.items [] p) }
+    ensures sent { IfOk result (λ p. HasExchanged messages.items [] p) }
     ensures share { IfOk result (λ p. p.share ≡ pass.share) }
 {
     for message in messages {
@@ -79,11 +79,11 @@ fn receive_each<T: Drop, J: LogId, R: Wait + RandomSource + AllocGlobal>(
     rt: &R,
     alloc: Global,
     channel: &Channel<T, J>,
-    mut pass: Pass<T, J>,
+    mut pass: GhostPass<T, J>,
     count: usize,
-) -> Result<(Vec<T>, Pass<T, J>), ExchangeError>
+) -> Result<(Vec<T>, GhostPass<T, J>), ExchangeError>
     requires fresh { pass.own ≡ [] }
-    ensures received { IfOk result (λ r. Tells [] r.0.items r.1) }
+    ensures received { IfOk result (λ r. HasExchanged [] r.0.items r.1) }
     ensures share { IfOk result (λ r. r.1.share ≡ pass.share) }
     ensures count { IfOk result (λ r. length r.0.items ≡ count) }
 {
@@ -100,11 +100,11 @@ fn receive_each<T: Drop, J: LogId, R: Wait + RandomSource + AllocGlobal>(
 fn send_all_in_task<T: Drop, J: LogId, R: Wait + RandomSource + AllocGlobal>(
     rt: &R,
     channel: &Channel<T, J>,
-    pass: Pass<T, J>,
+    pass: GhostPass<T, J>,
     messages: Vec<T>,
-) -> Result<Pass<T, J>, ExchangeError>
+) -> Result<GhostPass<T, J>, ExchangeError>
     requires fresh { pass.own ≡ [] }
-    ensures sent { IfOk result (λ p. Tells messages.items [] p) }
+    ensures sent { IfOk result (λ p. HasExchanged messages.items [] p) }
     ensures share { IfOk result (λ p. p.share ≡ both (half pass.share) (half pass.share)) }
 {
     let mut pass = pass;
@@ -128,11 +128,11 @@ fn receive_all_in_task<T: Drop, J: LogId, R: Wait + RandomSource + AllocGlobal>(
     rt: &R,
     alloc: Global,
     channel: &Channel<T, J>,
-    pass: Pass<T, J>,
+    pass: GhostPass<T, J>,
     count: usize,
-) -> Result<(Vec<T>, Pass<T, J>), ExchangeError>
+) -> Result<(Vec<T>, GhostPass<T, J>), ExchangeError>
     requires fresh { pass.own ≡ [] }
-    ensures received { IfOk result (λ r. Tells [] r.0.items r.1) }
+    ensures received { IfOk result (λ r. HasExchanged [] r.0.items r.1) }
     ensures share { IfOk result (λ r. r.1.share ≡ both (half pass.share) (half pass.share)) }
     ensures count { IfOk result (λ r. length r.0.items ≡ count) }
 {
@@ -156,7 +156,7 @@ fn to_task<T, J, R>(
     rt: &R,
     alloc: Global,
     channel: &Channel<T, J>,
-    pass: Pass<T, J>,
+    pass: GhostPass<T, J>,
     messages: Vec<T>,
 ) -> Result<Vec<T>, ExchangeError>
 where
@@ -174,9 +174,9 @@ where
         channel,
         sends,
         messages,
-        move |started: Answer<()>| -> Answer<(Vec<T>, Pass<T, J>)>
+        move |started: Answer<()>| -> Answer<(Vec<T>, GhostPass<T, J>)>
             requires { (receives.own ≡ []) × (receives.share ≡ half whole) }
-            ensures { IfOk result (λ r. Tells [] r.0.items r.1
+            ensures { IfOk result (λ r. HasExchanged [] r.0.items r.1
                 × (r.1.share ≡ both (half (half whole)) (half (half whole)))
                 × (length r.0.items ≡ count)) }
         {
@@ -193,7 +193,7 @@ fn from_task<T, J, R>(
     rt: &R,
     alloc: Global,
     channel: &Channel<T, J>,
-    pass: Pass<T, J>,
+    pass: GhostPass<T, J>,
     messages: Vec<T>,
 ) -> Result<Vec<T>, ExchangeError>
 where
@@ -212,9 +212,9 @@ where
         channel,
         receives,
         count,
-        move |started: Answer<()>| -> Answer<Pass<T, J>>
+        move |started: Answer<()>| -> Answer<GhostPass<T, J>>
             requires { (sends.own ≡ []) × (sends.share ≡ half whole) }
-            ensures { IfOk result (λ p. Tells messages.items [] p
+            ensures { IfOk result (λ p. HasExchanged messages.items [] p
                 × (p.share ≡ both (half (half whole)) (half (half whole)))) }
         {
             let sends = started_with(rt, channel, sends, started)?;

@@ -15,9 +15,9 @@ use std::thread::Threads;
 const FEW: u64 = 12;
 
 /// Hands on each message as it is.
-struct Kept;
+struct AsItIs;
 
-impl Stage for Kept {
+impl Stage for AsItIs {
     type Input = Counted;
 
     type Output = Counted;
@@ -92,14 +92,14 @@ where
     let answer = gather(rt, alloc, capacity, first, second);
     let merge = tell(rt, "gathered", &drops, FEW.wrapping_mul(2), answer)?;
     let drops = Drops::new(alloc)?;
-    let answer = map_by(rt, alloc, &Kept, capacity, counted(alloc, &drops, FEW)?);
+    let answer = map_by(rt, alloc, &AsItIs, capacity, counted(alloc, &drops, FEW)?);
     let one = tell(rt, "mapped", &drops, FEW, answer)?;
     let drops = Drops::new(alloc)?;
     let answer = map_by_two(
         rt,
         alloc,
-        &Kept,
-        &Kept,
+        &AsItIs,
+        &AsItIs,
         capacity,
         counted(alloc, &drops, FEW)?,
     );

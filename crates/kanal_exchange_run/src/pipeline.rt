@@ -10,7 +10,7 @@ mod words;
 
 use crate::calls::map_by_two;
 use anyhow::Result;
-use slow::{Slow, Waiting};
+use slow::{Backlog, Slow};
 use std::alloc::AllocGlobal;
 use std::io::{BufRead, BufReader, Input};
 use std::sync::Wait;
@@ -31,7 +31,7 @@ where
     for line in input.lines(rt.alloc()) {
         lines.push(line?)?;
     }
-    let waiting = Waiting::new();
+    let waiting = Backlog::new();
     let counting = Words { waiting: &waiting };
     let slow = Slow {
         rt,

@@ -8,8 +8,8 @@ use Rattle.kanal_futures.specs.declared.progress.PollRest.TheVariants.{Held, Ref
 use Rattle.kanal_futures.specs.declared.wakers.Wakers.{Wakers}
 
 -- the pass as it was, and what was asked
-abbrev pub opened : {P M : Type 0} → GhostStart P M → P × M
-opened opening = (opening.pass.value, opening.asked.value)
+abbrev pub started_with : {P M : Type 0} → GhostStart P M → P × M
+started_with opening = (opening.pass.value, opening.asked.value)
 
 -- what the pass was at first
 abbrev pub passes : {P M : Type 0} → Option (P × M) → Option P

@@ -4,20 +4,20 @@
 ghost use Rattle.std.specs.Prelude.{◌≡◌};
 ghost use Rattle.kanal_futures.specs.Answers.{Answers};
 
-use crate::operation::{Asks, GhostStart};
+use crate::operation::{GhostStart, Operation};
 use kanal_state::History;
 use std::marker::Model;
 
 /// What a call in a task came to: the answer, and the pass. Contracts see what the pass was at first, what was
 /// asked, the pass, and the answer.
 #[derive(Drop)]
-pub struct TaskAnswer<T, H: History<T>, M, A: Asks<T, M>> {
+pub struct TaskAnswer<T, H: History<T>, M, A: Operation<T, M>> {
     opening: GhostStart<H::Pass, M>,
     pass: H::Pass,
     answer: A::Answer,
 }
 
-impl<T, H: History<T>, M, A: Asks<T, M>> Model for TaskAnswer<T, H, M, A> {
+impl<T, H: History<T>, M, A: Operation<T, M>> Model for TaskAnswer<T, H, M, A> {
     ghost use Rattle.kanal_futures.specs.Answers.{Answers};
 
     ghost Value = { H.Pass × M × H.Pass × A.Answer };
@@ -28,7 +28,7 @@ impl<T, H: History<T>, M, A: Asks<T, M>> Model for TaskAnswer<T, H, M, A> {
         a.opening.pass.value a.pass a.answer };
 }
 
-impl<T: Drop, H: History<T>, M: Drop, A: Asks<T, M>> TaskAnswer<T, H, M, A> {
+impl<T: Drop, H: History<T>, M: Drop, A: Operation<T, M>> TaskAnswer<T, H, M, A> {
     /// An answer, with the pass and what it was at first.
     pub(crate) fn new(opening: GhostStart<H::Pass, M>, pass: H::Pass, answer: A::Answer) -> Self
         requires made { Answers H.relations (A.event opening.asked.value) A.read A.ended

@@ -9,7 +9,7 @@ ghost use Rattle.kanal_futures.specs.Tasks.{RestMatches, begun_with, is_fresh, p
 ghost use Rattle.kanal_futures.specs.Futures.{IsPoll, IsPolled, call_begun, call_kept, call_source, call_waits};
 
 use crate::answer::TaskAnswer;
-use crate::operation::{Asks, GhostStart};
+use crate::operation::{GhostStart, Operation};
 use crate::progress::{PollRest, Progress};
 use crate::started::Started;
 use crate::wakers::Wakers;
@@ -20,14 +20,14 @@ use kanal_channel::{Locked, Shared};
 use kanal_state::History;
 
 /// A call in a task, by the pass that it carries. `Sending` and `Receiving` say what a poll and a drop do.
-pub struct TaskCall<'a, T, H: History<T>, M, A: Asks<T, M>> {
+pub struct TaskCall<'a, T, H: History<T>, M, A: Operation<T, M>> {
     shared: &'a Shared<T, H>,
     state: Progress<T, H, M, A>,
     wakers: Wakers,
     pauses: PollBackoff,
 }
 
-impl<T: Drop, H: History<T>, M: Drop, A: Asks<T, M>> Drop for TaskCall<'_, T, H, M, A> {
+impl<T: Drop, H: History<T>, M: Drop, A: Operation<T, M>> Drop for TaskCall<'_, T, H, M, A> {
     fn drop(self) {
         let TaskCall {
             shared,
@@ -44,7 +44,7 @@ impl<T: Drop, H: History<T>, M: Drop, A: Asks<T, M>> Drop for TaskCall<'_, T, H,
     }
 }
 
-impl<'a, T: Drop, H: History<T>, M: Drop, A: Asks<T, M>> TaskCall<'a, T, H, M, A> {
+impl<'a, T: Drop, H: History<T>, M: Drop, A: Operation<T, M>> TaskCall<'a, T, H, M, A> {
     /// A call that asks this by this pass. It does nothing before its first poll.
     pub(crate) fn new(shared: &'a Shared<T, H>, pass: H::Pass, asked: M) -> Self
         ensures fresh { call_begun result ≡ Some (pass, asked) }
@@ -126,14 +126,14 @@ impl<'a, T: Drop, H: History<T>, M: Drop, A: Asks<T, M>> TaskCall<'a, T, H, M, A
         let Some(mut locked) = self.shared.try_lock_raw() else {
             return Err(PollRest::Refused(pass, asked));
         };
-        if !self.shared.is_quiet() {
+        if !self.shared.has_no_notices() {
             return Err(PollRest::Held(locked, pass, asked));
         }
         let opening = GhostStart::of(&pass, &asked);
         let mut pass = pass;
         match A::make_fast(&mut locked, self.shared.log(), &mut pass, asked) {
             Ok(answer) => {
-                locked.unlock_quiet();
+                locked.unlock_and_drain();
                 Ok(TaskAnswer::new(opening, pass, answer))
             },
             Err(asked) => Err(PollRest::Held(locked, pass, asked)),
@@ -172,7 +172,7 @@ impl<'a, T: Drop, H: History<T>, M: Drop, A: Asks<T, M>> TaskCall<'a, T, H, M, A
         requires over { call_begun self.old ≡ None }
         ensures polled { IsPolled (pass, asked) cx.old cx.new self.old self.new result }
     {
-        if self.shared.is_quiet() {
+        if self.shared.has_no_notices() {
             return self.begin_held(locked, pass, asked, cx);
         }
         self.begin_noticed(locked, pass, asked, cx)
@@ -291,7 +291,7 @@ impl<'a, T: Drop, H: History<T>, M: Drop, A: Asks<T, M>> TaskCall<'a, T, H, M, A
     }
 }
 
-impl<T: Drop, H: History<T>, M: Drop, A: Asks<T, M>> Future for TaskCall<'_, T, H, M, A> {
+impl<T: Drop, H: History<T>, M: Drop, A: Operation<T, M>> Future for TaskCall<'_, T, H, M, A> {
     type Output = Option<TaskAnswer<T, H, M, A>>;
 
     ghost use Rattle.std.specs.Prelude.{MatchOption};

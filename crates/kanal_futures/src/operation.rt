@@ -1,6 +1,6 @@
 //! What a task asks of a channel: to send a message, or to receive one.
 //!
-//! All that differs between the two is said by `Asks`: a call is begun, waited for, left and answered once for both.
+//! All that differs between the two is in `Operation`: beginning, waiting, leaving and answering are written once.
 ghost use Rattle.std.specs.Prelude.{◌≡◌, true, IfErr, IfOk};
 ghost use Rattle.kanal_core.specs.declared.internal.outcome.Outcome.{Outcome};
 ghost use Rattle.kanal_events.specs.declared.event.Event.{Event};
@@ -15,7 +15,7 @@ use kanal_events::event::{Event, Reply};
 use kanal_state::History;
 
 /// What is asked with a message, or with none, and what it is answered.
-pub trait Asks<T, M> {
+pub trait Operation<T, M> {
     /// What it is answered.
     type Answer;
 

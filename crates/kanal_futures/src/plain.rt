@@ -8,12 +8,12 @@ ghost use Rattle.futures.specs.Task.{Covers, Keeps};
 ghost use Rattle.futures.specs.Poll.{IfReady, OnPending};
 ghost use Rattle.kanal_futures.specs.Answers.{Answers};
 ghost use Rattle.kanal_futures.specs.Futures.{call_begun};
-ghost use Rattle.kanal_futures.specs.Plain.{HasAnswered, call_of, future_source, is_over, left_of};
+ghost use Rattle.kanal_futures.specs.Plain.{HasAnswered, asked_call, future_source, is_over, answered_pass};
 ghost use Rattle.kanal_futures.specs.Tasks.{RestMatches, begun_with};
 
 use crate::answer::TaskAnswer;
 use crate::call::TaskCall;
-use crate::operation::Asks;
+use crate::operation::Operation;
 use crate::progress::PollRest;
 use futures::Future;
 use futures::task::{Context, Poll};
@@ -23,14 +23,14 @@ use kanal_state::History;
 /// A call in a task that answers without its pass. `SendFuture` and `ReceiveFuture` say what a poll and a drop
 /// do.
 #[derive(Drop)]
-pub struct PlainFuture<'a, T, H: History<T>, M, A: Asks<T, M>> {
+pub struct PlainFuture<'a, T, H: History<T>, M, A: Operation<T, M>> {
     call: TaskCall<'a, T, H, M, A>,
 }
 
-impl<'a, T: Drop, H: History<T>, M: Drop, A: Asks<T, M>> PlainFuture<'a, T, H, M, A> {
+impl<'a, T: Drop, H: History<T>, M: Drop, A: Operation<T, M>> PlainFuture<'a, T, H, M, A> {
     /// A call that asks this by this pass. It does nothing before its first poll.
     pub(crate) fn new(shared: &'a Shared<T, H>, pass: H::Pass, asked: M) -> Self
-        ensures fresh { call_of result ≡ Some (pass, asked) }
+        ensures fresh { asked_call result ≡ Some (pass, asked) }
     {
         PlainFuture {
             call: TaskCall::new(shared, pass, asked),
@@ -42,7 +42,7 @@ impl<'a, T: Drop, H: History<T>, M: Drop, A: Asks<T, M>> PlainFuture<'a, T, H, M
     fn store_pass(&mut self, answered: TaskAnswer<T, H, M, A>) -> A::Answer
         requires over { is_over self.old ≡ true }
         ensures made { Answers H.relations (A.event answered.1) A.read A.ended answered.0 answered.2 result }
-        ensures pending { left_of self.new ≡ Some answered.2 }
+        ensures pending { answered_pass self.new ≡ Some answered.2 }
         ensures ends { is_over self.new ≡ true }
         ensures source { future_source self.new ≡ future_source self.old }
     {
@@ -56,12 +56,12 @@ impl<'a, T: Drop, H: History<T>, M: Drop, A: Asks<T, M>> PlainFuture<'a, T, H, M
     fn poll_slow(&mut self, rest: PollRest<'a, T, H, M>, cx: &mut Context<'_>) -> Poll<A::Answer>
         requires fits { RestMatches rest self.old.call.state }
         ensures made { IfReady result (λ r. IfSome (begun_with rest.entry self.old.call.state) (λ begun.
-            HasAnswered (left_of self.new) (λ new.
+            HasAnswered (answered_pass self.new) (λ new.
             Answers H.relations (A.event begun.1) A.read A.ended begun.0 new r))) }
-        ensures stays { OnPending result (call_of self.new ≡ begun_with rest.entry self.old.call.state) }
+        ensures stays { OnPending result (asked_call self.new ≡ begun_with rest.entry self.old.call.state) }
         ensures over { is_none (begun_with rest.entry self.old.call.state) ≡ true
             → (result ≡ Poll.Ready A.finished)
-            × (is_over self.new ≡ true) × (left_of self.new ≡ left_of self.old) }
+            × (is_over self.new ≡ true) × (answered_pass self.new ≡ answered_pass self.old) }
         ensures ends { IfReady result (λ _. is_over self.new ≡ true) }
         ensures goes_on { OnPending result (is_over self.new ≡ false) }
         ensures registered { OnPending result (Covers cx.new (λ s. s ≡ future_source self.new)) }
@@ -75,7 +75,7 @@ impl<'a, T: Drop, H: History<T>, M: Drop, A: Asks<T, M>> PlainFuture<'a, T, H, M
     }
 }
 
-impl<T: Drop, H: History<T>, M: Drop, A: Asks<T, M>> Future for PlainFuture<'_, T, H, M, A> {
+impl<T: Drop, H: History<T>, M: Drop, A: Operation<T, M>> Future for PlainFuture<'_, T, H, M, A> {
     type Output = A::Answer;
 
     ghost needs = { λ f s. s ≡ future_source f };
@@ -97,12 +97,12 @@ impl<T: Drop, H: History<T>, M: Drop, A: Asks<T, M>> Future for PlainFuture<'_, 
         ensures same { OnPending result ((x : A.Answer) → ⊤ → ⊤) }
         ensures registered { OnPending result (Covers cx.new (λ s. s ≡ future_source self.new)) }
         ensures kept { Keeps cx.old cx.new }
-        ensures made { IfReady result (λ r. IfSome (call_of self.old) (λ call.
-            HasAnswered (left_of self.new) (λ new.
+        ensures made { IfReady result (λ r. IfSome (asked_call self.old) (λ call.
+            HasAnswered (answered_pass self.new) (λ new.
             Answers H.relations (A.event call.1) A.read A.ended call.0 new r))) }
-        ensures stays { OnPending result (call_of self.new ≡ call_of self.old) }
+        ensures stays { OnPending result (asked_call self.new ≡ asked_call self.old) }
         ensures over { is_over self.old ≡ true → (result ≡ Poll.Ready A.finished)
-            × (is_over self.new ≡ true) × (left_of self.new ≡ left_of self.old) }
+            × (is_over self.new ≡ true) × (answered_pass self.new ≡ answered_pass self.old) }
         ensures ends { IfReady result (λ _. is_over self.new ≡ true) }
         ensures goes_on { OnPending result (is_over self.new ≡ false) }
     {

@@ -5,14 +5,14 @@
 ghost use Rattle.std.specs.Prelude.{◌≡◌, false, true, IfNone, IfSome, IsSome, Some, None};
 ghost use Rattle.kanal_futures.specs.Tasks.{answered_by, begun_by, is_fresh, is_waiting, passes};
 
-use crate::operation::Asks;
+use crate::operation::Operation;
 use crate::started::Started;
 use kanal_channel::{Locked, Shared};
 use kanal_state::History;
 use std::mem;
 
 /// Where a call in a task is.
-pub(crate) enum Progress<T, H: History<T>, M, A: Asks<T, M>> {
+pub(crate) enum Progress<T, H: History<T>, M, A: Operation<T, M>> {
     /// It made no call yet.
     Zero(H::Pass, M),
     /// It waits.
@@ -31,7 +31,7 @@ pub(crate) enum PollRest<'a, T, H: History<T>, M> {
     Begun,
 }
 
-impl<T: Drop, H: History<T>, M: Drop, A: Asks<T, M>> Drop for Progress<T, H, M, A> {
+impl<T: Drop, H: History<T>, M: Drop, A: Operation<T, M>> Drop for Progress<T, H, M, A> {
     fn drop(self)
         requires over { is_waiting self ≡ false }
     {
@@ -46,7 +46,7 @@ impl<T: Drop, H: History<T>, M: Drop, A: Asks<T, M>> Drop for Progress<T, H, M, 
     }
 }
 
-impl<T: Drop, H: History<T>, M: Drop, A: Asks<T, M>> Progress<T, H, M, A> {
+impl<T: Drop, H: History<T>, M: Drop, A: Operation<T, M>> Progress<T, H, M, A> {
     /// Takes out the call, where it was not made yet.
     #[inline]
     pub(crate) fn take(&mut self) -> Option<(H::Pass, M)>

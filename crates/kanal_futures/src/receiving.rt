@@ -13,7 +13,7 @@ ghost use Rattle.kanal_futures.specs.Plain.{is_over};
 
 use crate::answer::TaskAnswer;
 use crate::call::TaskCall;
-use crate::operation::Asks;
+use crate::operation::Operation;
 use crate::plain::PlainFuture;
 use kanal_channel::{Locked, Shared};
 use kanal_core::error::ReceiveError;
@@ -26,7 +26,7 @@ use std::fmt;
 /// To receive a message.
 pub struct OfReceive;
 
-impl<T> Asks<T, ()> for OfReceive {
+impl<T> Operation<T, ()> for OfReceive {
     type Answer = Result<T, ReceiveError>;
 
     ghost event = { λ _. Recv };

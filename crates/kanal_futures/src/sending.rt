@@ -13,7 +13,7 @@ ghost use Rattle.kanal_futures.specs.Plain.{message_in};
 
 use crate::answer::TaskAnswer;
 use crate::call::TaskCall;
-use crate::operation::Asks;
+use crate::operation::Operation;
 use crate::plain::PlainFuture;
 use kanal_channel::{Locked, Shared};
 use kanal_core::error::SendError;
@@ -26,7 +26,7 @@ use std::fmt;
 /// To send the message.
 pub struct OfSend;
 
-impl<T> Asks<T, T> for OfSend {
+impl<T> Operation<T, T> for OfSend {
     type Answer = Result<(), SendError>;
 
     ghost event = { λ message. Send message };

@@ -10,9 +10,9 @@ ghost use Rattle.kanal_events.specs.StepResult.{may_wait};
 ghost use Rattle.kanal_state.specs.Makes.{HasReplied, HasWaited};
 ghost use Rattle.kanal_state.specs.Waits.{IsWaiting};
 ghost use Rattle.kanal_channel.specs.Starts.{HasLeftCell};
-ghost use Rattle.kanal_futures.specs.Tasks.{opened, source_of};
+ghost use Rattle.kanal_futures.specs.Tasks.{started_with, source_of};
 
-use crate::operation::{Asks, GhostStart};
+use crate::operation::{GhostStart, Operation};
 use crate::wakers::Wakers;
 use futures::task::{Context, Poll};
 use kanal_cell::signal::WaitEnd;
@@ -30,7 +30,7 @@ pub(crate) type Replied<T, H, M> = (
 );
 
 /// A wait that was settled: what the call began with, the pass, and what became of the wait.
-pub(crate) type Settled<T, H, M> = (
+pub(crate) type SettledCall<T, H, M> = (
     GhostStart<<H as History<T>>::Pass, M>,
     <H as History<T>>::Pass,
     Outcome<T>,
@@ -38,7 +38,7 @@ pub(crate) type Settled<T, H, M> = (
 
 /// A wait that was started, with the pass whose call it is. Contracts see what the pass was at first, and what
 /// was asked. Only `look` and `leave` let it go.
-pub(crate) struct Started<T, H: History<T>, M, A: Asks<T, M>> {
+pub(crate) struct Started<T, H: History<T>, M, A: Operation<T, M>> {
     opening: GhostStart<H::Pass, M>,
     pass: H::Pass,
     counted: CountedWait,
@@ -46,7 +46,7 @@ pub(crate) struct Started<T, H: History<T>, M, A: Asks<T, M>> {
     asks: PhantomData<A>,
 }
 
-impl<T, H: History<T>, M, A: Asks<T, M>> Model for Started<T, H, M, A> {
+impl<T, H: History<T>, M, A: Operation<T, M>> Model for Started<T, H, M, A> {
     ghost use Rattle.kanal_cell.specs.CellRule.{HasNotLeft};
     ghost use Rattle.kanal_cell.specs.CellEnds.{wait_view};
     ghost use Rattle.kanal_state.specs.Waits.{IsWaiting};
@@ -59,7 +59,7 @@ impl<T, H: History<T>, M, A: Asks<T, M>> Model for Started<T, H, M, A> {
         × IsWaiting H.relations s.opening.pass.value s.pass (A.event s.opening.asked.value) s.counted };
 }
 
-impl<T: Drop, H: History<T>, M: Drop, A: Asks<T, M>> Started<T, H, M, A> {
+impl<T: Drop, H: History<T>, M: Drop, A: Operation<T, M>> Started<T, H, M, A> {
     /// The wait of a call that waits.
     fn new(
         opening: GhostStart<H::Pass, M>,
@@ -69,7 +69,7 @@ impl<T: Drop, H: History<T>, M: Drop, A: Asks<T, M>> Started<T, H, M, A> {
     ) -> Self
         requires unspent { HasNotLeft (wait_view end) }
         requires waits { IsWaiting H.relations opening.pass.value pass (A.event opening.asked.value) counted }
-        ensures { result ≡ opened opening }
+        ensures { result ≡ started_with opening }
     {
         Started {
             opening,
@@ -94,8 +94,8 @@ impl<T: Drop, H: History<T>, M: Drop, A: Asks<T, M>> Started<T, H, M, A> {
 
     /// The end of the call, where this became of its wait; where it is another's, which no run has shown, the
     /// wait goes on.
-    fn finish(self, log: &H::Log, delivered: WaitResult<T, H>) -> Result<Settled<T, H, M>, Self>
-        ensures begun { IfOk result (λ r. opened r.0 ≡ self) }
+    fn finish(self, log: &H::Log, delivered: WaitResult<T, H>) -> Result<SettledCall<T, H, M>, Self>
+        ensures begun { IfOk result (λ r. started_with r.0 ≡ self) }
         ensures waited { IfOk result (λ r. HasWaited H.relations self.0 r.1 (A.event self.1) r.2) }
         ensures lost { IfErr result (λ started. started ≡ self) }
     {
@@ -128,8 +128,8 @@ impl<T: Drop, H: History<T>, M: Drop, A: Asks<T, M>> Started<T, H, M, A> {
         wakers: &mut Wakers,
         shared: &Shared<T, H>,
         cx: &mut Context<'_>,
-    ) -> Result<Settled<T, H, M>, Self>
-        ensures begun { IfOk result (λ r. opened r.0 ≡ self) }
+    ) -> Result<SettledCall<T, H, M>, Self>
+        ensures begun { IfOk result (λ r. started_with r.0 ≡ self) }
         ensures waited { IfOk result (λ r. HasWaited H.relations self.0 r.1 (A.event self.1) r.2) }
         ensures goes_on { IfErr result (λ started. started ≡ self) }
         ensures registered { IfErr result (λ _. Covers cx.new (λ s. s ≡ source_of wakers.new)) }
@@ -188,7 +188,7 @@ fn let_go<T: Drop, H: History<T>>(
 impl Wakers {
     /// Makes a call under the lock that was got, and releases the lock; where it must wait, its wait is
     /// started.
-    pub(crate) fn begin<T: Drop, H: History<T>, M: Drop, A: Asks<T, M>>(
+    pub(crate) fn begin<T: Drop, H: History<T>, M: Drop, A: Operation<T, M>>(
         &self,
         shared: &Shared<T, H>,
         locked: Locked<'_, T, H>,
@@ -196,7 +196,7 @@ impl Wakers {
         asked: M,
         cx: &mut Context<'_>,
     ) -> Result<Replied<T, H, M>, Started<T, H, M, A>>
-        ensures begun { IfOk result (λ r. opened r.0 ≡ (pass, asked)) }
+        ensures begun { IfOk result (λ r. started_with r.0 ≡ (pass, asked)) }
         ensures replied { IfOk result (λ r. HasReplied H.relations pass r.1 (A.event asked) r.2) }
         ensures waits { IfErr result (λ s. s ≡ (pass, asked)) }
         ensures registered { IfErr result (λ _. Covers cx.new (λ s. s ≡ source_of self.now)) }

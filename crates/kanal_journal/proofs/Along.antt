@@ -8,8 +8,8 @@ use Rattle.kanal_core.specs.Line.{Line, LineEntry, messages}
 use Rattle.kanal_events.specs.declared.event.Event.{Event}
 use Rattle.kanal_events.specs.declared.event.Reply.{Reply}
 use Rattle.kanal_journal.specs.declared.journal.report.Settlement.{Settlement}
-use Rattle.kanal_journal.specs.Runs.{Account, Leads, opening, opening_line, numbered}
-use Rattle.kanal_journal.specs.Paired.{History, Demand, AtOnce, Later, Next, Paired, demands, receipts, receipts_from, rest, until, given}
+use Rattle.kanal_journal.specs.Runs.{Account, Leads, opening_account, opening_line, numbered}
+use Rattle.kanal_journal.specs.Paired.{PairedHistory, Demand, AtOnce, Later, Next, Paired, demands, receipts, receipts_from, rest, until, given}
 use Rattle.kanal_journal.proofs.Slots.{nexts}
 use Rattle.kanal_journal.proofs.Holding.{Holds, kept_is, demands_count, holds_paired}
 use Rattle.kanal_journal.proofs.Ending.{seats-none}
@@ -18,10 +18,10 @@ use Rattle.kanal_journal.proofs.Cuts.{AllBefore, grows, settled_before}
 
 module _ {T : Type 0} where
   -- the history that an account tells of these events
-  abbrev pub told_history : List (Event T) → Account T → History T
+  abbrev pub told_history : List (Event T) → Account T → PairedHistory T
   told_history es a = record { events = es; replies = a.replies; settled = a.settled; drained = a.drained }
 
-  pub holds-opening : (c : Option ℕ) → Holds (told_history [] (opening c)) (opening_line c)
+  pub holds-opening : (c : Option ℕ) → Holds (told_history [] (opening_account c)) (opening_line c)
   holds-opening c =
       record {
         same = refl;
@@ -113,21 +113,21 @@ module _ {T : Type 0} where
   receipts-more ss (Next ∷ ds) (m ∷ ms) ns h = ap (λ xs. Some m ∷ xs) (receipts-more ss ds ms ns (omega arith))
 
   same-history : (es : List (Event T)) (rs rs' : List (Reply T)) (ss ss' : List (Settlement T)) (ms ms' : List T) → rs ≡ rs' → ss ≡ ss' → ms ≡ ms'
-      → ◌≡◌ {A = History T} (record { events = es; replies = rs; settled = ss; drained = ms }) (record { events = es; replies = rs'; settled = ss'; drained = ms' })
+      → ◌≡◌ {A = PairedHistory T} (record { events = es; replies = rs; settled = ss; drained = ms }) (record { events = es; replies = rs'; settled = ss'; drained = ms' })
   same-history es rs rs' ss ss' ms ms' p q r = rw (p, q, r) refl
 
-  module _ (c : Option ℕ) (events : List (Event T)) (b : Account T) (l : Leads (opening c) events b) (n : ℕ) where
-    at : Cut (opening c) b events n
-    at = cut (opening c) b events n l
+  module _ (c : Option ℕ) (events : List (Event T)) (b : Account T) (l : Leads (opening_account c) events b) (n : ℕ) where
+    at : Cut (opening_account c) b events n
+    at = cut (opening_account c) b events n l
 
     abbrev mid : Account T
     mid = at.mid
 
     mid-count : length mid.replies ≡ length (take n events)
-    mid-count = let k = replies-count (opening c) mid (take n events) at.first in omega (arith, k)
+    mid-count = let k = replies-count (opening_account c) mid (take n events) at.first in omega (arith, k)
 
     mid-earlier : AllBefore (length mid.replies) mid.settled
-    mid-earlier = settled-earlier (opening c) mid (take n events) at.first tt
+    mid-earlier = settled-earlier (opening_account c) mid (take n events) at.first tt
 
     short : n ≤ length events → length mid.replies ≡ n
     short h = omega (arith, mid-count, length-take n events)
@@ -159,14 +159,14 @@ module _ {T : Type 0} where
         ]
 
     mid-holds : Holds (told_history (take n events) mid) mid.line
-    mid-holds = holds-along [] (opening c) mid (take n events) (holds-opening c) at.first
+    mid-holds = holds-along [] (opening_account c) mid (take n events) (holds-opening c) at.first
 
     -- the history at the cut is paired
     pub paired-at : Paired (until n (told_history events b))
     paired-at =
         let later = grows mid b (drop n events) at.others in
-        let first : History T = told_history (take n events) mid in
-        let there : History T = record first { drained = mid.drained ++ later.drained } in
+        let first : PairedHistory T = told_history (take n events) mid in
+        let there : PairedHistory T = record first { drained = mid.drained ++ later.drained } in
         let more : receipts there ≡ receipts first = receipts-more mid.settled (demands first) mid.drained later.drained mid-holds.all_drained in
         let whole : Paired there = rw more (holds_paired first mid.line mid-holds) in
         subst Paired (sym (same-history (take n events) (take n b.replies) mid.replies (filter (λ s. ltb s.step n) b.settled) mid.settled b.drained (mid.drained ++ later.drained) mid-replies mid-settled later.drained_is)) whole
@@ -186,5 +186,5 @@ module _ {T : Type 0} where
       sym (drop-append_seam served (messages line)) ∙ ap (λ k. drop k (served ++ messages line)) count
 
   -- what the line holds is the rest of the kept messages
-  pub rest-left : (h : History T) (l : Line T) → Holds h l → messages l.line ≡ rest h
+  pub rest-left : (h : PairedHistory T) (l : Line T) → Holds h l → messages l.line ≡ rest h
   rest-left h l now = rw (kept_is h l now, demands_count h l now) (rest-is now.served l.line l.demands now.one)

@@ -9,7 +9,7 @@ use Rattle.kanal_events.specs.declared.event.Event.TheVariants.{Withdraw}
 use Rattle.kanal_events.specs.declared.event.Reply.{Reply}
 use Rattle.kanal_events.specs.declared.event.Reply.TheVariants.{Withdrawn}
 use Rattle.kanal_journal.specs.Runs.{numbered}
-use Rattle.kanal_journal.specs.Paired.{asked, withdrawn, given}
+use Rattle.kanal_journal.specs.Paired.{asked, withdrawn_ticket, given}
 use Rattle.kanal_journal.proofs.Sends.{was_taken}
 use Rattle.kanal_journal.proofs.Slots.{nexts}
 use Rattle.kanal_journal.proofs.Settling.{AreApart, AllWait, IsSeated, takes, taken_has, none_ends, has_tail, or_off, or_true, under-over, apart_has}
@@ -35,7 +35,7 @@ or-none false = refl
 pub later-there : (t : ℕ) (gone left before after : List ℕ) → gone ++ left ≡ before → after ≡ left → has t after ≡ true → has t before ≡ true
 later-there t gone left before after parts is h = rw (← parts, has-append t gone left, ← is, h) (or_true (has t gone))
 
-module _ {T : Type 0} (n : ℕ) (e : Event T) (r : Reply T) (none : withdrawn e r ≡ []) where
+module _ {T : Type 0} (n : ℕ) (e : Event T) (r : Reply T) (none : withdrawn_ticket e r ≡ []) where
   -- what is taken had waited, and waits no more
   pub taken-now : (t : ℕ) (gone left before after : List ℕ) → gone ++ left ≡ before → after ≡ left → AreApart (gone ++ left) → is_now e r (takes T n gone) t ≡ true → (has t before ≡ true) × (has t after ≡ false)
   taken-now t gone left before after parts is apart h =
@@ -47,7 +47,7 @@ module _ {T : Type 0} (n : ℕ) (e : Event T) (r : Reply T) (none : withdrawn e 
         ],
       )
 
-module _ {T : Type 0} (l : Line T) (e : Event T) (r : Reply T) (one : (l.line ≡ []) ⊎ (l.demands ≡ [])) (apart : AreApart (waits l)) (seats : IsSeated l.capacity l.line) (below : (t : ℕ) → has t (waits l) ≡ true → t < l.next) (none : withdrawn e r ≡ []) where
+module _ {T : Type 0} (l : Line T) (e : Event T) (r : Reply T) (one : (l.line ≡ []) ⊎ (l.demands ≡ [])) (apart : AreApart (waits l)) (seats : IsSeated l.capacity l.line) (below : (t : ℕ) → has t (waits l) ≡ true → t < l.next) (none : withdrawn_ticket e r ≡ []) where
   nothing-now : (t : ℕ) → is_now e r [] t ≡ true → ⊥
   nothing-now t h = let k = rw none at h in false≢true k
 

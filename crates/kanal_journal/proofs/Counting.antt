@@ -19,8 +19,8 @@ use Rattle.kanal_events.specs.declared.event.Refusal.TheVariants.{Closed as ByCl
 use Rattle.kanal_events.specs.declared.event.Reply.{Reply}
 use Rattle.kanal_events.specs.declared.event.Reply.TheVariants.{Sent, Waits, Yes, No, Got, Nothing, Drained, Withdrawn, Done, Cleared, Flag, Refused}
 use Rattle.kanal_events.specs.Steps.{StepSpec, only, moving, offer, take as take_told, take_front, nothing_there, wait, withdraw, seal_line, shut, take_line, cloned, answer, message_of, step, refused}
-use Rattle.kanal_journal.specs.Runs.{Answers, has_handle}
-use Rattle.kanal_journal.specs.Paired.{withdrawn}
+use Rattle.kanal_journal.specs.Runs.{TellsWith, has_handle}
+use Rattle.kanal_journal.specs.Paired.{withdrawn_ticket}
 use Rattle.kanal_journal.specs.Weights.{weigh}
 use Rattle.kanal_journal.specs.Given.{waiting_count}
 use Rattle.kanal_journal.proofs.Settling.{under-over}
@@ -124,21 +124,21 @@ module _ {T : Type 0} where
     -- A step's settlements, its withdrawal and those that still wait weigh at most what waited and the ticket that it gave.
     -- The line grows by one at most, and what is drained or cleared leaves it.
     pub record Counts (l : Line T) (e : Event T) (t : StepSpec T) : Type 0 where
-      pub settled : weigh g (tickets_of t.settled) + weigh g (withdrawn e t.reply) + weigh g (waits t.line) + upto g l.next ≤ weigh g (waits l) + upto g t.line.next
+      pub settled : weigh g (tickets_of t.settled) + weigh g (withdrawn_ticket e t.reply) + weigh g (waits t.line) + upto g l.next ≤ weigh g (waits l) + upto g t.line.next
       pub left : length t.drained + length t.cleared + length t.line.line ≤ length l.line + 1
 
     module _ (l : Line T) where
       to : (e : Event T) (told other : StepSpec T) → told ≡ other → Counts l e other → Counts l e told
       to e told other is k = subst (Counts l e) (sym is) k
 
-      still : (e : Event T) (r : Reply T) → withdrawn e r ≡ [] → Counts l e (only l r)
+      still : (e : Event T) (r : Reply T) → withdrawn_ticket e r ≡ [] → Counts l e (only l r)
       still e r w = record { settled = omega (arith, ap (weigh g) w); left = omega arith }
 
       -- the counts of the sides tell nothing of tickets
-      recount : (e : Event T) (r : Reply T) (senders receivers : ℕ) → withdrawn e r ≡ [] → Counts l e (only (record l { senders = senders; receivers = receivers }) r)
+      recount : (e : Event T) (r : Reply T) (senders receivers : ℕ) → withdrawn_ticket e r ≡ [] → Counts l e (only (record l { senders = senders; receivers = receivers }) r)
       recount e r senders receivers w = record { settled = omega (arith, ap (weigh g) w); left = omega arith }
 
-      entered : (e : Event T) (m : T) (r : Reply T) → withdrawn e r ≡ [] → Counts l e (moving (enter l m) r)
+      entered : (e : Event T) (m : T) (r : Reply T) → withdrawn_ticket e r ≡ [] → Counts l e (moving (enter l m) r)
       entered e m r w =
           let new = (enter l m).line in
           record {
@@ -156,7 +156,7 @@ module _ {T : Type 0} where
             left = omega (arith, serve-long l (l.line ++ bare m ∷ []) l.demands, length-append l.line (bare m ∷ []));
           }
 
-      offers : (e : Event T) (m : T) (r : Reply T) (otherwise : StepSpec T) → ((r : Reply T) → withdrawn e r ≡ []) → Counts l e otherwise → Counts l e (offer l m r otherwise)
+      offers : (e : Event T) (m : T) (r : Reply T) (otherwise : StepSpec T) → ((r : Reply T) → withdrawn_ticket e r ≡ []) → Counts l e otherwise → Counts l e (offer l m r otherwise)
       offers e m r otherwise w k =
           elim (cases_Bool (eqb l.receivers 0)) [
             | inl x ↦ to e (offer l m r otherwise) (only l (Refused (cond (l.senders == 0) ByClosed NoReceiver) (Some m))) (rw x refl) (still e (Refused (cond (l.senders == 0) ByClosed NoReceiver) (Some m)) (w _))
@@ -171,7 +171,7 @@ module _ {T : Type 0} where
                 ]
           ]
 
-      front : (e : Event T) (x : LineEntry T) (xs : List (LineEntry T)) (r : Reply T) → withdrawn e r ≡ [] → l.line ≡ x ∷ xs → Counts l e (moving (leave l (x ∷ []) xs) r)
+      front : (e : Event T) (x : LineEntry T) (xs : List (LineEntry T)) (r : Reply T) → withdrawn_ticket e r ≡ [] → l.line ≡ x ∷ xs → Counts l e (moving (leave l (x ∷ []) xs) r)
       front e x xs r w is =
           let c = l.capacity in
           let gone = (x ∷ []) ++ under c xs in
@@ -191,7 +191,7 @@ module _ {T : Type 0} where
             left = omega (arith, seated-long c xs, ap length is);
           }
 
-      takes : (e : Event T) (otherwise : StepSpec T) → ((r : Reply T) → withdrawn e r ≡ []) → Counts l e otherwise → Counts l e (take_told l otherwise)
+      takes : (e : Event T) (otherwise : StepSpec T) → ((r : Reply T) → withdrawn_ticket e r ≡ []) → Counts l e otherwise → Counts l e (take_told l otherwise)
       takes e otherwise w k =
           elim (cases_Bool (eqb l.receivers 0)) [
             | inl x ↦ to e (take_told l otherwise) (only l (Refused ByClosed None)) (rw x refl) (still e (Refused ByClosed None) (w _))
@@ -202,14 +202,14 @@ module _ {T : Type 0} where
           go [] is = k
           go (x ∷ xs) is = front e x xs (Got x.message) (w (Got x.message)) is
 
-      nothing : (e : Event T) (otherwise : StepSpec T) → ((r : Reply T) → withdrawn e r ≡ []) → Counts l e otherwise → Counts l e (nothing_there l otherwise)
+      nothing : (e : Event T) (otherwise : StepSpec T) → ((r : Reply T) → withdrawn_ticket e r ≡ []) → Counts l e otherwise → Counts l e (nothing_there l otherwise)
       nothing e otherwise w k =
           elim (cases_Bool (eqb l.senders 0)) [
             | inl x ↦ to e (nothing_there l otherwise) (only l (Refused NoSender None)) (rw x refl) (still e (Refused NoSender None) (w _))
             | inr x ↦ to e (nothing_there l otherwise) otherwise (rw x refl) k
           ]
 
-      starts : (e : Event T) (new : Line T) (back : Option T) → ((r : Reply T) → withdrawn e r ≡ []) → weigh g (waits new) ≡ weigh g (waits l) + g l.next → new.next ≡ l.next + 1 → length new.line ≤ length l.line + 1 → Counts l e (wait l new back)
+      starts : (e : Event T) (new : Line T) (back : Option T) → ((r : Reply T) → withdrawn_ticket e r ≡ []) → weigh g (waits new) ≡ weigh g (waits l) + g l.next → new.next ≡ l.next + 1 → length new.line ≤ length l.line + 1 → Counts l e (wait l new back)
       starts e new back w k n long =
           elim (cases_Bool (eqb l.next last_word)) [
             | inl x ↦ to e (wait l new back) (only l (Refused TooMany back)) (rw x refl) (still e (Refused TooMany back) (w _))
@@ -277,7 +277,7 @@ module _ {T : Type 0} where
                 (record { settled = omega (arith, waits-weigh l, ap (weigh g) (taken-tickets T (tickets l.line))); left = omega (arith, length-map l.line (λ e. e.message)) })
           ]
 
-      clones : (e : Event T) (count senders receivers : ℕ) → ((r : Reply T) → withdrawn e r ≡ []) → Counts l e (cloned l count (record l { senders = senders; receivers = receivers }))
+      clones : (e : Event T) (count senders receivers : ℕ) → ((r : Reply T) → withdrawn_ticket e r ≡ []) → Counts l e (cloned l count (record l { senders = senders; receivers = receivers }))
       clones e count senders receivers w =
           let new = record l { senders = senders; receivers = receivers } in
           elim (cases_Bool (eqb count last_count)) [
@@ -286,7 +286,7 @@ module _ {T : Type 0} where
           ]
 
       -- nobody waits below the capacity, so that nobody waits after an end
-      ends : (e : Event T) (reason : Reason) (senders receivers : ℕ) → withdrawn e Done ≡ [] → tickets (under l.capacity l.line) ≡ [] → Counts l e (moving (end_all (record l { senders = senders; receivers = receivers }) reason) Done)
+      ends : (e : Event T) (reason : Reason) (senders receivers : ℕ) → withdrawn_ticket e Done ≡ [] → tickets (under l.capacity l.line) ≡ [] → Counts l e (moving (end_all (record l { senders = senders; receivers = receivers }) reason) Done)
       ends e reason senders receivers w below =
           record {
             settled =
@@ -331,14 +331,14 @@ module _ {T : Type 0} where
       step-counts below (Asks side ask) = still (Asks side ask) (answer l side ask) refl
       step-counts below Terminated = still Terminated (Flag ((l.senders == 0) && (length l.line == 0))) refl
 
-      refused-none : (e : Event T) (reason : Refusal) → withdrawn e (Refused reason (message_of e)) ≡ []
+      refused-none : (e : Event T) (reason : Refusal) → withdrawn_ticket e (Refused reason (message_of e)) ≡ []
       refused-none (Withdraw t) reason = refl
       refused-none e reason = refl
 
       refused-counts : (e : Event T) (reason : Refusal) → Counts l e (refused l reason e)
       refused-counts e reason = still e (Refused reason (message_of e)) (refused-none e reason)
 
-      pub told-counts : tickets (under l.capacity l.line) ≡ [] → (handles : Handles) (e : Event T) (told : StepSpec T) → Answers handles l e told → Counts l e told
+      pub told-counts : tickets (under l.capacity l.line) ≡ [] → (handles : Handles) (e : Event T) (told : StepSpec T) → TellsWith handles l e told → Counts l e told
       told-counts below handles e told (inl is) =
           elim (cases_Bool (has_handle handles e)) [
             | inl x ↦ to e told (step l e) (is ∙ rw x refl) (step-counts below e)
@@ -347,7 +347,7 @@ module _ {T : Type 0} where
       told-counts below handles e told (inr is) = to e told (refused l NoMemory e) is.2 (refused-counts e NoMemory)
 
   -- as many are settled and still wait as waited and were let wait, at most
-  pub told-count : (l : Line T) → tickets (under l.capacity l.line) ≡ [] → (handles : Handles) (e : Event T) (told : StepSpec T) → Answers handles l e told → length told.settled + waiting_count told.line + l.next ≤ waiting_count l + told.line.next
+  pub told-count : (l : Line T) → tickets (under l.capacity l.line) ≡ [] → (handles : Handles) (e : Event T) (told : StepSpec T) → TellsWith handles l e told → length told.settled + waiting_count told.line + l.next ≤ waiting_count l + told.line.next
   told-count l below handles e told is =
       let k = told-counts (λ x. 1) l below handles e told is in
       omega (

@@ -7,7 +7,7 @@ use Rattle.kanal_events.specs.declared.event.Event.TheVariants.{Drain}
 use Rattle.kanal_events.specs.declared.event.Reply.{Reply}
 use Rattle.kanal_events.specs.declared.event.Reply.TheVariants.{Drained}
 use Rattle.kanal_journal.specs.declared.journal.report.Settlement.{Settlement}
-use Rattle.kanal_journal.specs.Paired.{History, AtOnce, Next, cleared_by, demand_stays}
+use Rattle.kanal_journal.specs.Paired.{PairedHistory, AtOnce, Next, cleared_by, demand_stays}
 use Rattle.kanal_journal.proofs.Sends.{longer, later, ticket_stays}
 use Rattle.kanal_journal.proofs.Slots.{resolve, nexts}
 use Rattle.kanal_journal.proofs.Settling.{AreApart, takes, none_ends, all_stay, later_taken, seated_all}
@@ -26,7 +26,7 @@ module _ {T : Type 0} where
   all-next ss [] = refl
   all-next ss (m ∷ ms) = ap (λ ys. AtOnce m ∷ ys) (all-next ss ms)
 
-  next-stays : (h : History T) (k : ℕ) → filter (demand_stays h) (replicate k Next) ≡ replicate k Next
+  next-stays : (h : PairedHistory T) (k : ℕ) → filter (demand_stays h) (replicate k Next) ≡ replicate k Next
   next-stays h zero = refl
   next-stays h (suc k) = ap (λ ys. Next ∷ ys) (next-stays h k)
 
@@ -34,7 +34,7 @@ module _ {T : Type 0} where
   drained_move : (n : ℕ) (r : Reply T) (xs : List (LineEntry T)) → map (later (takes T n (tickets xs))) (filter (λ x. ticket_stays Drain r (takes T n (tickets xs)) x.ticket) xs) ≡ map bare (messages xs)
   drained_move n r xs = rw (all_stay T n Drain r refl (tickets xs) xs) (later_taken T n (tickets xs) xs (λ t g. g) ∙ sym (seated_all xs))
 
-  module _ (h : History T) (l : Line T) (now : Holds h l) (n : ℕ) (none : l.demands ≡ []) where
+  module _ (h : PairedHistory T) (l : Line T) (now : Holds h l) (n : ℕ) (none : l.demands ≡ []) where
     abbrev reply : Reply T
     reply = Drained (length l.line)
 

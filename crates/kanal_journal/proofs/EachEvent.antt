@@ -10,15 +10,15 @@ use Rattle.kanal_journal.specs.declared.journal.report.Settlement.{Settlement}
 use Rattle.kanal_core.specs.Line.{LineEntry, Line, bare, waiting, tickets, has, under, holds_ticket}
 use Rattle.kanal_core.specs.Moves.{seated, taken}
 use Rattle.kanal_journal.specs.Runs.{numbered}
-use Rattle.kanal_journal.specs.Paired.{History, Demand, AtOnce, Later, sent, asked, withdrawn, given, is_gone}
+use Rattle.kanal_journal.specs.Paired.{PairedHistory, Demand, AtOnce, Later, sent, asked, withdrawn_ticket, given, is_gone}
 use Rattle.kanal_journal.proofs.Sends.{goes, gone-last, was_taken}
 use Rattle.kanal_journal.proofs.Slots.{slot_stays, answered}
 use Rattle.kanal_journal.proofs.Settling.{AreApart, entries_still, demands_still, takes, taken_move, none_ends, given_other, withdrawn_move, and_false, or_off, eqb_swap}
 use Rattle.kanal_journal.proofs.Holding.{Moves}
 
-module _ {T : Type 0} (h : History T) (l : Line T) (same : length h.events ≡ length h.replies) where
+module _ {T : Type 0} (h : PairedHistory T) (l : Line T) (same : length h.events ≡ length h.replies) where
   -- nothing enters, leaves or is settled
-  abbrev pub moves_quiet : (e : Event T) (r : Reply T) → sent e r ≡ [] → asked e r ≡ [] → withdrawn e r ≡ [] → Moves h l e r [] [] l
+  abbrev pub moves_quiet : (e : Event T) (r : Reply T) → sent e r ≡ [] → asked e r ≡ [] → withdrawn_ticket e r ≡ [] → Moves h l e r [] [] l
   moves_quiet e r s a w =
       record {
         moved = [];
@@ -31,7 +31,7 @@ module _ {T : Type 0} (h : History T) (l : Line T) (same : length h.events ≡ l
       }
 
   -- a message enters, with no demand
-  pub moves_enter : (e : Event T) (r : Reply T) (m : T) → sent e r ≡ (m, None) ∷ [] → asked e r ≡ [] → withdrawn e r ≡ [] → l.demands ≡ [] → Moves h l e r [] [] (record l { line = l.line ++ bare m ∷ []; demands = [] })
+  pub moves_enter : (e : Event T) (r : Reply T) (m : T) → sent e r ≡ (m, None) ∷ [] → asked e r ≡ [] → withdrawn_ticket e r ≡ [] → l.demands ≡ [] → Moves h l e r [] [] (record l { line = l.line ++ bare m ∷ []; demands = [] })
   moves_enter e r m s a w d =
       record {
         moved = [];
@@ -44,7 +44,7 @@ module _ {T : Type 0} (h : History T) (l : Line T) (same : length h.events ≡ l
       }
 
   -- the front is taken
-  pub moves_take : (e : Event T) (r : Reply T) (n : ℕ) (x : LineEntry T) (xs : List (LineEntry T)) → sent e r ≡ [] → asked e r ≡ AtOnce x.message ∷ [] → withdrawn e r ≡ [] → l.line ≡ x ∷ xs → l.demands ≡ [] → AreApart (tickets l.line)
+  pub moves_take : (e : Event T) (r : Reply T) (n : ℕ) (x : LineEntry T) (xs : List (LineEntry T)) → sent e r ≡ [] → asked e r ≡ AtOnce x.message ∷ [] → withdrawn_ticket e r ≡ [] → l.line ≡ x ∷ xs → l.demands ≡ [] → AreApart (tickets l.line)
       → Moves h l e r (takes T n (tickets (x ∷ under l.capacity xs))) [] (record l { line = seated l.capacity xs })
   moves_take e r n x xs s a w is d apart =
       let parts : AreApart (tickets ((x ∷ []) ++ xs)) = rw is at apart in
@@ -62,7 +62,7 @@ module _ {T : Type 0} (h : History T) (l : Line T) (same : length h.events ≡ l
       no-goes t g = let k = rw (w, none_ends T n (tickets (x ∷ under l.capacity xs)) t) at g in absurd (cc)
 
   -- the message goes to the first demand
-  pub moves_given : (e : Event T) (r : Reply T) (n : ℕ) (m : T) (d : ℕ) (ds : List ℕ) → sent e r ≡ (m, None) ∷ [] → asked e r ≡ [] → withdrawn e r ≡ [] → l.line ≡ [] → l.demands ≡ d ∷ ds → has d ds ≡ false
+  pub moves_given : (e : Event T) (r : Reply T) (n : ℕ) (m : T) (d : ℕ) (ds : List ℕ) → sent e r ≡ (m, None) ∷ [] → asked e r ≡ [] → withdrawn_ticket e r ≡ [] → l.line ≡ [] → l.demands ≡ d ∷ ds → has d ds ≡ false
       → Moves h l e r (numbered n ((d, Given m) ∷ [])) [] (record l { line = []; demands = ds })
   moves_given e r n m d ds s a w is was apart =
       let self : eqb d d ≡ true = eq-eqb d d refl in

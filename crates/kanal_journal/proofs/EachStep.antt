@@ -21,8 +21,8 @@ use Rattle.kanal_events.specs.declared.event.Refusal.TheVariants.{Closed as ByCl
 use Rattle.kanal_events.specs.declared.event.Reply.{Reply}
 use Rattle.kanal_events.specs.declared.event.Reply.TheVariants.{Sent, Waits, Yes, No, Got, Nothing, Drained, Withdrawn, Done, Cleared, Flag, Refused}
 use Rattle.kanal_events.specs.Steps.{StepSpec, only, moving, take, take_front, nothing_there, wait, withdraw, take_line, cloned, answer, message_of, step, refused}
-use Rattle.kanal_journal.specs.Runs.{numbered, has_handle, Answers}
-use Rattle.kanal_journal.specs.Paired.{History, AtOnce, sent, asked, withdrawn, cleared_by, is_gone, given}
+use Rattle.kanal_journal.specs.Runs.{numbered, has_handle, TellsWith}
+use Rattle.kanal_journal.specs.Paired.{PairedHistory, AtOnce, sent, asked, withdrawn_ticket, cleared_by, is_gone, given}
 use Rattle.kanal_journal.proofs.Sends.{longer, was_taken}
 use Rattle.kanal_journal.proofs.Settling.{AreApart}
 use Rattle.kanal_journal.proofs.Holding.{Holds, waits, is_known}
@@ -46,7 +46,7 @@ not-below : (k : ℕ) (c : Option ℕ) → is_below k c ≡ false → (d : ℕ) 
 not-below k None h = absurd (false≢true (sym h))
 not-below k (Some d) h = (d, refl, grind (arith, nat_tests))
 
-module _ {T : Type 0} (h : History T) (l : Line T) (now : Holds h l) (n : ℕ) where
+module _ {T : Type 0} (h : PairedHistory T) (l : Line T) (now : Holds h l) (n : ℕ) where
   -- what holds after the event
   abbrev pub After : Event T → StepSpec T → Type 0
   After e told = Holds (longer h e told.reply (numbered n told.settled) told.drained) told.line
@@ -61,7 +61,7 @@ module _ {T : Type 0} (h : History T) (l : Line T) (now : Holds h l) (n : ℕ) w
   next-unknown = elim (cases_Bool (is_known h l.next)) [ inl k ↦ absurd (let small = (now.known l.next k).0 in omega arith) | inr k ↦ k ]
 
   -- a message enters, and is served if a demand waits
-  enters : (e : Event T) (r : Reply T) (m : T) → sent e r ≡ (m, None) ∷ [] → asked e r ≡ [] → withdrawn e r ≡ [] → cleared_by r ≡ 0 → (l.receivers ≡ 0 → ⊥) → has_place l ≡ true → (ds : List ℕ) → l.demands ≡ ds → After e (moving (enter l m) r)
+  enters : (e : Event T) (r : Reply T) (m : T) → sent e r ≡ (m, None) ∷ [] → asked e r ≡ [] → withdrawn_ticket e r ≡ [] → cleared_by r ≡ 0 → (l.receivers ≡ 0 → ⊥) → has_place l ≡ true → (ds : List ℕ) → l.demands ≡ ds → After e (moving (enter l m) r)
   enters e r m s a w q some_receiver place [] d =
       let below : is_below (length l.line) l.capacity ≡ true = rw d at place in
       let is : moving (enter l m) r ≡ only (record l { line = l.line ++ bare m ∷ []; demands = [] }) r = rw d refl in
@@ -102,7 +102,7 @@ module _ {T : Type 0} (h : History T) (l : Line T) (now : Holds h l) (n : ℕ) w
       ]
 
   -- the front is taken
-  takes_front : (e : Event T) (x : LineEntry T) (xs : List (LineEntry T)) → sent e (Got x.message) ≡ [] → asked e (Got x.message) ≡ AtOnce x.message ∷ [] → withdrawn e (Got x.message) ≡ [] → (l.receivers ≡ 0 → ⊥) → l.line ≡ x ∷ xs → After e (moving (leave l (x ∷ []) xs) (Got x.message))
+  takes_front : (e : Event T) (x : LineEntry T) (xs : List (LineEntry T)) → sent e (Got x.message) ≡ [] → asked e (Got x.message) ≡ AtOnce x.message ∷ [] → withdrawn_ticket e (Got x.message) ≡ [] → (l.receivers ≡ 0 → ⊥) → l.line ≡ x ∷ xs → After e (moving (leave l (x ∷ []) xs) (Got x.message))
   takes_front e x xs s a w some_receiver is =
       let none : l.demands ≡ [] = elim now.one [ inl k ↦ absurd (cc) | inr k ↦ k ] in
       let apart : AreApart (tickets l.line) = apart-prefix (tickets l.line) l.demands now.apart in
@@ -112,7 +112,7 @@ module _ {T : Type 0} (h : History T) (l : Line T) (now : Holds h l) (n : ℕ) w
       refl (not-closed some_receiver)
 
   -- a message is asked for
-  takes : (e : Event T) (otherwise : StepSpec T) → ((m : T) → sent e (Got m) ≡ []) → ((m : T) → asked e (Got m) ≡ AtOnce m ∷ []) → ((m : T) → withdrawn e (Got m) ≡ []) → (After e (only l (Refused ByClosed None))) → ((l.receivers ≡ 0 → ⊥) → l.line ≡ [] → After e otherwise) → After e (take l otherwise)
+  takes : (e : Event T) (otherwise : StepSpec T) → ((m : T) → sent e (Got m) ≡ []) → ((m : T) → asked e (Got m) ≡ AtOnce m ∷ []) → ((m : T) → withdrawn_ticket e (Got m) ≡ []) → (After e (only l (Refused ByClosed None))) → ((l.receivers ≡ 0 → ⊥) → l.line ≡ [] → After e otherwise) → After e (take l otherwise)
   takes e otherwise s a w shut_ empty =
       elim (cases_Bool (eqb l.receivers 0)) [
         | inl x ↦ to e (take l otherwise) (only l (Refused ByClosed None)) (rw x refl) shut_
@@ -246,7 +246,7 @@ module _ {T : Type 0} (h : History T) (l : Line T) (now : Holds h l) (n : ℕ) w
   raised-zero k z = rw z refl
 
   -- a handle is cloned
-  clones : (e : Event T) (count senders receivers : ℕ) → sent e Done ≡ [] → asked e Done ≡ [] → withdrawn e Done ≡ [] → After e (only l (Refused TooMany None)) → (l.senders ≡ 0 → senders ≡ 0) → (l.receivers ≡ 0 → receivers ≡ 0) → After e (cloned l count (record l { senders = senders; receivers = receivers }))
+  clones : (e : Event T) (count senders receivers : ℕ) → sent e Done ≡ [] → asked e Done ≡ [] → withdrawn_ticket e Done ≡ [] → After e (only l (Refused TooMany None)) → (l.senders ≡ 0 → senders ≡ 0) → (l.receivers ≡ 0 → receivers ≡ 0) → After e (cloned l count (record l { senders = senders; receivers = receivers }))
   clones e count senders receivers s a w most p q =
       elim (cases_Bool (eqb count last_count)) [
         | inl x ↦ to e (cloned l count (record l { senders = senders; receivers = receivers })) (only l (Refused TooMany None)) (rw x refl) most
@@ -285,7 +285,7 @@ module _ {T : Type 0} (h : History T) (l : Line T) (now : Holds h l) (n : ℕ) w
 
   -- a reply that tells of no message
   abbrev IsPlain : Event T → Reply T → Type 0
-  IsPlain e r = (sent e r ≡ []) × (asked e r ≡ []) × (withdrawn e r ≡ []) × (cleared_by r ≡ 0)
+  IsPlain e r = (sent e r ≡ []) × (asked e r ≡ []) × (withdrawn_ticket e r ≡ []) × (cleared_by r ≡ 0)
 
   plain : (e : Event T) (r : Reply T) → IsPlain e r → After e (only l r)
   plain e r k = holds_quiet h l now n e r k.0 k.1 k.2 k.3
@@ -340,7 +340,7 @@ module _ {T : Type 0} (h : History T) (l : Line T) (now : Holds h l) (n : ℕ) w
   refused-holds e reason = plain e (Refused reason (message_of e)) (refused-plain e reason (message_of e))
 
   -- and so does each event that is refused for memory, or for want of a live handle
-  pub told-holds : (handles : Handles) (e : Event T) (told : StepSpec T) → Answers handles l e told → After e told
+  pub told-holds : (handles : Handles) (e : Event T) (told : StepSpec T) → TellsWith handles l e told → After e told
   told-holds handles e told (inl is) =
       elim (cases_Bool (has_handle handles e)) [
         | inl x ↦ to e told (step l e) (is ∙ rw x refl) (step-holds e)

@@ -19,7 +19,7 @@ use Rattle.kanal_events.specs.declared.event.Reply.{Reply}
 use Rattle.kanal_events.specs.declared.event.Reply.TheVariants.{Cleared}
 use Rattle.kanal_journal.specs.declared.journal.report.Settlement.{Settlement}
 use Rattle.kanal_journal.specs.Runs.{numbered}
-use Rattle.kanal_journal.specs.Paired.{History, AtOnce, Later, sent, asked, withdrawn, cleared_by, without_last, given}
+use Rattle.kanal_journal.specs.Paired.{PairedHistory, AtOnce, Later, sent, asked, withdrawn_ticket, cleared_by, without_last, given}
 use Rattle.kanal_journal.proofs.Sends.{goes, longer, entries, was_taken}
 use Rattle.kanal_journal.proofs.Slots.{slot_stays, entries_last}
 use Rattle.kanal_journal.proofs.Settling.{IsSeated, AllBare, entries_still, ended_move, ends_has, has_tail, has_self, or_true}
@@ -74,7 +74,7 @@ module _ {T : Type 0} where
       end-more n t (Some u) m rest more h = elim (cases_Bool (u == t)) [ inl e ↦ rw e h | inr e ↦ rw e h ]
 
   -- a step that ends all that waits, and lets nothing enter or leave
-  module _ (h : History T) (l : Line T) (now : Holds h l) (n : ℕ) (e : Event T) (r : Reply T) (s : sent e r ≡ []) (a : asked e r ≡ []) (w : withdrawn e r ≡ []) (reason : Reason) (senders receivers : ℕ) where
+  module _ (h : PairedHistory T) (l : Line T) (now : Holds h l) (n : ℕ) (e : Event T) (r : Reply T) (s : sent e r ≡ []) (a : asked e r ≡ []) (w : withdrawn_ticket e r ≡ []) (reason : Reason) (senders receivers : ℕ) where
     abbrev ss : List (Settlement T)
     ss = numbered n (ended reason l)
 
@@ -118,7 +118,7 @@ module _ {T : Type 0} where
     pub holds_end : cleared_by r ≡ 0 → sum_by cleared_by h.replies ≡ 0 → Holds (longer h e r ss []) kept_line
     holds_end quiet z = holds_next h l now e r ss [] kept_line moves_end clean_end quiet z
 
-  module _ (h : History T) (l : Line T) (now : Holds h l) (n : ℕ) where
+  module _ (h : PairedHistory T) (l : Line T) (now : Holds h l) (n : ℕ) where
     abbrev reply : Reply T
     reply = Cleared (length (cleared l))
 
@@ -160,7 +160,7 @@ module _ {T : Type 0} where
         }
 
     -- a step that changes nothing keeps what holds
-    pub holds_quiet : (e : Event T) (r : Reply T) → sent e r ≡ [] → asked e r ≡ [] → withdrawn e r ≡ [] → cleared_by r ≡ 0 → Holds (longer h e r [] []) l
+    pub holds_quiet : (e : Event T) (r : Reply T) → sent e r ≡ [] → asked e r ≡ [] → withdrawn_ticket e r ≡ [] → cleared_by r ≡ 0 → Holds (longer h e r [] []) l
     holds_quiet e r s a w q =
         let move = moves_quiet h l now.same e r s a w in
         let clean = clean_quiet l e r now.one now.apart now.seats now.below w a in

@@ -10,8 +10,8 @@ use Rattle.kanal_events.specs.declared.event.Refusal.TheVariants.{Closed, Receiv
 use Rattle.kanal_events.specs.declared.event.Reply.{Reply}
 use Rattle.kanal_events.specs.declared.event.Reply.TheVariants.{Sent, Waits, Yes, No, Got, Nothing, Drained, Withdrawn, Done, Cleared, Number, Flag, Refused}
 use Rattle.kanal_journal.specs.declared.journal.report.Settlement.{Settlement}
-use Rattle.kanal_journal.specs.Runs.{Account, added, made, opening}
-use Rattle.kanal_journal.specs.Paired.{History, until, kept, receipts}
+use Rattle.kanal_journal.specs.Runs.{Account, added, made, opening_account}
+use Rattle.kanal_journal.specs.Paired.{PairedHistory, until, kept, receipts}
 
 -- all that is told along these events, with no step refused for memory
 abbrev along : Account ℕ → List (Event ℕ) → Account ℕ
@@ -20,21 +20,21 @@ along a (e ∷ es) = along (added a e (made a.handles a.line e)) es
 
 -- the replies of a script
 abbrev answers : Option ℕ → List (Event ℕ) → List (Reply ℕ)
-answers c es = (along (opening c) es).replies
+answers c es = (along (opening_account c) es).replies
 
 -- the settlements and the cleared messages of a script
 abbrev settlements : Option ℕ → List (Event ℕ) → List (Settlement ℕ)
-settlements c es = (along (opening c) es).settled
+settlements c es = (along (opening_account c) es).settled
 
 abbrev cleared_messages : Option ℕ → List (Event ℕ) → List ℕ
-cleared_messages c es = (along (opening c) es).cleared
+cleared_messages c es = (along (opening_account c) es).cleared
 
 abbrev drained_messages : Option ℕ → List (Event ℕ) → List ℕ
-drained_messages c es = (along (opening c) es).drained
+drained_messages c es = (along (opening_account c) es).drained
 
 -- the history of a script
-abbrev told_history : Option ℕ → List (Event ℕ) → History ℕ
-told_history c es = let a = along (opening c) es in record { events = es; replies = a.replies; settled = a.settled; drained = a.drained }
+abbrev told_history : Option ℕ → List (Event ℕ) → PairedHistory ℕ
+told_history c es = let a = along (opening_account c) es in record { events = es; replies = a.replies; settled = a.settled; drained = a.drained }
 
 abbrev one_place : List (Event ℕ)
 one_place = TrySend 1 ∷ TrySend 2 ∷ TryRecv ∷ Close ∷ []
@@ -42,10 +42,10 @@ one_place = TrySend 1 ∷ TrySend 2 ∷ TryRecv ∷ Close ∷ []
 one_place-replies : answers (Some 1) one_place ≡ Yes ∷ No 2 ∷ Got 1 ∷ Cleared 0 ∷ []
 one_place-replies = refl
 
-one_place-settled : (along (opening (Some 1)) one_place).settled ≡ []
+one_place-settled : (along (opening_account (Some 1)) one_place).settled ≡ []
 one_place-settled = refl
 
-one_place-cleared : (along (opening (Some 1)) one_place).cleared ≡ []
+one_place-cleared : (along (opening_account (Some 1)) one_place).cleared ≡ []
 one_place-cleared = refl
 
 abbrev two_places : List (Event ℕ)
@@ -54,10 +54,10 @@ two_places = TrySend 1 ∷ TrySend 2 ∷ TrySend 3 ∷ TryRecv ∷ TrySend 3 ∷
 two_places-replies : answers (Some 2) two_places ≡ Yes ∷ Yes ∷ No 3 ∷ Got 1 ∷ Yes ∷ Got 2 ∷ Got 3 ∷ Nothing ∷ []
 two_places-replies = refl
 
-two_places-settled : (along (opening (Some 2)) two_places).settled ≡ []
+two_places-settled : (along (opening_account (Some 2)) two_places).settled ≡ []
 two_places-settled = refl
 
-two_places-cleared : (along (opening (Some 2)) two_places).cleared ≡ []
+two_places-cleared : (along (opening_account (Some 2)) two_places).cleared ≡ []
 two_places-cleared = refl
 
 two_places-kept : kept (told_history (Some 2) two_places) ≡ 1 ∷ 2 ∷ 3 ∷ []
@@ -76,10 +76,10 @@ no_place = TrySend 5 ∷ TryRecv ∷ Ask Tx Len ∷ []
 no_place-replies : answers (Some 0) no_place ≡ No 5 ∷ Nothing ∷ Number 0 ∷ []
 no_place-replies = refl
 
-no_place-settled : (along (opening (Some 0)) no_place).settled ≡ []
+no_place-settled : (along (opening_account (Some 0)) no_place).settled ≡ []
 no_place-settled = refl
 
-no_place-cleared : (along (opening (Some 0)) no_place).cleared ≡ []
+no_place-cleared : (along (opening_account (Some 0)) no_place).cleared ≡ []
 no_place-cleared = refl
 
 abbrev closed_twice : List (Event ℕ)
@@ -88,10 +88,10 @@ closed_twice = TrySend 1 ∷ Close ∷ Close ∷ TryRecv ∷ TrySend 2 ∷ Ask T
 closed_twice-replies : answers (Some 1) closed_twice ≡ Yes ∷ Cleared 1 ∷ Refused CloseError None ∷ Refused Closed None ∷ Refused Closed (Some 2) ∷ Number 0 ∷ []
 closed_twice-replies = refl
 
-closed_twice-settled : (along (opening (Some 1)) closed_twice).settled ≡ []
+closed_twice-settled : (along (opening_account (Some 1)) closed_twice).settled ≡ []
 closed_twice-settled = refl
 
-closed_twice-cleared : (along (opening (Some 1)) closed_twice).cleared ≡ 1 ∷ []
+closed_twice-cleared : (along (opening_account (Some 1)) closed_twice).cleared ≡ 1 ∷ []
 closed_twice-cleared = refl
 
 closed_twice-kept : kept (told_history (Some 1) closed_twice) ≡ []

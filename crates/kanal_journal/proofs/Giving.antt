@@ -2,7 +2,7 @@
 use Rattle.std.proofs.Common.{◌≡◌, ℕ, ◌<◌, zero, suc, List, [], ◌∷◌, ◌++◌, length, slice_get, get_or, Some, refl, sym, ap, subst, ◌∙◌, arith}
 use Rattle.kanal_core.specs.declared.internal.outcome.Ticket.{Ticket}
 use Rattle.kanal_core.specs.declared.internal.outcome.Waiter.{Waiter}
-use Rattle.kanal_core.specs.Channel.{Channel}
+use Rattle.kanal_core.specs.Channel.{ChannelView}
 use Rattle.kanal_core.specs.Waiters.{IsPlaced}
 use Rattle.kanal_events.specs.Given.{AreKept, GivesNone, GivesOne}
 use Rattle.kanal_journal.specs.Given.{AreGiven}
@@ -19,7 +19,7 @@ by_some e = cc
 
 module _ {T W : Type 0} where
   -- one who begins to wait does so under the ticket that is given last
-  pub gives-one : (ts : List Ticket) (old new : Channel T W) (t : Ticket) → AreGiven ts old → GivesOne t old new → AreGiven (ts ++ t ∷ []) new
+  pub gives-one : (ts : List Ticket) (old new : ChannelView T W) (t : Ticket) → AreGiven ts old → GivesOne t old new → AreGiven (ts ++ t ∷ []) new
   gives-one ts old new t given one =
       record {
         numbered = rw one.next (numbered-last 0 ts t old.next one.number given.numbered);
@@ -27,7 +27,7 @@ module _ {T W : Type 0} where
       }
 
   -- where no ticket is given, those that were are still all
-  pub still_given : (ts : List Ticket) (old new : Channel T W) → AreGiven ts old → GivesNone old new → AreGiven ts new
+  pub still_given : (ts : List Ticket) (old new : ChannelView T W) → AreGiven ts old → GivesNone old new → AreGiven ts new
   still_given ts old new given none = record { numbered = rw none.next given.numbered; kept = none.kept ts given.kept }
 
   -- a ticket that was given stands at its number, so nobody else waits under it

@@ -9,7 +9,7 @@ use Rattle.kanal_events.specs.declared.event.Event.{Event}
 use Rattle.kanal_events.specs.declared.event.Reply.{Reply}
 use Rattle.kanal_journal.specs.declared.journal.report.Settlement.{Settlement}
 use Rattle.kanal_core.specs.Line.{LineEntry, Line, bare, messages, tickets, has}
-use Rattle.kanal_journal.specs.Paired.{History, Demand, AtOnce, Later, Next, along, sent, is_gone, given, send_stays, demands, cleared_by, without_last, kept, receipts, ArePaired, Paired}
+use Rattle.kanal_journal.specs.Paired.{PairedHistory, Demand, AtOnce, Later, Next, along, sent, is_gone, given, send_stays, demands, cleared_by, without_last, kept, receipts, ArePaired, Paired}
 use Rattle.std.proofs.lemmas.List.Sums.{sum_by-append}
 use Rattle.std.proofs.lemmas.List.{take_all}
 use Rattle.std.proofs.lemmas.Bool.{cases_Bool, false≢true}
@@ -36,10 +36,10 @@ module _ {T : Type 0} where
   waits l = tickets l.line ++ l.demands
 
   -- the history has told of the ticket's end
-  abbrev pub is_known : History T → ℕ → Bool
+  abbrev pub is_known : PairedHistory T → ℕ → Bool
   is_known h t = is_gone h t || (was_taken h.settled t || is_some (given h.settled t))
 
-  pub record Holds (h : History T) (l : Line T) : Type 0 where
+  pub record Holds (h : PairedHistory T) (l : Line T) : Type 0 where
     pub same : length h.events ≡ length h.replies
     pub served : List T
     pub entries_is : without_last (sum_by cleared_by h.replies) (entries h) ≡ map bare served ++ l.line
@@ -80,7 +80,7 @@ module _ {T : Type 0} where
   line_paired [] ds ms h = waiting_paired ds ms h
   line_paired (m ∷ served) ds ms h = (refl, line_paired served ds ms h)
 
-  module _ (h : History T) (l : Line T) (now : Holds h l) where
+  module _ (h : PairedHistory T) (l : Line T) (now : Holds h l) where
     pub kept_is : kept h ≡ now.served ++ messages l.line
     kept_is =
         let n = sum_by cleared_by h.replies in
@@ -111,14 +111,14 @@ module _ {T : Type 0} where
   paid_still e r ss [] xs = refl
   paid_still e r ss (m ∷ ms) xs = ap (λ ys. AtOnce m ∷ ys) (paid_still e r ss ms xs)
 
-  pub nexts_filter : (h : History T) (ds : List (Demand T)) → nexts (filter (demand_stays h) ds) ≡ nexts ds
+  pub nexts_filter : (h : PairedHistory T) (ds : List (Demand T)) → nexts (filter (demand_stays h) ds) ≡ nexts ds
   nexts_filter h [] = refl
   nexts_filter h (AtOnce m ∷ ds) = nexts_filter h ds
   nexts_filter h (Next ∷ ds) = ap suc (nexts_filter h ds)
   nexts_filter h (Later t ∷ ds) = elim (cases_Bool (is_gone h t)) [ inl g ↦ rw g (nexts_filter h ds) | inr g ↦ rw g (nexts_filter h ds) ]
 
   -- what one step moves from the line to the demands
-  pub record Moves (h : History T) (l : Line T) (e : Event T) (r : Reply T) (ss : List (Settlement T)) (ms : List T) (new : Line T) : Type 0 where
+  pub record Moves (h : PairedHistory T) (l : Line T) (e : Event T) (r : Reply T) (ss : List (Settlement T)) (ms : List T) (new : Line T) : Type 0 where
     pub moved : List T
     pub line : map (later ss) (filter (λ x. ticket_stays e r ss x.ticket) l.line) ++ map fresh (sent e r) ≡ map bare moved ++ new.line
     pub demands : map (answered ss) (filter (slot_stays e r ss) (map Later l.demands)) ++ resolve (h.settled ++ ss) (asked e r) ms ≡ map AtOnce moved ++ map Later new.demands
@@ -127,7 +127,7 @@ module _ {T : Type 0} where
     pub entry_new : map (entry_at (h.settled ++ ss)) (sent e r) ≡ map fresh (sent e r)
     pub demand_new : filter (demand_stays (longer h e r ss ms)) (asked e r) ≡ asked e r
 
-  module _ (h : History T) (l : Line T) (now : Holds h l) (e : Event T) (r : Reply T) (ss : List (Settlement T)) (ms : List T) (new : Line T) (move : Moves h l e r ss ms new) where
+  module _ (h : PairedHistory T) (l : Line T) (now : Holds h l) (e : Event T) (r : Reply T) (ss : List (Settlement T)) (ms : List T) (new : Line T) (move : Moves h l e r ss ms new) where
     -- what was told of a ticket is told once
     pub once : (t : ℕ) → is_known h t ≡ true → goes e r ss t ≡ false
     once t k =

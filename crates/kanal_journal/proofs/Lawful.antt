@@ -7,8 +7,8 @@ use Rattle.kanal_core.specs.declared.internal.outcome.Outcome.{Outcome}
 use Rattle.kanal_core.specs.Line.{is_at, tickets, under, over, buffered}
 use Rattle.kanal_events.specs.declared.event.Event.{Event}
 use Rattle.kanal_journal.specs.declared.journal.report.Settlement.{Settlement}
-use Rattle.kanal_journal.specs.Runs.{Account, Leads, opening, numbered}
-use Rattle.kanal_journal.specs.Paired.{along, withdrawn, kept, demands}
+use Rattle.kanal_journal.specs.Runs.{Account, Leads, opening_account, numbered}
+use Rattle.kanal_journal.specs.Paired.{along, withdrawn_ticket, kept, demands}
 use Rattle.kanal_journal.specs.Weights.{weigh}
 use Rattle.kanal_journal.specs.Laws.{told_history, settled_times, withdrawn_times}
 use Rattle.kanal_journal.proofs.Sends.{along-last}
@@ -68,9 +68,9 @@ module _ {T : Type 0} where
   numbered-tickets n [] = refl
   numbered-tickets n (s ∷ ss) = ap (λ ts. s.0 ∷ ts) (numbered-tickets n ss)
 
-  module _ (capacity : Option ℕ) (events : List (Event T)) (a : Account T) (l : Leads (opening capacity) events a) where
+  module _ (capacity : Option ℕ) (events : List (Event T)) (a : Account T) (l : Leads (opening_account capacity) events a) where
     pub holds-after : Holds (told_history events a) a.line
-    holds-after = holds-along [] (opening capacity) a events (holds-opening capacity) l
+    holds-after = holds-along [] (opening_account capacity) a events (holds-opening capacity) l
 
     pub one-side : (a.line.line ≡ []) ⊎ (a.line.demands ≡ [])
     one-side = holds-after.one
@@ -83,7 +83,7 @@ module _ {T : Type 0} where
 
   -- what was settled, what was withdrawn and what waits weigh no more than the tickets that were given
   abbrev IsWithinGiven : ℕ → List (Event T) → Account T → Type 0
-  IsWithinGiven t past a = weigh (is_one t) (map (λ (s : Settlement T). s.ticket) a.settled) + weigh (is_one t) (along withdrawn past a.replies) + weigh (is_one t) (waits a.line) ≤ upto (is_one t) a.line.next
+  IsWithinGiven t past a = weigh (is_one t) (map (λ (s : Settlement T). s.ticket) a.settled) + weigh (is_one t) (along withdrawn_ticket past a.replies) + weigh (is_one t) (waits a.line) ≤ upto (is_one t) a.line.next
 
   within-given : (t : ℕ) (past : List (Event T)) (a b : Account T) (events : List (Event T)) → Holds (told_history past a) a.line → IsWithinGiven t past a → Leads a events b → IsWithinGiven t (past ++ events) b
   within-given t past a b [] now w l = let P : Account T → Type 0 = IsWithinGiven t (past ++ []) in subst P (sym l) (rw (append-nil past) w)
@@ -95,8 +95,8 @@ module _ {T : Type 0} where
       let k = (told-counts g a.line below a.handles e told l.1.1).settled in
       let settled : weigh g (map (λ (s : Settlement T). s.ticket) (a.settled ++ numbered n told.settled)) ≡ weigh g (map (λ (s : Settlement T). s.ticket) a.settled) + weigh g (tickets_of told.settled) =
       ap (weigh g) (map-append (λ (s : Settlement T). s.ticket) a.settled (numbered n told.settled)) ∙ (weigh-append g (map (λ (s : Settlement T). s.ticket) a.settled) (map (λ (s : Settlement T). s.ticket) (numbered n told.settled)) ∙ ap (λ xs. weigh g (map (λ (s : Settlement T). s.ticket) a.settled) + weigh g xs) (numbered-tickets n told.settled)) in
-      let gone : weigh g (along withdrawn (past ++ e ∷ []) (a.replies ++ told.reply ∷ [])) ≡ weigh g (along withdrawn past a.replies) + weigh g (withdrawn e told.reply) =
-      ap (weigh g) (along-last withdrawn past a.replies e told.reply now.same) ∙ weigh-append g (along withdrawn past a.replies) (withdrawn e told.reply) in
+      let gone : weigh g (along withdrawn_ticket (past ++ e ∷ []) (a.replies ++ told.reply ∷ [])) ≡ weigh g (along withdrawn_ticket past a.replies) + weigh g (withdrawn_ticket e told.reply) =
+      ap (weigh g) (along-last withdrawn_ticket past a.replies e told.reply now.same) ∙ weigh-append g (along withdrawn_ticket past a.replies) (withdrawn_ticket e told.reply) in
       let P : Account T → Type 0 = IsWithinGiven t (past ++ e ∷ []) in
       let Q : Account T → Type 0 = λ x. Holds (told_history (past ++ e ∷ []) x) x.line in
       let next : P l.0 = subst P (sym l.1.2) (omega (arith, w, k, settled, gone)) in
@@ -105,7 +105,7 @@ module _ {T : Type 0} where
       subst R (append_assoc past (e ∷ []) es) (within-given t (past ++ e ∷ []) l.0 b es holds next l.2)
 
   -- a ticket ends once at most
-  pub ends-once : (capacity : Option ℕ) (events : List (Event T)) (a : Account T) → Leads (opening capacity) events a → (t : ℕ) → settled_times t a.settled + withdrawn_times t events a.replies ≤ 1
+  pub ends-once : (capacity : Option ℕ) (events : List (Event T)) (a : Account T) → Leads (opening_account capacity) events a → (t : ℕ) → settled_times t a.settled + withdrawn_times t events a.replies ≤ 1
   ends-once capacity events a l t =
-      let w = within-given t [] (opening capacity) a events (holds-opening capacity) (omega arith) l in
-      omega (arith, w, upto-once t a.line.next, settled-weigh t a.settled, count-weighs t (along withdrawn events a.replies))
+      let w = within-given t [] (opening_account capacity) a events (holds-opening capacity) (omega arith) l in
+      omega (arith, w, upto-once t a.line.next, settled-weigh t a.settled, count-weighs t (along withdrawn_ticket events a.replies))

@@ -5,18 +5,19 @@ use Rattle.std.proofs.lemmas.List.{length-map}
 use Rattle.kanal_core.specs.declared.internal.outcome.Outcome.{Outcome}
 use Rattle.kanal_core.specs.Line.{LineEntry, Line, bare, tickets, under}
 use Rattle.kanal_core.specs.declared.internal.outcome.Ticket.{Ticket}
-use Rattle.kanal_core.specs.Channel.{Channel, line_of}
+use Rattle.kanal_core.specs.Channel.{ChannelView, line_of}
 use Rattle.kanal_journal.specs.declared.journal.handles.Handles.{Handles}
 use Rattle.kanal_events.specs.declared.event.Event.{Event}
 use Rattle.kanal_events.specs.declared.event.Event.TheVariants.{CloneTx, CloneRx, DropTx, DropRx}
 use Rattle.kanal_events.specs.declared.event.Reply.{Reply}
 use Rattle.kanal_journal.specs.declared.journal.report.Settlement.{Settlement}
 use Rattle.kanal_journal.specs.declared.journal.running.Running.{Running}
-use Rattle.kanal_journal.specs.Runs.{Account, AccountStep, added, numbered as with_number, handles_after, opening, opening_line}
+use Rattle.kanal_journal.specs.Runs.{Account, AccountStep, added, numbered as with_number, handles_after, opening_account, opening_line}
 use Rattle.kanal_journal.specs.Given.{AreGiven, waiting_count}
 use Rattle.kanal_events.specs.Steps.{is_done}
 use Rattle.kanal_events.specs.StepResult.{told_of, reply_of, settled_of, drained_of, cleared_of}
-use Rattle.kanal_journal.specs.StepResult.{StepResult, ServedPost}
+use Rattle.kanal_events.specs.declared.step_result.StepResult.{StepResult}
+use Rattle.kanal_journal.specs.StepResult.{ServedPost}
 use Rattle.kanal_journal.specs.Running.{RunningStep, IsOpened, IsWithinEvents, IsSame, account_of}
 use Rattle.kanal_journal.proofs.Counting.{told-counts, told-count}
 use Rattle.kanal_journal.proofs.Numbering.{numbered-more}
@@ -76,7 +77,7 @@ module _ {T : Type 0} where
   few-more handles e r = (omega arith, omega arith)
 
   -- what an answered event settles, drains and clears is within what waited and what the line held
-  pub answered-counts : (handles : Handles) (old new : Line T) (e : Event T) (before after : List T) (made : StepResult T) → tickets (under old.capacity old.line) ≡ [] → ServedPost handles old e new before after made
+  pub answered-counts : (handles : Handles) (old new : Line T) (e : Event T) (before after : List T) (made : StepResult T (Unit {0})) → tickets (under old.capacity old.line) ≡ [] → ServedPost handles old e new before after made
       → (length (settled_of made) + waiting_count new + old.next ≤ waiting_count old + new.next) × (length after + length new.line ≤ length before + length old.line + 1) × (length (cleared_of made) + length new.line ≤ length old.line + 1)
   answered-counts handles old new e before after made below is =
       let k = told-counts (λ x. 1) old below handles e (told_of new made) is.told in
@@ -105,17 +106,17 @@ module _ {T : Type 0} where
   pub same-within : (n : ℕ) (old new : Running T) → IsSame old new → IsWithinEvents n old → IsWithinEvents n new
   same-within n old new same within =
       let N : List Ticket → Type 0 = λ ts. AreGiven ts old.core in
-      let C : Channel T (Unit {0}) → Type 0 = λ k. AreGiven new.tickets.items k in
+      let C : ChannelView T (Unit {0}) → Type 0 = λ k. AreGiven new.tickets.items k in
       within-same n [] old new (same-told [] old new same) (subst C (sym same.core) (subst N (sym same.tickets) within.tickets)) within
 
   -- nothing was told yet on a new channel
-  pub opened-told : (capacity : Option ℕ) (r : Running T) → IsOpened capacity r → account_of [] r ≡ opening capacity
+  pub opened-told : (capacity : Option ℕ) (r : Running T) → IsOpened capacity r → account_of [] r ≡ opening_account capacity
   opened-told capacity r opened =
       same-account (line_of r.core) (opening_line capacity) r.handles (record { tx = 1; rx = 1 }) [] [] r.settled.items [] r.drained.items [] r.cleared.items []
       (ap line_of opened.core) opened.handles refl opened.settled opened.drained opened.cleared
 
   -- one event more brings no more than one event can
-  pub within-next : (n : ℕ) (old new : Running T) (e : Event T) (made : StepResult T) → tickets (under old.core.capacity (line_of old.core).line) ≡ [] → IsWithinEvents n old
+  pub within-next : (n : ℕ) (old new : Running T) (e : Event T) (made : StepResult T (Unit {0})) → tickets (under old.core.capacity (line_of old.core).line) ≡ [] → IsWithinEvents n old
       → ServedPost old.handles (line_of old.core) e (line_of new.core) old.drained.items new.drained.items made → new.handles ≡ handles_after old.handles e (reply_of made)
       → AreGiven new.tickets.items new.core → length new.tickets.items ≤ length old.tickets.items + 1
       → new.settled.items ≡ old.settled.items ++ with_number n (settled_of made) → new.cleared.items ≡ old.cleared.items ++ cleared_of made → IsWithinEvents (n + 1) new

@@ -12,7 +12,7 @@ use Rattle.kanal_events.specs.declared.event.Refusal.TheVariants.{Closed as ByCl
 use Rattle.kanal_events.specs.declared.event.Reply.{Reply}
 use Rattle.kanal_events.specs.declared.event.Reply.TheVariants.{Sent, Waits, Yes, No, Got, Nothing, Drained, Withdrawn, Done, Cleared, Number, Flag, Refused}
 use Rattle.kanal_events.specs.Steps.{StepSpec, IsWait, only, moving, offer, take as take_told, take_front, nothing_there, wait, withdraw, take_line, seal_line, shut, step, refused}
-use Rattle.kanal_journal.specs.Runs.{Account, Answers, Leads, AccountStep, opening, has_handle, has_side}
+use Rattle.kanal_journal.specs.Runs.{Account, TellsWith, Leads, AccountStep, opening_account, has_handle, has_side}
 use Rattle.kanal_journal.specs.Laws.{is_receive, tells_end, tells_end_or_no_handle, AreOver, StaysOver}
 use Rattle.kanal_core.proofs.Within.{under-nothing}
 use Rattle.kanal_journal.proofs.Standing.{told-zero}
@@ -52,7 +52,7 @@ module _ {T : Type 0} where
     waits-on (Refused reason back) w = elim w [ ]
 
     -- each receive is told that nothing will come
-    pub over-told : (e : Event T) (told : StepSpec T) → IsOver l → Answers hs l e told → is_receive e ≡ true → tells_end_or_no_handle told.reply ≡ true
+    pub over-told : (e : Event T) (told : StepSpec T) → IsOver l → TellsWith hs l e told → is_receive e ≡ true → tells_end_or_no_handle told.reply ≡ true
     over-told Recv told over (inl is) p =
         elim (cases_Bool (has_side hs Rx)) [
           | inl x ↦ take-over (wait l (wait_recv l) None) over told (is ∙ rw x refl)
@@ -175,7 +175,7 @@ module _ {T : Type 0} where
     still-empty Terminated = empty
 
   -- what is over stays so
-  over-next : (l : Line T) (hs : Handles) (e : Event T) (told : StepSpec T) → IsOver l → Answers hs l e told → IsOver told.line
+  over-next : (l : Line T) (hs : Handles) (e : Event T) (told : StepSpec T) → IsOver l → TellsWith hs l e told → IsOver told.line
   over-next l hs e told (inl none) is = inl ((told-zero l hs e told is).1 none)
   over-next l hs e told (inr over) (inl is) =
       elim (cases_Bool (has_handle hs e)) [
@@ -204,7 +204,7 @@ module _ {T : Type 0} where
       record { replies = told.reply ∷ rest.replies; is = more-replies a l.0 e l.1 rest.replies b.replies rest.is; over = (over-told a.line a.handles e told over l.1.1, rest.over) }
 
   -- a receive that is told of an end finds that nothing will come
-  end-over : (l : Line T) (hs : Handles) (e : Event T) (told : StepSpec T) → Answers hs l e told → is_receive e ≡ true → tells_end told.reply ≡ true → IsOver l
+  end-over : (l : Line T) (hs : Handles) (e : Event T) (told : StepSpec T) → TellsWith hs l e told → is_receive e ≡ true → tells_end told.reply ≡ true → IsOver l
   end-over l hs e told (inr is) p end = absurd (false≢true (rw is.2 at end))
   end-over l hs e told (inl is) p end =
       elim (cases_Bool (has_handle hs e)) [
@@ -259,5 +259,5 @@ module _ {T : Type 0} where
       same-rest [] ys zs h = h
       same-rest (x ∷ xs) ys zs h = same-rest xs ys zs (cc)
 
-  pub final-after : (capacity : Option ℕ) (events : List (Event T)) (a : Account T) → Leads (opening capacity) events a → StaysOver events a.replies
-  final-after capacity events a l = let k = final-along (opening capacity) a events l in subst (StaysOver events) (sym k.is) k.final
+  pub final-after : (capacity : Option ℕ) (events : List (Event T)) (a : Account T) → Leads (opening_account capacity) events a → StaysOver events a.replies
+  final-after capacity events a l = let k = final-along (opening_account capacity) a events l in subst (StaysOver events) (sym k.is) k.final

@@ -14,9 +14,9 @@ use Rattle.kanal_events.specs.declared.event.Reply.{Reply}
 use Rattle.kanal_events.specs.declared.event.Reply.TheVariants.{Refused}
 use Rattle.kanal_journal.specs.declared.journal.recorder.Entry.{Entry}
 use Rattle.kanal_events.specs.Steps.{StepSpec, message_of, refused, no_memory, is_no_memory}
-use Rattle.kanal_journal.specs.Runs.{Account, Leads, added, made, opening, handles_after}
+use Rattle.kanal_journal.specs.Runs.{Account, Leads, added, made, opening_account, handles_after}
 use Rattle.kanal_journal.specs.Paired.{Paired, until, rest}
-use Rattle.kanal_journal.specs.Replays.{Recording, Replays, Records, events_of, replies_of, next, played, history_of, longer}
+use Rattle.kanal_journal.specs.Replays.{Recording, Replays, Records, events_of, replies_of, next_account, played, recorded_history, longer}
 use Rattle.kanal_journal.specs.Running.{RunningStep, IsWithinEvents, IsSame, account_of}
 use Rattle.kanal_journal.specs.Recorders.{RecorderIsSound, journal_of, recording_of}
 use Rattle.kanal_journal.specs.declared.journal.recorder.Recorder.{Recorder}
@@ -28,31 +28,31 @@ use Rattle.kanal_journal.proofs.Regular.{made-regular}
 module _ {T : Type 0} where
   leads-played : (a : Account T) (es : List (Event T)) → Leads a es (played a es)
   leads-played a [] = refl
-  leads-played a (e ∷ es) = (next a e, (made a.handles a.line e, inl refl, refl), leads-played (next a e) es)
+  leads-played a (e ∷ es) = (next_account a e, (made a.handles a.line e, inl refl, refl), leads-played (next_account a e) es)
 
   -- the events of a journal that replays lead to its end
-  pub replays-leads : (c : Option ℕ) (entries : List (Entry T)) (end : Account T) → Replays c entries end → Leads (opening c) (events_of entries) end
-  replays-leads c entries end r = subst (Leads (opening c) (events_of entries)) r.ends (leads-played (opening c) (events_of entries))
+  pub replays-leads : (c : Option ℕ) (entries : List (Entry T)) (end : Account T) → Replays c entries end → Leads (opening_account c) (events_of entries) end
+  replays-leads c entries end r = subst (Leads (opening_account c) (events_of entries)) r.ends (leads-played (opening_account c) (events_of entries))
 
-  played-append : (a : Account T) (es : List (Event T)) (e : Event T) → played a (es ++ e ∷ []) ≡ next (played a es) e
+  played-append : (a : Account T) (es : List (Event T)) (e : Event T) → played a (es ++ e ∷ []) ≡ next_account (played a es) e
   played-append a [] e = refl
-  played-append a (x ∷ es) e = played-append (next a x) es e
+  played-append a (x ∷ es) e = played-append (next_account a x) es e
 
   -- a journal that replays is paired at every cut
-  pub replays-paired : (r : Recording T) → Replays r.capacity r.entries r.account → (n : ℕ) → Paired (until n (history_of r))
+  pub replays-paired : (r : Recording T) → Replays r.capacity r.entries r.account → (n : ℕ) → Paired (until n (recorded_history r))
   replays-paired r k n = rw (sym k.replies) (paired-at r.capacity (events_of r.entries) r.account (replays-leads r.capacity r.entries r.account k) n)
 
   -- what its line holds is the rest of the kept messages
-  pub replays-left : (r : Recording T) → Replays r.capacity r.entries r.account → messages r.account.line.line ≡ rest (history_of r)
+  pub replays-left : (r : Recording T) → Replays r.capacity r.entries r.account → messages r.account.line.line ≡ rest (recorded_history r)
   replays-left r k =
       let l = replays-leads r.capacity r.entries r.account k in
       let es = events_of r.entries in
-      rw (sym k.replies) (rest-left (told_history es r.account) r.account.line (holds-along [] (opening r.capacity) r.account es (holds-opening r.capacity) l))
+      rw (sym k.replies) (rest-left (told_history es r.account) r.account.line (holds-along [] (opening_account r.capacity) r.account es (holds-opening r.capacity) l))
 
-  pub replays-more : (c : Option ℕ) (entries : List (Entry T)) (a : Account T) (x : Entry T) → Replays c entries a → x.reply ≡ (made a.handles a.line x.event).reply → Replays c (entries ++ x ∷ []) (next a x.event)
+  pub replays-more : (c : Option ℕ) (entries : List (Entry T)) (a : Account T) (x : Entry T) → Replays c entries a → x.reply ≡ (made a.handles a.line x.event).reply → Replays c (entries ++ x ∷ []) (next_account a x.event)
   replays-more c entries a x r is =
       record {
-        ends = ap (played (opening c)) (map-append (λ (e : Entry T). e.event) entries (x ∷ [])) ∙ (played-append (opening c) (events_of entries) x.event ∙ ap (λ b. next b x.event) r.ends);
+        ends = ap (played (opening_account c)) (map-append (λ (e : Entry T). e.event) entries (x ∷ [])) ∙ (played-append (opening_account c) (events_of entries) x.event ∙ ap (λ b. next_account b x.event) r.ends);
         replies = ap (λ rs. rs ++ (made a.handles a.line x.event).reply ∷ []) r.replies ∙ (ap (λ y. replies_of entries ++ y ∷ []) (sym is) ∙ sym (map-append (λ (e : Entry T). e.reply) entries (x ∷ [])));
       }
 
@@ -78,7 +78,7 @@ module _ {T : Type 0} where
         ]
 
     -- otherwise the line's own step was made
-    noted-made : is_no_memory reply ≡ false → (reply ≡ (made old.handles (line_of old.core) e).reply) × (account_of (replies ++ reply ∷ []) new ≡ next (account_of replies old) e)
+    noted-made : is_no_memory reply ≡ false → (reply ≡ (made old.handles (line_of old.core) e).reply) × (account_of (replies ++ reply ∷ []) new ≡ next_account (account_of replies old) e)
     noted-made w =
         elim noted.answers [
           | inl p ↦ (noted.replied ∙ ap (λ (t : StepSpec T). t.reply) p, noted-all replies old new e reply noted ∙ ap (λ (t : StepSpec T). added (account_of replies old) e t) p)
@@ -86,7 +86,7 @@ module _ {T : Type 0} where
         ]
 
   longer-is : (c c' : Option ℕ) (entries entries' : List (Entry T)) (a b : Account T) (party : ℕ) (e : Event T) (reply : Reply T)
-      → c' ≡ c → entries' ≡ entries ++ record { party = party; event = e; reply = reply } ∷ [] → b ≡ next a e
+      → c' ≡ c → entries' ≡ entries ++ record { party = party; event = e; reply = reply } ∷ [] → b ≡ next_account a e
       → ◌≡◌ {A = Recording T} (record { capacity = c'; entries = entries'; account = b }) (longer (record { capacity = c; entries = entries; account = a }) party e reply)
   longer-is c c' entries entries' a b party e reply p q r = cc
 
@@ -112,7 +112,7 @@ module _ {T : Type 0} where
       entered more said is =
           let m = noted-made (replies_of entries) start mid e reply counted said in
           let rs : replies_of more ≡ replies_of entries ++ reply ∷ [] = ap replies_of is ∙ map-append (λ (x : Entry T). x.reply) entries (record { party = party; event = e; reply = reply } ∷ []) in
-          let end : account_of (replies_of more) mid ≡ next (account_of (replies_of entries) start) e = ap (λ ys. account_of ys mid) rs ∙ m.1 in
+          let end : account_of (replies_of more) mid ≡ next_account (account_of (replies_of entries) start) e = ap (λ ys. account_of ys mid) rs ∙ m.1 in
           let capacity : mid.core.capacity ≡ start.core.capacity = ap (λ (a : Account T). a.line.capacity) m.1 ∙ (made-regular (line_of start.core) start.handles e).capacity in
           longer-is start.core.capacity mid.core.capacity entries more (account_of (replies_of entries) start) (account_of (replies_of more) mid) party e reply capacity is end
 

@@ -16,7 +16,7 @@ use Rattle.kanal_events.specs.declared.event.Reply.{Reply}
 use Rattle.kanal_events.specs.declared.event.Reply.TheVariants.{Sent, Waits, Yes, No, Got, Nothing, Drained, Withdrawn, Done, Cleared, Flag, Refused}
 use Rattle.kanal_journal.specs.declared.journal.report.Settlement.{Settlement}
 use Rattle.kanal_events.specs.Steps.{StepSpec, only, moving, offer, take as take_told, take_front, nothing_there, wait, withdraw, seal_line, shut, take_line, cloned, answer, message_of, step, refused}
-use Rattle.kanal_journal.specs.Runs.{Account, Answers, Leads, opening, has_handle, numbered}
+use Rattle.kanal_journal.specs.Runs.{Account, TellsWith, Leads, opening_account, has_handle, numbered}
 use Rattle.kanal_journal.specs.Laws.{AreRising, WaitByPlace, without_ticket, settled_at, told_history}
 use Rattle.kanal_journal.proofs.Settling.{AllBare, AllWait, IsSeated, under-over}
 use Rattle.kanal_journal.proofs.Seats.{tickets_seated}
@@ -271,7 +271,7 @@ module _ {T : Type 0} where
     step-order (Asks side ask) = still (answer l side ask)
     step-order Terminated = still (Flag ((l.senders == 0) && (length l.line == 0)))
 
-    pub told-order : (handles : Handles) (e : Event T) (told : StepSpec T) → Answers handles l e told → KeepsOrder l told
+    pub told-order : (handles : Handles) (e : Event T) (told : StepSpec T) → TellsWith handles l e told → KeepsOrder l told
     told-order handles e told (inl is) =
         elim (cases_Bool (has_handle handles e)) [
           | inl x ↦ to told (step l e) (is ∙ rw x refl) (step-order e)
@@ -337,8 +337,8 @@ module _ {T : Type 0} where
       } in
       order-along (past ++ e ∷ []) l.0 b es holds next l.2
 
-  pub ordered : (capacity : Option ℕ) (events : List (Event T)) (a : Account T) → Leads (opening capacity) events a → InOrder a
-  ordered capacity events a l = order-along [] (opening capacity) a events (holds-opening capacity) (record { waits = omega arith; before = tt; settled = λ n. omega arith }) l
+  pub ordered : (capacity : Option ℕ) (events : List (Event T)) (a : Account T) → Leads (opening_account capacity) events a → InOrder a
+  ordered capacity events a l = order-along [] (opening_account capacity) a events (holds-opening capacity) (record { waits = omega arith; before = tt; settled = λ n. omega arith }) l
 
   -- behind the capacity each entry waits
   all-wait : (c place : ℕ) (xs : List (LineEntry T)) → c ≤ place → AllWait xs → WaitByPlace (Some c) place xs

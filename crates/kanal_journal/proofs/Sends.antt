@@ -9,7 +9,7 @@ use Rattle.kanal_core.specs.declared.internal.outcome.Outcome.{Outcome}
 use Rattle.kanal_core.specs.declared.internal.outcome.Outcome.TheVariants.{Taken}
 use Rattle.kanal_journal.specs.declared.journal.report.Settlement.{Settlement}
 use Rattle.kanal_core.specs.Line.{LineEntry, bare}
-use Rattle.kanal_journal.specs.Paired.{History, along, sent, withdrawn, is_ended, is_gone, send_stays}
+use Rattle.kanal_journal.specs.Paired.{PairedHistory, along, sent, withdrawn_ticket, is_ended, is_gone, send_stays}
 
 pub along-last : {E R X : Type 0} (f : E → R → List X) (es : List E) (rs : List R) (e : E) (r : R) → length es ≡ length rs → along f (es ++ e ∷ []) (rs ++ r ∷ []) ≡ along f es rs ++ f e r
 along-last f [] [] e r h = append-nil (f e r)
@@ -25,12 +25,12 @@ or_swap false false c d = refl
 
 module _ {T : Type 0} where
   -- the history with one more step
-  abbrev pub longer : History T → Event T → Reply T → List (Settlement T) → List T → History T
+  abbrev pub longer : PairedHistory T → Event T → Reply T → List (Settlement T) → List T → PairedHistory T
   longer h e r ss ms = record { events = h.events ++ e ∷ []; replies = h.replies ++ r ∷ []; settled = h.settled ++ ss; drained = h.drained ++ ms }
 
   -- this step withdraws or ends the ticket
   abbrev pub goes : Event T → Reply T → List (Settlement T) → ℕ → Bool
-  goes e r ss t = list_any (λ u. u == t) (withdrawn e r) || list_any (λ s. (s.ticket == t) && is_ended s.outcome) ss
+  goes e r ss t = list_any (λ u. u == t) (withdrawn_ticket e r) || list_any (λ s. (s.ticket == t) && is_ended s.outcome) ss
 
   abbrev pub is_take : Outcome T → Bool
   is_take Taken = true
@@ -47,7 +47,7 @@ module _ {T : Type 0} where
   abbrev pub entry_at : List (Settlement T) → T × Option ℕ → LineEntry T
   entry_at ss s = record { message = s.0; ticket = ticket_at ss s.1 }
 
-  abbrev pub entries : History T → List (LineEntry T)
+  abbrev pub entries : PairedHistory T → List (LineEntry T)
   entries h = map (entry_at h.settled) (filter (send_stays h) (along sent h.events h.replies))
 
   -- one step's effect on an entry
@@ -61,11 +61,11 @@ module _ {T : Type 0} where
   abbrev pub fresh : T × Option ℕ → LineEntry T
   fresh s = record { message = s.0; ticket = s.1 }
 
-  module _ (h : History T) (e : Event T) (r : Reply T) (ss : List (Settlement T)) (ms : List T) (same : length h.events ≡ length h.replies) where
+  module _ (h : PairedHistory T) (e : Event T) (r : Reply T) (ss : List (Settlement T)) (ms : List T) (same : length h.events ≡ length h.replies) where
     pub gone-last : (t : ℕ) → is_gone (longer h e r ss ms) t ≡ (is_gone h t || goes e r ss t)
     gone-last t =
-        rw (along-last withdrawn h.events h.replies e r same, list_any-append, list_any-append)
-        (or_swap (list_any (λ u. u == t) (along withdrawn h.events h.replies)) (list_any (λ u. u == t) (withdrawn e r)) (list_any (λ s. (s.ticket == t) && is_ended s.outcome) h.settled) (list_any (λ s. (s.ticket == t) && is_ended s.outcome) ss))
+        rw (along-last withdrawn_ticket h.events h.replies e r same, list_any-append, list_any-append)
+        (or_swap (list_any (λ u. u == t) (along withdrawn_ticket h.events h.replies)) (list_any (λ u. u == t) (withdrawn_ticket e r)) (list_any (λ s. (s.ticket == t) && is_ended s.outcome) h.settled) (list_any (λ s. (s.ticket == t) && is_ended s.outcome) ss))
 
     pub taken-last : (t : ℕ) → was_taken (h.settled ++ ss) t ≡ (was_taken h.settled t || was_taken ss t)
     taken-last t = list_any-append _ h.settled ss

@@ -18,7 +18,7 @@ use Rattle.kanal_journal.specs.declared.journal.report.Settlement.{Settlement}
 use Rattle.kanal_core.specs.Line.{LineEntry, bare, messages, tickets, has, under, over, holds_ticket, is_ticket}
 use Rattle.kanal_core.specs.Moves.{seated, ended_entry}
 use Rattle.kanal_journal.specs.Runs.{numbered}
-use Rattle.kanal_journal.specs.Paired.{Later, withdrawn, is_ended}
+use Rattle.kanal_journal.specs.Paired.{Later, withdrawn_ticket, is_ended}
 use Rattle.kanal_journal.proofs.Sends.{goes, was_taken, later, ticket_at, ticket_stays}
 use Rattle.kanal_journal.proofs.Slots.{slot_stays, answered}
 
@@ -85,7 +85,7 @@ module _ {T : Type 0} where
   seated_all [] = refl
   seated_all (x ∷ xs) = ap (λ ys. bare x.message ∷ ys) (seated_all xs)
 
-  module _ (e : Event T) (r : Reply T) (none : withdrawn e r ≡ []) where
+  module _ (e : Event T) (r : Reply T) (none : withdrawn_ticket e r ≡ []) where
     -- a step without settlements leaves all that waits as it is
     goes_none : (t : ℕ) → goes e r [] t ≡ false
     goes_none t = rw none
@@ -115,7 +115,7 @@ module _ (T : Type 0) (n : ℕ) where
   none_ends [] t = refl
   none_ends (u ∷ ts) t = rw (and_false (u == t), none_ends ts t)
 
-  module _ (e : Event T) (r : Reply T) (none : withdrawn e r ≡ []) (ts : List ℕ) where
+  module _ (e : Event T) (r : Reply T) (none : withdrawn_ticket e r ≡ []) (ts : List ℕ) where
     stays_takes : (o : Option ℕ) → ticket_stays e r (takes ts) o ≡ true
     stays_takes None = refl
     stays_takes (Some t) = rw (none, none_ends ts t)
@@ -142,7 +142,7 @@ module _ (T : Type 0) (n : ℕ) where
   later_left ts (x ∷ xs) h = rw (ticket_left ts x.ticket (tickets xs) h) (ap (λ ys. x ∷ ys) (later_left ts xs (λ t g. h t (has_option t x.ticket (tickets xs) g))))
 
   -- those that leave, and those whose place falls below the capacity, are served or seated; the others wait on
-  pub taken_move : (e : Event T) (r : Reply T) → withdrawn e r ≡ [] → (gone rest : List (LineEntry T)) (c : Option ℕ) → AreApart (tickets (gone ++ rest))
+  pub taken_move : (e : Event T) (r : Reply T) → withdrawn_ticket e r ≡ [] → (gone rest : List (LineEntry T)) (c : Option ℕ) → AreApart (tickets (gone ++ rest))
       → map (later (takes (tickets (gone ++ under c rest)))) (filter (λ x. ticket_stays e r (takes (tickets (gone ++ under c rest))) x.ticket) (gone ++ rest)) ≡ map bare (messages gone) ++ seated c rest
   taken_move e r none gone rest c apart =
       let a : List (LineEntry T) = gone ++ under c rest in
@@ -206,7 +206,7 @@ module _ {T : Type 0} where
       rw kept (bare_later ss (under c line) seated.0)
 
   -- the demand that is first gets the message, the others wait on
-  pub given_other : (d : ℕ) (m : T) (n : ℕ) (ts : List ℕ) (e : Event T) (r : Reply T) → withdrawn e r ≡ [] → has d ts ≡ false
+  pub given_other : (d : ℕ) (m : T) (n : ℕ) (ts : List ℕ) (e : Event T) (r : Reply T) → withdrawn_ticket e r ≡ [] → has d ts ≡ false
       → map (answered (numbered n ((d, Given m) ∷ []))) (filter (slot_stays e r (numbered n ((d, Given m) ∷ []))) (map Later ts)) ≡ map Later ts
   given_other d m n [] e r none h = refl
   given_other d m n (t ∷ ts) e r none h =

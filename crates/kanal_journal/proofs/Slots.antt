@@ -7,7 +7,7 @@ use mathlib.Core.List.{map-append}
 use Rattle.kanal_events.specs.declared.event.Event.{Event}
 use Rattle.kanal_events.specs.declared.event.Reply.{Reply}
 use Rattle.kanal_journal.specs.declared.journal.report.Settlement.{Settlement}
-use Rattle.kanal_journal.specs.Paired.{History, Demand, AtOnce, Later, Next, along, sent, asked, is_gone, send_stays, demand_stays, demands, given, gift, receipts_from}
+use Rattle.kanal_journal.specs.Paired.{PairedHistory, Demand, AtOnce, Later, Next, along, sent, asked, is_gone, send_stays, demand_stays, demands, given, gift, receipts_from}
 use Rattle.kanal_journal.proofs.Sends.{along-last, longer, goes, gone-last, entries, entry_at, entries_old, was_taken, later, ticket_stays, fresh}
 
 module _ {T : Type 0} where
@@ -72,10 +72,10 @@ module _ {T : Type 0} where
   answered ss (AtOnce m) = AtOnce m
   answered ss Next = Next
 
-  abbrev pub slots : History T → List (Demand T)
+  abbrev pub slots : PairedHistory T → List (Demand T)
   slots h = resolve h.settled (demands h) h.drained
 
-  module _ (h : History T) (e : Event T) (r : Reply T) (ss : List (Settlement T)) (ms : List T) (same : length h.events ≡ length h.replies) where
+  module _ (h : PairedHistory T) (e : Event T) (r : Reply T) (ss : List (Settlement T)) (ms : List T) (same : length h.events ≡ length h.replies) where
     module _ (once : (t : ℕ) (m : T) → given h.settled t ≡ Some m → goes e r ss t ≡ false) where
       slot_last : (t : ℕ) (o : Option T) → given h.settled t ≡ o → (xs ys : List (Demand T)) → xs ≡ map (answered ss) (filter (slot_stays e r ss) ys) → goes e r ss t ≡ false
           → slot_of t (given (h.settled ++ ss) t) ∷ xs ≡ map (answered ss) (filter (slot_stays e r ss) (slot_of t o ∷ ys))

@@ -12,7 +12,7 @@ use Rattle.kanal_events.specs.declared.event.Refusal.TheVariants.{Closed as ByCl
 use Rattle.kanal_events.specs.declared.event.Reply.{Reply}
 use Rattle.kanal_events.specs.declared.event.Reply.TheVariants.{Sent, Waits, Yes, No, Nothing, Drained, Withdrawn, Done, Cleared, Flag, Refused}
 use Rattle.kanal_events.specs.Steps.{StepSpec, only, moving, offer, take as take_told, take_front, nothing_there, wait, withdraw, seal_line, shut, take_line, answer, message_of, step, refused}
-use Rattle.kanal_journal.specs.Runs.{Account, Answers, Leads, has_handle}
+use Rattle.kanal_journal.specs.Runs.{Account, TellsWith, Leads, has_handle}
 use Rattle.kanal_journal.proofs.Regular.{made-regular}
 
 pub raised-zero : (k : ℕ) → k ≡ 0 → raised k ≡ 0
@@ -209,7 +209,7 @@ module _ {T : Type 0} where
     step-zero Terminated = plain-zero Terminated refl
 
     -- each event keeps it
-    pub told-zero : (hs : Handles) (e : Event T) (told : StepSpec T) → Answers hs l e told → StaysZero l told.line
+    pub told-zero : (hs : Handles) (e : Event T) (told : StepSpec T) → TellsWith hs l e told → StaysZero l told.line
     told-zero hs e told (inl is) =
         elim (cases_Bool (has_handle hs e)) [
           | inl x ↦ go_to told (step l e) (is ∙ rw x refl) (step-zero e)
@@ -227,7 +227,7 @@ module _ {T : Type 0} where
       let rest = zero-along l.0 b es l.2 in
       (λ z. rest.0 (mid.0 z), λ z. rest.1 (mid.1 z))
 
-  told-capacity : (hs : Handles) (l : Line T) (e : Event T) (told : StepSpec T) → Answers hs l e told → told.line.capacity ≡ l.capacity
+  told-capacity : (hs : Handles) (l : Line T) (e : Event T) (told : StepSpec T) → TellsWith hs l e told → told.line.capacity ≡ l.capacity
   told-capacity hs l e told (inl is) = ap (λ (t : StepSpec T). t.line.capacity) is ∙ (made-regular l hs e).capacity
   told-capacity hs l e told (inr is) = ap (λ (t : StepSpec T). t.line.capacity) is.2
 

@@ -8,7 +8,7 @@ use Rattle.kanal_events.specs.declared.event.Event.{Event}
 use Rattle.kanal_events.specs.declared.event.Reply.{Reply}
 use Rattle.kanal_journal.specs.declared.journal.report.Settlement.{Settlement}
 use Rattle.kanal_core.specs.Line.{Line, has}
-use Rattle.kanal_journal.specs.Paired.{History, Demand, AtOnce, Later, Next, along, asked, is_gone, given, demands, cleared_by}
+use Rattle.kanal_journal.specs.Paired.{PairedHistory, Demand, AtOnce, Later, Next, along, asked, is_gone, given, demands, cleared_by}
 use Rattle.kanal_journal.proofs.Sends.{along-last, was_taken, longer, goes, gone-last, taken-last}
 use Rattle.kanal_journal.proofs.Slots.{given-append, nexts}
 use Rattle.kanal_journal.proofs.Settling.{AreApart, IsSeated}
@@ -47,7 +47,7 @@ module _ {T : Type 0} where
     pub seats : IsSeated new.capacity new.line
     pub drains : nexts (asked e r) ≡ length ms
 
-  module _ (h : History T) (l : Line T) (now : Holds h l) (e : Event T) (r : Reply T) (ss : List (Settlement T)) (ms : List T) (new : Line T) (clean : Clean l e r ss ms new) where
+  module _ (h : PairedHistory T) (l : Line T) (now : Holds h l) (e : Event T) (r : Reply T) (ss : List (Settlement T)) (ms : List T) (new : Line T) (clean : Clean l e r ss ms new) where
     known_last : (t : ℕ) → is_known (longer h e r ss ms) t ≡ (is_known h t || is_now e r ss t)
     known_last t =
         rw (gone-last h e r ss ms now.same t, taken-last h e r ss ms now.same t, given-append h.settled ss t, some_or)
@@ -88,7 +88,7 @@ module _ {T : Type 0} where
         let d = clean.drains in
         omega (arith, ap nexts (along-last asked h.events h.replies e r now.same), nexts-append (along asked h.events h.replies) (asked e r), length-append h.drained ms)
 
-  module _ (h : History T) (l : Line T) (now : Holds h l) (e : Event T) (r : Reply T) (ss : List (Settlement T)) (ms : List T) (new : Line T) (move : Moves h l e r ss ms new) (clean : Clean l e r ss ms new) where
+  module _ (h : PairedHistory T) (l : Line T) (now : Holds h l) (e : Event T) (r : Reply T) (ss : List (Settlement T)) (ms : List T) (new : Line T) (move : Moves h l e r ss ms new) (clean : Clean l e r ss ms new) where
     pub holds_next : cleared_by r ≡ 0 → sum_by cleared_by h.replies ≡ 0 → Holds (longer h e r ss ms) new
     holds_next quiet z =
         record {

@@ -21,7 +21,7 @@ use Rattle.kanal_events.specs.declared.event.Refusal.TheVariants.{Closed as ByCl
 use Rattle.kanal_events.specs.declared.event.Reply.{Reply}
 use Rattle.kanal_events.specs.declared.event.Reply.TheVariants.{Sent, Waits, Yes, No, Nothing, Drained, Withdrawn, Done, Cleared, Flag, Refused}
 use Rattle.kanal_events.specs.Steps.{StepSpec, only, moving, offer, take as take_told, take_front, nothing_there, wait, withdraw, seal_line, shut, take_line, cloned, answer, step, refused}
-use Rattle.kanal_journal.specs.Runs.{Account, Leads, Answers, added, has_handle, numbered}
+use Rattle.kanal_journal.specs.Runs.{Account, Leads, TellsWith, added, has_handle, numbered}
 use Rattle.kanal_journal.specs.Weights.{weigh, event_weight, reply_weight, outcome_weight, settlement_weight}
 use Rattle.kanal_journal.proofs.Settling.{AreApart, AllBare, AllWait, IsSeated, under-over}
 use Rattle.kanal_journal.proofs.Holding.{Holds}
@@ -265,7 +265,7 @@ module _ {T : Type 0} (h : T → ℕ) where
     refused-weighs (TrySend m) reason = still (TrySend m) (Refused reason (Some m)) refl
     refused-weighs e reason = still e (Refused reason None) refl
 
-    pub told-weighs : (handles : Handles) (e : Event T) (told : StepSpec T) → Answers handles l e told → Weighs e told
+    pub told-weighs : (handles : Handles) (e : Event T) (told : StepSpec T) → TellsWith handles l e told → Weighs e told
     told-weighs handles e told (inl is) =
         elim (cases_Bool (has_handle handles e)) [
           | inl x ↦ to e told (step l e) (is ∙ rw x refl) (step-weighs e)

@@ -1,7 +1,7 @@
 -- What is kept beside the core, the tickets that were given and the live handles, and how many wait.
 use Rattle.std.specs.Prelude.{◌≡◌, ℕ, ◌+◌, ◌<◌, List, [], ◌∷◌, length}
 use Rattle.kanal_core.specs.declared.internal.outcome.Ticket.{Ticket}
-use Rattle.kanal_core.specs.Channel.{Channel}
+use Rattle.kanal_core.specs.Channel.{ChannelView}
 use Rattle.kanal_core.specs.Line.{Line, last_word, tickets}
 use Rattle.kanal_core.specs.Tickets.{number_of}
 use Rattle.kanal_events.specs.Given.{AreKept}
@@ -14,7 +14,7 @@ AreNumbered first (t ∷ ts) next = (number_of t ≡ first) × AreNumbered (firs
 
 module _ {T W : Type 0} where
   -- these are all the tickets that a channel gave
-  pub record AreGiven (given : List Ticket) (c : Channel T W) : Type 0 where
+  pub record AreGiven (given : List Ticket) (c : ChannelView T W) : Type 0 where
     pub numbered : AreNumbered 0 given c.next
     pub kept : AreKept given c.waiters
 

@@ -11,8 +11,8 @@ use Rattle.kanal_journal.specs.declared.journal.report.Settlement.{Settlement}
 use Rattle.kanal_events.specs.declared.event.Side.TheVariants.{Tx}
 use Rattle.kanal_journal.specs.declared.journal.handles.Handles.{Handles}
 use Rattle.kanal_events.specs.Steps.{StepSpec}
-use Rattle.kanal_journal.specs.Runs.{Account, Answers, Leads, opening, has_side}
-use Rattle.kanal_journal.specs.Paired.{History, history_from, along, withdrawn, kept, demands}
+use Rattle.kanal_journal.specs.Runs.{Account, TellsWith, Leads, opening_account, has_side}
+use Rattle.kanal_journal.specs.Paired.{PairedHistory, history_from, along, withdrawn_ticket, kept, demands}
 
 -- the numbers rise, from `low` on and below `next`
 abbrev pub AreRising : ℕ → List ℕ → ℕ → Type 0
@@ -38,7 +38,7 @@ module _ {T : Type 0} where
   EachStepRises settled next = (step : ℕ) → AreRising 0 (settled_at step settled) next
 
   -- the history that an account tells of these events
-  abbrev pub told_history : List (Event T) → Account T → History T
+  abbrev pub told_history : List (Event T) → Account T → PairedHistory T
   told_history events account = history_from events account.replies account.settled account.drained
 
   -- how often the ticket was settled
@@ -47,7 +47,7 @@ module _ {T : Type 0} where
 
   -- how often the ticket was withdrawn
   abbrev pub withdrawn_times : ℕ → List (Event T) → List (Reply T) → ℕ
-  withdrawn_times t events replies = length (filter (λ u. u == t) (along withdrawn events replies))
+  withdrawn_times t events replies = length (filter (λ u. u == t) (along withdrawn_ticket events replies))
 
   -- no ticket was settled and withdrawn, or one of both twice
   abbrev pub EndsOnce : List (Event T) → List (Reply T) → List (Settlement T) → Type 0
@@ -86,7 +86,7 @@ module _ {T : Type 0} where
 
   -- whatever the events may lead to on a new channel of this capacity, the account is so
   abbrev pub EachAccount : Option ℕ → List (Event T) → (Account T → Type 0) → Type 0
-  EachAccount capacity events IsSo = (a : Account T) → Leads (opening capacity) events a → IsSo a
+  EachAccount capacity events IsSo = (a : Account T) → Leads (opening_account capacity) events a → IsSo a
 
   -- the same of the line alone
   abbrev pub EachLine : Option ℕ → List (Event T) → (Line T → Type 0) → Type 0
@@ -97,7 +97,7 @@ module _ {T : Type 0} where
   HasOneSide l = (l.line ≡ []) ⊎ (l.demands ≡ [])
 
   -- the line and the kept demands are together as many as the kept messages and the demands that wait
-  abbrev pub IsBalanced : History T → Line T → Type 0
+  abbrev pub IsBalanced : PairedHistory T → Line T → Type 0
   IsBalanced h l = length l.line + length (demands h) ≡ length (kept h) + length l.demands
 
   -- a sender waits only while the buffer is full
@@ -107,17 +107,17 @@ module _ {T : Type 0} where
   -- a `TrySend` through a live handle, with a sender and a receiver left, enters exactly where there is a place, unless it is refused for memory
   abbrev pub EntersByPlace : Handles → Line T → Type 0
   EntersByPlace handles l =
-      (m : T) (told : StepSpec T) → Answers handles l (TrySend m) told → has_side handles Tx ≡ true → l.receivers ≢ 0 → l.senders ≢ 0
+      (m : T) (told : StepSpec T) → TellsWith handles l (TrySend m) told → has_side handles Tx ≡ true → l.receivers ≢ 0 → l.senders ≢ 0
       → told.reply ≢ Refused NoMemory (Some m) → told.reply ≡ Yes ↔ (has_place l ≡ true)
 
   -- where the events led to a line on which this count is 0, it is 0 after all later events, too
   abbrev pub StaysZero : Option ℕ → List (Event T) → (Line T → ℕ) → Type 0
   StaysZero capacity events count =
-      (a b : Account T) → Leads (opening capacity) events a → (later : List (Event T)) → Leads a later b
+      (a b : Account T) → Leads (opening_account capacity) events a → (later : List (Event T)) → Leads a later b
       → count a.line ≡ 0 → count b.line ≡ 0
 
   -- a refused close leaves the line as it was, and tells nothing
   abbrev pub KeepsWhereRefused : Handles → Line T → Type 0
   KeepsWhereRefused handles l =
-      (told : StepSpec T) → Answers handles l Close told → told.reply ≡ Refused CloseError None
+      (told : StepSpec T) → TellsWith handles l Close told → told.reply ≡ Refused CloseError None
       → (told.line ≡ l) × (told.settled ≡ []) × (told.cleared ≡ [])

@@ -28,7 +28,7 @@ pub data Demand (T : Type 0) : Type 0 where
   Next : Demand T
 
 -- a history: the events, their replies, the settlements of these steps and what was drained
-pub record History (T : Type 0) : Type 0 where
+pub record PairedHistory (T : Type 0) : Type 0 where
   pub events : List (Event T)
   pub replies : List (Reply T)
   pub settled : List (Settlement T)
@@ -36,15 +36,15 @@ pub record History (T : Type 0) : Type 0 where
 
 module _ {T : Type 0} where
   -- the history of these events, of which this was told
-  abbrev pub history_from : List (Event T) → List (Reply T) → List (Settlement T) → List T → History T
+  abbrev pub history_from : List (Event T) → List (Reply T) → List (Settlement T) → List T → PairedHistory T
   history_from events replies settled drained = record { events = events; replies = replies; settled = settled; drained = drained }
 
   -- the history that a report tells of these events
-  abbrev pub history : List (Event T) → Report T → History T
+  abbrev pub history : List (Event T) → Report T → PairedHistory T
   history events report = history_from events report.replies.items report.settled.items report.drained.items
 
   -- the first n steps; what was drained stands whole, since each drain's own count says how much of it is read
-  abbrev pub until : ℕ → History T → History T
+  abbrev pub until : ℕ → PairedHistory T → PairedHistory T
   until n h = record { events = take n h.events; replies = take n h.replies; settled = filter (λ s. nat_lt s.step n) h.settled; drained = h.drained }
 
   -- the message that entered at this step, with its ticket if its send waits
@@ -64,9 +64,9 @@ module _ {T : Type 0} where
   asked event reply = []
 
   -- the ticket that was withdrawn at this step
-  abbrev pub withdrawn : Event T → Reply T → List ℕ
-  withdrawn (Withdraw t) (Withdrawn m) = t ∷ []
-  withdrawn event reply = []
+  abbrev pub withdrawn_ticket : Event T → Reply T → List ℕ
+  withdrawn_ticket (Withdraw t) (Withdrawn m) = t ∷ []
+  withdrawn_ticket event reply = []
 
   -- a wait ended
   abbrev pub is_ended : Outcome T → Bool
@@ -74,8 +74,8 @@ module _ {T : Type 0} where
   is_ended outcome = false
 
   -- the ticket was withdrawn or ended
-  abbrev pub is_gone : History T → ℕ → Bool
-  is_gone h t = list_any (λ u. u == t) (along withdrawn h.events h.replies) || list_any (λ s. (s.ticket == t) && is_ended s.outcome) h.settled
+  abbrev pub is_gone : PairedHistory T → ℕ → Bool
+  is_gone h t = list_any (λ u. u == t) (along withdrawn_ticket h.events h.replies) || list_any (λ s. (s.ticket == t) && is_ended s.outcome) h.settled
 
   -- the message that an outcome gives
   abbrev pub gift_of : Outcome T → Option T
@@ -97,21 +97,21 @@ module _ {T : Type 0} where
   cleared_by reply = 0
 
   -- a send that does not wait is kept, and one that waits unless its ticket was withdrawn or ended
-  abbrev pub send_stays : History T → T × Option ℕ → Bool
+  abbrev pub send_stays : PairedHistory T → T × Option ℕ → Bool
   send_stays h (m, None) = true
   send_stays h (m, Some t) = not (is_gone h t)
 
   -- a demand is kept unless its ticket was withdrawn or ended
-  abbrev pub demand_stays : History T → Demand T → Bool
+  abbrev pub demand_stays : PairedHistory T → Demand T → Bool
   demand_stays h (Later t) = not (is_gone h t)
   demand_stays h demand = true
 
   -- the kept messages: those that entered, without those whose ticket was withdrawn or ended, and without the last ones if these were cleared
-  abbrev pub kept : History T → List T
+  abbrev pub kept : PairedHistory T → List T
   kept h = without_last (sum_by cleared_by h.replies) (map (λ s. s.0) (filter (send_stays h) (along sent h.events h.replies)))
 
   -- the kept demands
-  abbrev pub demands : History T → List (Demand T)
+  abbrev pub demands : PairedHistory T → List (Demand T)
   demands h = filter (demand_stays h) (along asked h.events h.replies)
 
   -- what each of the demands received, where these messages were drained
@@ -123,7 +123,7 @@ module _ {T : Type 0} where
   receipts_from settled (Next ∷ ds) (m ∷ ms) = Some m ∷ receipts_from settled ds ms
 
   -- what each kept demand received
-  abbrev pub receipts : History T → List (Option T)
+  abbrev pub receipts : PairedHistory T → List (Option T)
   receipts h = receipts_from h.settled (demands h) h.drained
 
   -- the i-th demand received the i-th message, and nothing if there is none
@@ -133,9 +133,9 @@ module _ {T : Type 0} where
   ArePaired (r ∷ rs) (m ∷ ms) = (r ≡ Some m) × ArePaired rs ms
 
   -- the i-th kept message went to the i-th kept demand as soon as both were there
-  abbrev pub Paired : History T → Type 0
+  abbrev pub Paired : PairedHistory T → Type 0
   Paired h = ArePaired (receipts h) (kept h)
 
   -- the kept messages that went to no demand
-  abbrev pub rest : History T → List T
+  abbrev pub rest : PairedHistory T → List T
   rest h = drop (length (demands h)) (kept h)

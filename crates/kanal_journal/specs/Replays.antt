@@ -6,8 +6,8 @@ use Rattle.kanal_journal.specs.declared.journal.report.Settlement.{Settlement}
 use Rattle.kanal_events.specs.declared.event.Reply.{Reply}
 use Rattle.kanal_journal.specs.declared.journal.recorder.Entry.{Entry}
 use Rattle.kanal_events.specs.Steps.{no_memory}
-use Rattle.kanal_journal.specs.Runs.{Account, made, added, opening}
-use Rattle.kanal_journal.specs.Paired.{History, history_from}
+use Rattle.kanal_journal.specs.Runs.{Account, made, added, opening_account}
+use Rattle.kanal_journal.specs.Paired.{PairedHistory, history_from}
 
 -- a journal: the channel's capacity, the entries, and all that was told so far
 pub record Recording (T : Type 0) : Type 0 where
@@ -25,26 +25,26 @@ module _ {T : Type 0} where
   replies_of entries = map (λ e. e.reply) entries
 
   -- the account after one event, which is not refused for memory
-  abbrev pub next : Account T → Event T → Account T
-  next old event = added old event (made old.handles old.line event)
+  abbrev pub next_account : Account T → Event T → Account T
+  next_account old event = added old event (made old.handles old.line event)
 
   -- the account after all these events
   abbrev pub played : Account T → List (Event T) → Account T
   played old [] = old
-  played old (event ∷ events) = played (next old event) events
+  played old (event ∷ events) = played (next_account old event) events
 
   -- the line of a new channel gives each entry's reply to its event, and ends in this account
   pub record Replays (capacity : Option ℕ) (entries : List (Entry T)) (end : Account T) : Type 0 where
-    pub ends : played (opening capacity) (events_of entries) ≡ end
+    pub ends : played (opening_account capacity) (events_of entries) ≡ end
     pub replies : end.replies ≡ replies_of entries
 
   -- a new channel's journal
-  abbrev pub opened : Option ℕ → Recording T
-  opened capacity = record { capacity = capacity; entries = []; account = opening capacity }
+  abbrev pub opened_recording : Option ℕ → Recording T
+  opened_recording capacity = record { capacity = capacity; entries = []; account = opening_account capacity }
 
   -- the history that a journal tells
-  abbrev pub history_of : Recording T → History T
-  history_of r = history_from (events_of r.entries) (replies_of r.entries) r.account.settled r.account.drained
+  abbrev pub recorded_history : Recording T → PairedHistory T
+  recorded_history r = history_from (events_of r.entries) (replies_of r.entries) r.account.settled r.account.drained
 
   -- what became of the wait with the ticket, if it was settled
   abbrev pub outcome_of : ℕ → List (Settlement T) → Option (Outcome T)
@@ -61,7 +61,7 @@ module _ {T : Type 0} where
       record {
         capacity = old.capacity;
         entries = old.entries ++ record { party = party; event = event; reply = reply } ∷ [];
-        account = next old.account event;
+        account = next_account old.account event;
       }
 
   -- one entry was added, with the reply that the line gives; or there was no memory and nothing changed

@@ -5,7 +5,7 @@ use Rattle.kanal_events.specs.declared.event.Event.{Event}
 use Rattle.kanal_events.specs.declared.event.Reply.{Reply}
 use Rattle.kanal_journal.specs.declared.journal.running.Running.{Running}
 use Rattle.kanal_events.specs.Steps.{StepSpec}
-use Rattle.kanal_journal.specs.Runs.{Account, Answers, handles_after, numbered as with_number}
+use Rattle.kanal_journal.specs.Runs.{Account, TellsWith, handles_after, numbered as with_number}
 use Rattle.kanal_journal.specs.Given.{AreGiven, waiting_count}
 
 module _ {T : Type 0} where
@@ -33,7 +33,7 @@ module _ {T : Type 0} where
   -- the event was made as the step with this number, and what it told was added at the ends
   pub record RunningStep (number : ℕ) (old : Running T) (event : Event T) (reply : Reply T) (new : Running T) : Type 0 where
     pub told : StepSpec T
-    pub answers : Answers old.handles (line_of old.core) event told
+    pub answers : TellsWith old.handles (line_of old.core) event told
     pub replied : reply ≡ told.reply
     pub line : line_of new.core ≡ told.line
     pub handles : new.handles ≡ handles_after old.handles event told.reply

@@ -57,8 +57,8 @@ module _ {T : Type 0} where
   made handles old event = cond (has_handle handles event) (step old event) (refused old NoHandle event)
 
   -- the event was made, or was refused for memory where it may be
-  abbrev pub Answers : Handles → Line T → Event T → StepSpec T → Type 0
-  Answers handles old event told =
+  abbrev pub TellsWith : Handles → Line T → Event T → StepSpec T → Type 0
+  TellsWith handles old event told =
       (told ≡ made handles old event) ⊎ ((has_handle handles event ≡ true) × MayRefuse old event × (told ≡ refused old NoMemory event))
 
   -- what the event told is added at the end
@@ -75,7 +75,7 @@ module _ {T : Type 0} where
 
   -- the account goes on by what the event tells
   abbrev pub AccountStep : Account T → Event T → Account T → Type 0
-  AccountStep old event new = (told : StepSpec T) × Answers old.handles old.line event told × (new ≡ added old event told)
+  AccountStep old event new = (told : StepSpec T) × TellsWith old.handles old.line event told × (new ≡ added old event told)
 
   -- the events, one after another, lead from one account to the other
   abbrev pub Leads : Account T → List (Event T) → Account T → Type 0
@@ -87,8 +87,8 @@ module _ {T : Type 0} where
   opening_line capacity = record { capacity = capacity; line = []; demands = []; senders = 1; receivers = 1; next = 0 }
 
   -- nothing was told yet
-  abbrev pub opening : Option ℕ → Account T
-  opening capacity = record { line = opening_line capacity; handles = record { tx = 1; rx = 1 }; replies = []; settled = []; drained = []; cleared = [] }
+  abbrev pub opening_account : Option ℕ → Account T
+  opening_account capacity = record { line = opening_line capacity; handles = record { tx = 1; rx = 1 }; replies = []; settled = []; drained = []; cleared = [] }
 
   -- what a report tells, with this line and these live handles
   abbrev pub account : Line T → Handles → Report T → Account T
@@ -97,4 +97,4 @@ module _ {T : Type 0} where
   -- the report tells what the line does along the events, and what it holds at the end
   abbrev pub Runs : Option ℕ → List (Event T) → Report T → Type 0
   Runs capacity events report =
-      (last : Line T) × (handles : Handles) × Leads (opening capacity) events (account last handles report) × (report.left.items ≡ messages last.line)
+      (last : Line T) × (handles : Handles) × Leads (opening_account capacity) events (account last handles report) × (report.left.items ≡ messages last.line)

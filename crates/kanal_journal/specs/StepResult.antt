@@ -2,23 +2,19 @@
 use Rattle.std.specs.Prelude.{◌≡◌, List, ◌++◌}
 use Rattle.kanal_core.specs.Line.{Line}
 use Rattle.kanal_events.specs.declared.event.Event.{Event}
-use Rattle.kanal_events.specs.declared.step_result.StepResult.{StepResult as StepResultWith}
+use Rattle.kanal_events.specs.declared.step_result.StepResult.{StepResult}
 use Rattle.kanal_events.specs.Steps.{Tells}
 use Rattle.kanal_events.specs.StepResult.{drained_of, told_of}
 use Rattle.kanal_journal.specs.declared.journal.handles.Handles.{Handles}
-use Rattle.kanal_journal.specs.Runs.{Answers}
-
--- what a step told on a core on which nobody brings anything to a wait
-abbrev pub StepResult : Type 0 → Type 0
-StepResult T = StepResultWith T (Unit {0})
+use Rattle.kanal_journal.specs.Runs.{TellsWith}
 
 module _ {T : Type 0} where
   -- the event was made, and what it drained was put behind what was drained before
-  pub record StepPost (old : Line T) (event : Event T) (new : Line T) (before after : List T) (made : StepResult T) : Type 0 where
+  pub record StepPost (old : Line T) (event : Event T) (new : Line T) (before after : List T) (made : StepResult T (Unit {0})) : Type 0 where
     pub drained : after ≡ before ++ drained_of made
     pub told : Tells old event (told_of new made)
 
   -- the same, where the event's side may have no live handle
-  pub record ServedPost (handles : Handles) (old : Line T) (event : Event T) (new : Line T) (before after : List T) (made : StepResult T) : Type 0 where
+  pub record ServedPost (handles : Handles) (old : Line T) (event : Event T) (new : Line T) (before after : List T) (made : StepResult T (Unit {0})) : Type 0 where
     pub drained : after ≡ before ++ drained_of made
-    pub told : Answers handles old event (told_of new made)
+    pub told : TellsWith handles old event (told_of new made)

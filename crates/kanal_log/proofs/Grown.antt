@@ -3,7 +3,7 @@ use Rattle.std.proofs.Common.{◌≡◌, ◌≢◌, ◌⊎◌, ◌<◌, ℕ, Lis
 use mathlib.Core.Option.{some}
 use lib.ListN.{get_elem?}
 use Rattle.kanal_log.specs.declared.rule.LogView.{LogView}
-use Rattle.kanal_log.specs.Views.{IsAmong, AreDistinct, AreBelow, Addition, entries, place_of, MayAdd, all_own, IsOwned, ViewFits, Kept}
+use Rattle.kanal_log.specs.Views.{IsAmong, AreDistinct, AreBelow, Addition, entries, place_of, MayAdd, all_own, IsOwned, ViewFits, ViewsAgree}
 use Rattle.kanal_log.proofs.Readers.{prefix_self, prefix_more}
 use Rattle.kanal_log.proofs.Places.{among-cases, among-left, among-right, distinct-append, distinct-left, distinct-right, distinct-apart, among-place, place-distinct, place-covers, none-more, unowned-longer}
 use Rattle.kanal_log.proofs.Owners.{owners-set}
@@ -73,7 +73,7 @@ module _ {E : Type 0} (unowned : E → Type 0) (v : LogView E) (more : Addition 
       }
 
   -- the rule holds where the history is what the writer has seen
-  pub grown-keeps : (views : List (LogView E)) (h : Kept unowned views) (id : ℕ) → get_elem? views id ≡ some v → id ≡ h.seat → v.log ≡ h.log → MayAdd unowned v.others_share more → Kept unowned (set views id grown)
+  pub grown-keeps : (views : List (LogView E)) (h : ViewsAgree unowned views) (id : ℕ) → get_elem? views id ≡ some v → id ≡ h.seat → v.log ≡ h.log → MayAdd unowned v.others_share more → ViewsAgree unowned (set views id grown)
   grown-keeps views h id at is same may =
       let log = v.log ++ entries more in
       let fits : (j : ℕ) (u : LogView E) → get_elem? views j ≡ some u → ViewFits h.seat v.log j u = λ j u e. subst (λ l. ViewFits h.seat l j u) (sym same) (h.fits j u e) in

@@ -8,7 +8,7 @@ use Rattle.atomic_table.proofs.Lists.{at_set, at_snoc}
 use Rattle.kanal_log.specs.declared.rule.Share.{Share}
 use Rattle.kanal_log.specs.declared.rule.LogView.{LogView}
 use Rattle.kanal_log.specs.Shares.{whole, nothing, half, both, IsWhole, worth}
-use Rattle.kanal_log.specs.Views.{IsAmong, AreDisjoint, Addition, MayAdd, writer_view_with, reader_view, beside, alone, with_share, all_own, IsHalvedUpTo, AreShared, ViewFits, HaveOneOwner, Kept, Extended, Compared, Learned, Checked, IsUnownedBehind}
+use Rattle.kanal_log.specs.Views.{IsAmong, AreDisjoint, Addition, MayAdd, writer_view_with, reader_view, beside, alone, with_share, all_own, IsHalvedUpTo, AreShared, ViewFits, HaveOneOwner, ViewsAgree, Extended, Compared, Learned, Checked, IsUnownedBehind}
 use Rattle.kanal_log.proofs.Readers.{prefix_self, prefix_both, prefix_length}
 use Rattle.kanal_log.proofs.Places.{among-cases, among-left, among-right, distinct-append, distinct-left, distinct-right, distinct-apart, unowned-shorter}
 use Rattle.kanal_log.proofs.Owners.{owners-set, owners-split, owners-join}
@@ -20,7 +20,7 @@ use Rattle.kanal_log.proofs.Wholes.{all-owned, only-unowned}
 use Rattle.kanal_log.proofs.Grown.{grown, grown-keeps}
 
 module _ {E : Type 0} (unowned : E → Type 0) where
-  pub begins : Kept unowned (writer_view_with [] whole ∷ [])
+  pub begins : ViewsAgree unowned (writer_view_with [] whole ∷ [])
   begins =
       record {
         seat = 0;
@@ -57,7 +57,7 @@ module _ {E : Type 0} (unowned : E → Type 0) where
   module _ {S : Type 0} where
     -- the rule
     abbrev rule : State S (LogView E) → Type 0
-    rule s = Kept unowned s.views
+    rule s = ViewsAgree unowned s.views
 
     module _ (s : State S (LogView E)) (h : rule s) (id : ℕ) (v : LogView E) (at : get_elem? s.views id ≡ some v) where
       mine : ViewFits h.seat h.log id v
@@ -67,7 +67,7 @@ module _ {E : Type 0} (unowned : E → Type 0) where
       small = halved-at h.scale s.views id v h.shares.halved at
 
       -- a view that fits takes the place of one, with the same places
-      changed : (n : ℕ) (w : LogView E) → ViewFits h.seat h.log id w → ((k : ℕ) → IsAmong k (all_own w) → IsAmong k (all_own v)) → ((k : ℕ) → IsAmong k (all_own v) → IsAmong k (all_own w)) → AreShared n (set s.views id w) → Kept unowned (set s.views id w)
+      changed : (n : ℕ) (w : LogView E) → ViewFits h.seat h.log id w → ((k : ℕ) → IsAmong k (all_own w) → IsAmong k (all_own v)) → ((k : ℕ) → IsAmong k (all_own v) → IsAmong k (all_own w)) → AreShared n (set s.views id w) → ViewsAgree unowned (set s.views id w)
       changed n w fits sub sup shares =
           record {
             seat = h.seat;
@@ -80,11 +80,11 @@ module _ {E : Type 0} (unowned : E → Type 0) where
           }
 
       -- nothing of the view changes
-      stays : Kept unowned (set s.views id v)
+      stays : ViewsAgree unowned (set s.views id v)
       stays = changed h.scale v mine (λ k a. a) (λ k a. a) (shared-set h.scale s.views id v v h.shares at small (omega arith))
 
       -- a view is cut in two
-      cut : (n : ℕ) (left right : LogView E) → ViewFits h.seat h.log id left → ((by : ℕ) → ViewFits h.seat h.log by right) → ((k : ℕ) → IsAmong k (all_own left) → IsAmong k (all_own v)) → ((k : ℕ) → IsAmong k (all_own right) → IsAmong k (all_own v)) → AreDisjoint (all_own left) (all_own right) → ((k : ℕ) → IsAmong k (all_own v) → IsAmong k (all_own left) ⊎ IsAmong k (all_own right)) → AreShared n (set s.views id left ++ right ∷ []) → Kept unowned (set s.views id left ++ right ∷ [])
+      cut : (n : ℕ) (left right : LogView E) → ViewFits h.seat h.log id left → ((by : ℕ) → ViewFits h.seat h.log by right) → ((k : ℕ) → IsAmong k (all_own left) → IsAmong k (all_own v)) → ((k : ℕ) → IsAmong k (all_own right) → IsAmong k (all_own v)) → AreDisjoint (all_own left) (all_own right) → ((k : ℕ) → IsAmong k (all_own v) → IsAmong k (all_own left) ⊎ IsAmong k (all_own right)) → AreShared n (set s.views id left ++ right ∷ []) → ViewsAgree unowned (set s.views id left ++ right ∷ [])
       cut n left right l r lefts rights apart sup shares =
           record {
             seat = h.seat;
@@ -283,7 +283,7 @@ module _ {E : Type 0} (unowned : E → Type 0) where
         let none = worth-nothing top in
         let idle : sum.count ≡ 0 → all_own v ≡ [] = λ e.
         let a : v.own ≡ [] = m.idle (both-none v.others_share v.share e).1 in let b : v.others_own ≡ [] = m.others_idle (both-none v.others_share v.share e).0 in (ap (λ xs. xs ++ v.own) b ∙ a) in
-        let to : (l : List E) → IsPrefix l h.log → length v.log ≤ length l → length v.other ≤ length l → Kept unowned (set s.views id (reader_view l (all_own v) sum)) =
+        let to : (l : List E) → IsPrefix l h.log → length v.log ≤ length l → length v.other ≤ length l → ViewsAgree unowned (set s.views id (reader_view l (all_own v) sum)) =
         λ l p this that. changed s h id v at top (reader_view l (all_own v) sum)
         (reader_view-fits h.seat h.log id l (all_own v) sum p
         (λ k a. ⊎_elim (λ b. let q = m.others_below k b in omega arith) (λ b. let q = m.below k b in omega arith) (among-cases k v.others_own v.own a))

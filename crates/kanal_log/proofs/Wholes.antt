@@ -6,14 +6,14 @@ use native.Mathlib.Decide.{ℕ_discrete}
 use lib.ListN.{get_elem?}
 use Rattle.kanal_log.specs.declared.rule.LogView.{LogView}
 use Rattle.kanal_log.specs.Shares.{doubled, IsWhole}
-use Rattle.kanal_log.specs.Views.{IsAmong, all_own, all_worth, IsOwned, Kept, IsUnownedBehind}
+use Rattle.kanal_log.specs.Views.{IsAmong, all_own, all_worth, IsOwned, ViewsAgree, IsUnownedBehind}
 use Rattle.kanal_log.proofs.Places.{among-cases, unowned-behind}
 use Rattle.kanal_log.proofs.Shares.{worth-whole, worthless}
 use Rattle.kanal_log.proofs.Worths.{worth-one, worth-two, halved-at}
 
 module _ {E : Type 0} (unowned : E → Type 0) where
   -- beside all of the right no view has a place
-  idle-beside : (views : List (LogView E)) (h : Kept unowned views) (id by : ℕ) (v u : LogView E) → id ≢ by → get_elem? views id ≡ some v → get_elem? views by ≡ some u → doubled h.scale 1 ≤ all_worth h.scale v → (k : ℕ) → IsAmong k (all_own u) → ⊥
+  idle-beside : (views : List (LogView E)) (h : ViewsAgree unowned views) (id by : ℕ) (v u : LogView E) → id ≢ by → get_elem? views id ≡ some v → get_elem? views by ≡ some u → doubled h.scale 1 ≤ all_worth h.scale v → (k : ℕ) → IsAmong k (all_own u) → ⊥
   idle-beside views h id by v u n at stands all k a =
       let two = worth-two h.scale views id by v u n at stands in
       let most = h.shares.most in
@@ -26,7 +26,7 @@ module _ {E : Type 0} (unowned : E → Type 0) where
       (among-cases k u.others_own u.own a)
 
   -- who has all of the right owns the whole history, but for the unowned entries
-  pub all-owned : (views : List (LogView E)) (h : Kept unowned views) (id : ℕ) (v : LogView E) → get_elem? views id ≡ some v → doubled h.scale 1 ≤ all_worth h.scale v → (k : ℕ) → k < length h.log → IsAmong k (all_own v) ⊎ HoldsAt unowned h.log k
+  pub all-owned : (views : List (LogView E)) (h : ViewsAgree unowned views) (id : ℕ) (v : LogView E) → get_elem? views id ≡ some v → doubled h.scale 1 ≤ all_worth h.scale v → (k : ℕ) → k < length h.log → IsAmong k (all_own v) ⊎ HoldsAt unowned h.log k
   all-owned views h id v at all k lt =
       ⊎_elim
       (λ (o : IsOwned views k).
@@ -39,7 +39,7 @@ module _ {E : Type 0} (unowned : E → Type 0) where
       (h.owned k lt)
 
   -- where all of the right is with who was put into the writer, what that one had not seen is unowned
-  pub only-unowned : (views : List (LogView E)) (h : Kept unowned views) (id : ℕ) (v : LogView E) → get_elem? views id ≡ some v → IsWhole v.others_share → IsUnownedBehind unowned v.other h.log
+  pub only-unowned : (views : List (LogView E)) (h : ViewsAgree unowned views) (id : ℕ) (v : LogView E) → get_elem? views id ≡ some v → IsWhole v.others_share → IsUnownedBehind unowned v.other h.log
   only-unowned views h id v at is =
       let f = h.fits id v at in
       let was = halved-at h.scale views id v h.shares.halved at in

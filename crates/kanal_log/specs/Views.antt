@@ -37,7 +37,7 @@ pub record Known (E : Type 0) : Type 0 where
   pub own : List ℕ
   pub share : Share
 
--- what a call adds to the history: nothing, an entry that is its reader's own, or a unowned one that has no owner
+-- what a call adds to the history: nothing, an entry that is its reader's own, or an unowned one
 pub data Addition (E : Type 0) : Type 0 where
   no_entry : Addition E
   own_entry : E → Addition E
@@ -155,7 +155,7 @@ module _ {E : Type 0} where
     pub mine : IsAmong k (all_own view)
 
   -- each view fits one history, each of whose places is of one seat or unowned, and all shares together are no more than all of the right
-  pub record Kept (unowned : E → Type 0) (views : List (LogView E)) : Type 0 where
+  pub record ViewsAgree (unowned : E → Type 0) (views : List (LogView E)) : Type 0 where
     pub seat : ℕ
     pub log : List E
     pub scale : ℕ

@@ -17,7 +17,7 @@ ghost use Rattle.kanal_log.specs.Views.{
 
 use crate::entry::{Adds, EntryOf, LogEntry, More, Nothing, Own, Unowned};
 use crate::reader::Reader;
-use crate::rule::{Extends, Founds, Goes, Law, LogId, LogParts, LogView, Meets, Reads};
+use crate::rule::{Founds, Goes, Law, LogId, LogParts, LogView, Meets, Reads, Writes};
 use atomic_table::{Seat, Table};
 use std::alloc::{AllocError, Global};
 use std::marker::{Brand, Model, PhantomData};
@@ -204,7 +204,7 @@ impl<E: LogEntry, J: LogId> Writer<E, J> {
         let shared = &log.table.shared;
         let whole = shared.split_seat::<Goes>(&mut reader.seat);
         shared.join_seat::<Meets>(&mut self.seat, whole);
-        shared.load::<Extends<N>>(&mut self.seat, 0);
+        shared.load::<Writes<N>>(&mut self.seat, 0);
         let seat = shared.split_seat::<LogParts>(&mut self.seat);
         *reader = Reader::over(seat);
     }

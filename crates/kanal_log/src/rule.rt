@@ -52,9 +52,9 @@ pub struct Law;
 
 impl<E: LogEntry> TableRule<(), LogView<E>, ()> for Law {
     ghost use Rattle.kanal_log.specs.Shares.{whole};
-    ghost use Rattle.kanal_log.specs.Views.{writer_view_with, Kept};
+    ghost use Rattle.kanal_log.specs.Views.{writer_view_with, ViewsAgree};
 
-    ghost holds = { λ k s. Kept E.unowned s.views };
+    ghost holds = { λ k s. ViewsAgree E.unowned s.views };
 
     ghost first = { λ k. writer_view_with [] whole };
 
@@ -62,11 +62,11 @@ impl<E: LogEntry> TableRule<(), LogView<E>, ()> for Law {
 }
 
 /// The writer adds to the history, and shows all to the reader that was put into it.
-pub(crate) struct Extends<N> {
+pub(crate) struct Writes<N> {
     of: PhantomData<N>,
 }
 
-impl<E: LogEntry, N: More<E>> Play<(), LogView<E>> for Extends<N> {
+impl<E: LogEntry, N: More<E>> Play<(), LogView<E>> for Writes<N> {
     ghost use Rattle.kanal_log.specs.Views.{Extended};
 
     ghost then = { λ s v n w. Extended E.unowned N.more v w };

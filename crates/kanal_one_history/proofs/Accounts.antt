@@ -9,9 +9,9 @@ use Rattle.kanal_events.specs.declared.event.Event.{Event}
 use Rattle.kanal_events.specs.declared.event.Reply.{Reply}
 use Rattle.kanal_events.specs.Steps.{step}
 use Rattle.kanal_journal.specs.declared.journal.report.Settlement.{Settlement}
-use Rattle.kanal_journal.specs.Runs.{Account, Leads, handles_after, made, numbered, opening, opening_line}
-use Rattle.kanal_journal.specs.Replays.{next, played}
-use Rattle.kanal_journal.specs.Paired.{Demand, AtOnce, Later, Next, History, along, asked, cleared_by, demand_stays, demands, history_from, is_ended, is_gone, kept, send_stays, sent, withdrawn, without_last}
+use Rattle.kanal_journal.specs.Runs.{Account, Leads, handles_after, made, numbered, opening_account, opening_line}
+use Rattle.kanal_journal.specs.Replays.{next_account, played}
+use Rattle.kanal_journal.specs.Paired.{Demand, AtOnce, Later, Next, PairedHistory, along, asked, cleared_by, demand_stays, demands, history_from, is_ended, is_gone, kept, send_stays, sent, withdrawn_ticket, without_last}
 use Rattle.kanal_journal.specs.Laws.{StaysOver, told_history}
 use Rattle.kanal_journal.proofs.Over.{final-after}
 use Rattle.kanal_journal.proofs.Sends.{along-last}
@@ -25,25 +25,25 @@ use Rattle.kanal_one_history.proofs.Finality.{events_of, stays_over, with_events
 
 module _ {T : Type 0} where
   -- the account tells what the history tells, but for replies that say that there is no live handle
-  pub record Agrees (h : History T) (a : Account T) : Type 0 where
+  pub record Agrees (h : PairedHistory T) (a : Account T) : Type 0 where
     pub same : length h.events ≡ length h.replies
     pub count : length a.replies ≡ length h.replies
     pub settled : a.settled ≡ h.settled
     pub drained : a.drained ≡ h.drained
     pub sends : along sent h.events a.replies ≡ along sent h.events h.replies
     pub asks : along asked h.events a.replies ≡ along asked h.events h.replies
-    pub withdraws : along withdrawn h.events a.replies ≡ along withdrawn h.events h.replies
+    pub withdraws : along withdrawn_ticket h.events a.replies ≡ along withdrawn_ticket h.events h.replies
     pub clears : sum_by cleared_by a.replies ≡ sum_by cleared_by h.replies
     pub held : IsHeld a.handles a.line
 
-  module _ (h : History T) (a : Account T) (e : Event T) (now : Agrees h a) where
+  module _ (h : PairedHistory T) (a : Account T) (e : Event T) (now : Agrees h a) where
     along-both : {X : Type 0} (f : Event T → Reply T → List X) (r s : Reply T) → along f h.events a.replies ≡ along f h.events h.replies → f e r ≡ f e s
         → along f (h.events ++ e ∷ []) (a.replies ++ r ∷ []) ≡ along f (h.events ++ e ∷ []) (h.replies ++ s ∷ [])
     along-both f r s past last =
         along-last f h.events a.replies e r (now.same ∙ sym now.count)
         ∙ (ap (λ xs. xs ++ f e r) past ∙ (ap (λ xs. along f h.events h.replies ++ xs) last ∙ sym (along-last f h.events h.replies e s now.same)))
 
-    agrees-step : Agrees (with_call h (call_of e (step a.line e))) (next a e)
+    agrees-step : Agrees (with_call h (call_of e (step a.line e))) (next_account a e)
     agrees-step =
         let t = made a.handles a.line e in
         let s = step a.line e in
@@ -58,35 +58,35 @@ module _ {T : Type 0} where
           drained = ap (λ xs. a.drained ++ xs) k.drained ∙ ap (λ xs. xs ++ s.drained) now.drained;
           sends = along-both sent t.reply s.reply now.sends k.sends;
           asks = along-both asked t.reply s.reply now.asks k.asks;
-          withdraws = along-both withdrawn t.reply s.reply now.withdraws k.withdraws;
+          withdraws = along-both withdrawn_ticket t.reply s.reply now.withdraws k.withdraws;
           clears = omega (arith, now.clears, k.clears, sum_by-append cleared_by a.replies (t.reply ∷ []), sum_by-append cleared_by h.replies (s.reply ∷ []));
           held = k.held;
         }
 
-  agrees-next : (h : History T) (a : Account T) (c : Call T) → Agrees h a → c ≡ call_of c.event (step a.line c.event) → Agrees (with_call h c) (next a c.event)
+  agrees-next : (h : PairedHistory T) (a : Account T) (c : Call T) → Agrees h a → c ≡ call_of c.event (step a.line c.event) → Agrees (with_call h c) (next_account a c.event)
   agrees-next h a c now is =
-      let P : Call T → Type 0 = λ x. Agrees (with_call h x) (next a c.event) in
+      let P : Call T → Type 0 = λ x. Agrees (with_call h x) (next_account a c.event) in
       subst P (sym is) (agrees-step h a c.event now)
 
-  agrees-opening : (capacity : Option ℕ) → Agrees (history_from [] [] [] []) (opening capacity)
+  agrees-opening : (capacity : Option ℕ) → Agrees (history_from [] [] [] []) (opening_account capacity)
   agrees-opening capacity =
       record { same = refl; count = refl; settled = refl; drained = refl; sends = refl; asks = refl; withdraws = refl; clears = refl; held = (omega arith, omega arith) }
 
   played-on : (o : Account T) (es more : List (Event T)) → played o (es ++ more) ≡ played (played o es) more
   played-on o [] more = refl
-  played-on o (x ∷ es) more = played-on (next o x) es more
+  played-on o (x ∷ es) more = played-on (next_account o x) es more
 
   leads-played : (a : Account T) (es : List (Event T)) → Leads a es (played a es)
   leads-played a [] = refl
-  leads-played a (e ∷ es) = (next a e, (made a.handles a.line e, inl refl, refl), leads-played (next a e) es)
+  leads-played a (e ∷ es) = (next_account a e, (made a.handles a.line e, inl refl, refl), leads-played (next_account a e) es)
 
-  account-is : (capacity : Option ℕ) (log : List (Call T)) → account_after capacity log ≡ played (opening capacity) (events_of log)
-  account-is capacity log = ap (played (opening capacity)) (with_events (history_from [] [] [] []) log)
+  account-is : (capacity : Option ℕ) (log : List (Call T)) → account_after capacity log ≡ played (opening_account capacity) (events_of log)
+  account-is capacity log = ap (played (opening_account capacity)) (with_events (history_from [] [] [] []) log)
 
   -- later calls' events lead on from where the first ones' led to
   pub leads_on : (capacity : Option ℕ) (log rest : List (Call T)) → Leads (account_after capacity log) (events_of rest) (account_after capacity (log ++ rest))
   leads_on capacity log rest =
-      let o : Account T = opening capacity in
+      let o : Account T = opening_account capacity in
       let is : account_after capacity (log ++ rest) ≡ played (account_after capacity log) (events_of rest) =
       account-is capacity (log ++ rest)
       ∙ (ap (played o) (map-append (λ (c : Call T). c.event) log rest)
@@ -96,23 +96,23 @@ module _ {T : Type 0} where
   -- the account to which these calls' events lead from this one
   abbrev pub account_by : Account T → List (Call T) → Account T
   account_by a [] = a
-  account_by a (c ∷ cs) = account_by (next a c.event) cs
+  account_by a (c ∷ cs) = account_by (next_account a c.event) cs
 
-  pub record EndsAsTold (h : History T) (a : Account T) (cs : List (Call T)) (end : Account T) : Type 0 where
+  pub record EndsAsTold (h : PairedHistory T) (a : Account T) (cs : List (Call T)) (end : Account T) : Type 0 where
     pub agrees : Agrees (with_calls h cs) end
     pub line : end.line ≡ after a.line cs
     pub replies : end.replies ≡ a.replies ++ replies_by a.handles cs
     pub cleared : end.cleared ≡ a.cleared ++ all_cleared cs
     pub plays : (o : Account T) → a ≡ played o h.events → end ≡ played o (with_calls h cs).events
 
-  ends-as-told : (h : History T) (a : Account T) (cs : List (Call T)) → Agrees h a → AreTold a.line cs → EndsAsTold h a cs (account_by a cs)
+  ends-as-told : (h : PairedHistory T) (a : Account T) (cs : List (Call T)) → Agrees h a → AreTold a.line cs → EndsAsTold h a cs (account_by a cs)
   ends-as-told h a [] now told =
       record { agrees = now; line = refl; replies = sym (append-nil a.replies); cleared = sym (append-nil a.cleared); plays = λ o is. is }
   ends-as-told h a (c ∷ cs) now told =
       let e = c.event in
       let t = made a.handles a.line e in
       let k = as_step a.handles a.line e now.held in
-      let rest = ends-as-told (with_call h c) (next a e) cs (agrees-next h a c now told.0) (subst (λ l. AreTold l cs) (sym k.line) told.1) in
+      let rest = ends-as-told (with_call h c) (next_account a e) cs (agrees-next h a c now told.0) (subst (λ l. AreTold l cs) (sym k.line) told.1) in
       let reply = reply_told a.handles a.line c now.held told.0 in
       let cleared : t.cleared ≡ c.cleared = k.cleared ∙ sym (ap (λ (x : Call T). x.cleared) told.0) in
       record {
@@ -123,11 +123,11 @@ module _ {T : Type 0} where
             ∙ (ap (λ r. (a.replies ++ r ∷ []) ++ replies_by (handles_after a.handles e r) cs) reply
             ∙ append_assoc a.replies (reply_by a.handles c ∷ []) (replies_by (handles_after a.handles e (reply_by a.handles c)) cs));
         cleared = rest.cleared ∙ (ap (λ xs. (a.cleared ++ xs) ++ all_cleared cs) cleared ∙ append_assoc a.cleared c.cleared (all_cleared cs));
-        plays = λ o is. rest.plays o (ap (λ x. next x e) is ∙ sym (played-on o h.events (e ∷ [])));
+        plays = λ o is. rest.plays o (ap (λ x. next_account x e) is ∙ sym (played-on o h.events (e ∷ [])));
       }
 
   -- where the same tickets are gone, the same messages and demands are kept
-  module _ (h other : History T) (gone : (t : ℕ) → is_gone other t ≡ is_gone h t) where
+  module _ (h other : PairedHistory T) (gone : (t : ℕ) → is_gone other t ≡ is_gone h t) where
     same-sends : (xs : List (T × Option ℕ)) → filter (send_stays other) xs ≡ filter (send_stays h) xs
     same-sends [] = refl
     same-sends ((m, None) ∷ xs) = ap (λ ys. (m, None) ∷ ys) (same-sends xs)
@@ -147,14 +147,14 @@ module _ {T : Type 0} where
           | inr g ↦ rw (gone t, g) (ap (λ ys. Later t ∷ ys) (same-demands ds))
         ]
 
-  module _ (h : History T) (a : Account T) (now : Agrees h a) where
-    abbrev other : History T
+  module _ (h : PairedHistory T) (a : Account T) (now : Agrees h a) where
+    abbrev other : PairedHistory T
     other = told_history h.events a
 
     same-gone : (t : ℕ) → is_gone other t ≡ is_gone h t
     same-gone t =
         ap (λ us. list_any (λ u. u == t) us || list_any (λ (s : Settlement T). (s.ticket == t) && is_ended s.outcome) a.settled) now.withdraws
-        ∙ ap (λ ss. list_any (λ u. u == t) (along withdrawn h.events h.replies) || list_any (λ (s : Settlement T). (s.ticket == t) && is_ended s.outcome) ss) now.settled
+        ∙ ap (λ ss. list_any (λ u. u == t) (along withdrawn_ticket h.events h.replies) || list_any (λ (s : Settlement T). (s.ticket == t) && is_ended s.outcome) ss) now.settled
 
     pub same_kept : kept other ≡ kept h
     same_kept =
@@ -167,7 +167,7 @@ module _ {T : Type 0} where
     same_demands = ap (λ ds. filter (demand_stays other) ds) now.asks ∙ same-demands h other same-gone (along asked h.events h.replies)
 
   -- where the account's receives stay over, so do those of the history
-  final-in : (capacity : Option ℕ) (log : List (Call T)) → IsLegal capacity log → (a : Account T) → Leads (opening capacity) (history_of log).events a → a.replies ≡ replies_by live log
+  final-in : (capacity : Option ℕ) (log : List (Call T)) → IsLegal capacity log → (a : Account T) → Leads (opening_account capacity) (history_of log).events a → a.replies ≡ replies_by live log
       → StaysOver (history_of log).events (history_of log).replies
   final-in capacity log legal a l is =
       let es = with_events (history_from [] [] [] []) log in
@@ -179,7 +179,7 @@ module _ {T : Type 0} where
   -- the events of a legal history lead to what its calls were told
   pub leads_as_told : (capacity : Option ℕ) (log : List (Call T)) → IsLegal capacity log → LeadsAsTold capacity log
   leads_as_told capacity log legal =
-      let o : Account T = opening capacity in
+      let o : Account T = opening_account capacity in
       let end = account_by o log in
       let k = ends-as-told (history_from [] [] [] []) o log (agrees-opening capacity) legal in
       let P : Account T → Type 0 = λ b. EndsAsTold (history_from [] [] [] []) o log b in

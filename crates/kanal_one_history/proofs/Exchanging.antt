@@ -88,7 +88,7 @@ module _ {T : Type 0} where
   got_received log waits (Next ∷ ds) (m ∷ ms) a drained = absurd a
 
   module _ (capacity : Option ℕ) (old new : Known (Call T)) where
-    -- a silent call put nothing and got nothing
+    -- a call that moves no message put nothing and got nothing
     pub unmoving_exchanges : (call : Call T) → Appends capacity old new call → ExchangesNothing call → Exchanges capacity old new [] []
     unmoving_exchanges call made s =
         record {

@@ -8,7 +8,7 @@ use Rattle.kanal_events.specs.declared.event.Reply.{Reply}
 use Rattle.kanal_events.specs.Steps.{step}
 use Rattle.kanal_journal.specs.declared.journal.handles.Handles.{Handles}
 use Rattle.kanal_journal.specs.Runs.{handles_after, has_handle}
-use Rattle.kanal_journal.specs.Paired.{History}
+use Rattle.kanal_journal.specs.Paired.{PairedHistory}
 use Rattle.kanal_journal.specs.Laws.{AreOver, StaysOver, is_receive, tells_end, tells_end_or_no_handle}
 use Rattle.kanal_journal.proofs.Standing.{told-zero}
 use Rattle.kanal_state.specs.declared.call.Call.{Call}
@@ -26,11 +26,11 @@ module _ {T : Type 0} where
   abbrev pub replies_of : List (Call T) → List (Reply T)
   replies_of cs = map (λ c. c.reply) cs
 
-  pub with_events : (h : History T) (cs : List (Call T)) → (with_calls h cs).events ≡ h.events ++ events_of cs
+  pub with_events : (h : PairedHistory T) (cs : List (Call T)) → (with_calls h cs).events ≡ h.events ++ events_of cs
   with_events h [] = sym (append-nil h.events)
   with_events h (c ∷ cs) = with_events (with_call h c) cs ∙ append_assoc h.events (c.event ∷ []) (events_of cs)
 
-  pub with_replies : (h : History T) (cs : List (Call T)) → (with_calls h cs).replies ≡ h.replies ++ replies_of cs
+  pub with_replies : (h : PairedHistory T) (cs : List (Call T)) → (with_calls h cs).replies ≡ h.replies ++ replies_of cs
   with_replies h [] = sym (append-nil h.replies)
   with_replies h (c ∷ cs) = with_replies (with_call h c) cs ∙ append_assoc h.replies (c.reply ∷ []) (replies_of cs)
 

@@ -12,7 +12,7 @@ use Rattle.kanal_events.specs.declared.event.Reply.TheVariants.{Done, Yes, No, S
 use Rattle.kanal_events.specs.Steps.{StepSpec, answer, message_of, nothing_there, offer, only, refused, seal_line, shut, step, take as take_told, take_line, wait}
 use Rattle.kanal_journal.specs.declared.journal.handles.Handles.{Handles}
 use Rattle.kanal_journal.specs.Runs.{handles_after, has_handle, made}
-use Rattle.kanal_journal.specs.Paired.{asked, cleared_by, sent, withdrawn}
+use Rattle.kanal_journal.specs.Paired.{asked, cleared_by, sent, withdrawn_ticket}
 use Rattle.kanal_journal.proofs.Standing.{is_plain, raised-zero, step-steady, still-none}
 use Rattle.kanal_state.specs.declared.call.Call.{Call}
 use Rattle.kanal_state.specs.Calls.{IsToldOn}
@@ -44,7 +44,7 @@ module _ {T : Type 0} where
     pub cleared : told.cleared ≡ []
     pub sends : sent e told.reply ≡ []
     pub asks : asked e told.reply ≡ []
-    pub withdraws : withdrawn e told.reply ≡ []
+    pub withdraws : withdrawn_ticket e told.reply ≡ []
     pub clears : cleared_by told.reply ≡ 0
 
   -- a refusal has no message that entered or was got
@@ -56,7 +56,7 @@ module _ {T : Type 0} where
   none-asked (Send m) reason back = refl
   none-asked e reason back = refl
 
-  none-withdrawn : (e : Event T) (reason : Refusal) (back : Option T) → withdrawn e (Refused reason back) ≡ []
+  none-withdrawn : (e : Event T) (reason : Refusal) (back : Option T) → withdrawn_ticket e (Refused reason back) ≡ []
   none-withdrawn (Send m) reason back = refl
   none-withdrawn e reason back = refl
 
@@ -77,7 +77,7 @@ module _ {T : Type 0} where
           clears = refl;
         }
 
-    answered-idle : (e : Event T) (r : Reply T) → sent e r ≡ [] → asked e r ≡ [] → withdrawn e r ≡ [] → cleared_by r ≡ 0 → IsIdle l e (only l r)
+    answered-idle : (e : Event T) (r : Reply T) → sent e r ≡ [] → asked e r ≡ [] → withdrawn_ticket e r ≡ [] → cleared_by r ≡ 0 → IsIdle l e (only l r)
     answered-idle e r s a w c =
         record { line = refl; settled = refl; drained = refl; cleared = refl; sends = s; asks = a; withdraws = w; clears = c }
 
@@ -92,7 +92,7 @@ module _ {T : Type 0} where
     takes e otherwise y = to e (take_told l otherwise) (only l (Refused ByClosed None)) (rw y refl) (refused_idle e ByClosed None)
 
     -- the counts are as they were
-    recounted : (e : Event T) (senders receivers : ℕ) → senders ≡ l.senders → receivers ≡ l.receivers → sent e Done ≡ [] → asked e Done ≡ [] → withdrawn e Done ≡ []
+    recounted : (e : Event T) (senders receivers : ℕ) → senders ≡ l.senders → receivers ≡ l.receivers → sent e Done ≡ [] → asked e Done ≡ [] → withdrawn_ticket e Done ≡ []
         → IsIdle l e (only (record l { senders = senders; receivers = receivers }) Done)
     recounted e senders receivers s r sends asks withdraws =
         record {
@@ -208,7 +208,7 @@ module _ {T : Type 0} where
     pub cleared : told.cleared ≡ (step l e).cleared
     pub sends : sent e told.reply ≡ sent e (step l e).reply
     pub asks : asked e told.reply ≡ asked e (step l e).reply
-    pub withdraws : withdrawn e told.reply ≡ withdrawn e (step l e).reply
+    pub withdraws : withdrawn_ticket e told.reply ≡ withdrawn_ticket e (step l e).reply
     pub clears : cleared_by told.reply ≡ cleared_by (step l e).reply
     pub reply : told.reply ≡ cond (has_handle handles e) (step l e).reply (Refused NoHandle (message_of e))
     pub held : IsHeld (handles_after handles e told.reply) told.line

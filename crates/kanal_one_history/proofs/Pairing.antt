@@ -3,7 +3,7 @@ use Rattle.std.proofs.Common.{◌≡◌, ℕ, zero, suc, List, [], ◌∷◌, le
 use Rattle.kanal_core.specs.Line.{Line}
 use Rattle.kanal_events.specs.Steps.{step}
 use Rattle.kanal_journal.specs.Runs.{opening_line}
-use Rattle.kanal_journal.specs.Paired.{History, Paired}
+use Rattle.kanal_journal.specs.Paired.{PairedHistory, Paired}
 use Rattle.kanal_journal.proofs.Holding.{Holds, holds_paired}
 use Rattle.kanal_journal.proofs.Along.{holds-opening}
 use Rattle.kanal_journal.proofs.EachStep.{told-holds}
@@ -13,12 +13,12 @@ use Rattle.kanal_one_history.specs.Calls.{after, AreTold, IsLegal, with_call, wi
 use Rattle.kanal_one_history.proofs.Telling.{live, live-made}
 
 module _ {T : Type 0} where
-  holds-call : (h : History T) (l : Line T) (c : Call T) → Holds h l → c ≡ call_of c.event (step l c.event) → Holds (with_call h c) (step l c.event).line
+  holds-call : (h : PairedHistory T) (l : Line T) (c : Call T) → Holds h l → c ≡ call_of c.event (step l c.event) → Holds (with_call h c) (step l c.event).line
   holds-call h l c holds is =
       let P : Call T → Type 0 = λ x. Holds (with_call h x) (step l c.event).line in
       subst P (sym is) (told-holds h l holds (length h.replies) live c.event (step l c.event) (inl (sym (live-made l c.event))))
 
-  holds-calls : (h : History T) (l : Line T) (cs : List (Call T)) → Holds h l → AreTold l cs → Holds (with_calls h cs) (after l cs)
+  holds-calls : (h : PairedHistory T) (l : Line T) (cs : List (Call T)) → Holds h l → AreTold l cs → Holds (with_calls h cs) (after l cs)
   holds-calls h l [] holds told = holds
   holds-calls h l (c ∷ cs) holds told = holds-calls (with_call h c) (step l c.event).line cs (holds-call h l c holds told.0) told.1
 

@@ -7,7 +7,7 @@ use Rattle.std.proofs.lemmas.List.Folds.{list_any-append}
 use Rattle.kanal_core.specs.declared.internal.outcome.Outcome.{Outcome}
 use Rattle.kanal_journal.specs.declared.journal.report.Settlement.{Settlement}
 use Rattle.kanal_journal.specs.Runs.{numbered}
-use Rattle.kanal_journal.specs.Paired.{History, along, given, gift_of, history_from, is_ended, withdrawn}
+use Rattle.kanal_journal.specs.Paired.{PairedHistory, along, given, gift_of, history_from, is_ended, withdrawn_ticket}
 use Rattle.kanal_journal.specs.Laws.{settled_times, withdrawn_times}
 use Rattle.kanal_journal.proofs.Lawful.{ends-once}
 use Rattle.kanal_state.specs.declared.call.Call.{Call}
@@ -30,11 +30,11 @@ module _ {T : Type 0} where
   -- a ticket of a legal history ends once at most
   pub each_ends_once : (capacity : Option ℕ) (log : List (Call T)) → IsLegal capacity log → EachEndsOnce log
   each_ends_once capacity log legal t =
-      let h : History T = history_of log in
+      let h : PairedHistory T = history_of log in
       let k = leads_as_told capacity log legal in
       let a = account_after capacity log in
       let once : settled_times t a.settled + withdrawn_times t h.events a.replies ≤ 1 = ends-once capacity h.events a k.leads t in
-      let back : settled_times t a.settled + length (filter (λ u. u == t) (along withdrawn h.events h.replies)) ≤ 1 =
+      let back : settled_times t a.settled + length (filter (λ u. u == t) (along withdrawn_ticket h.events h.replies)) ≤ 1 =
       subst (λ us. settled_times t a.settled + length (filter (λ u. u == t) us) ≤ 1) k.withdrawn once in
       subst (λ ss. settled_times t ss + withdrawn_times t h.events h.replies ≤ 1) k.settled back
 
@@ -64,11 +64,11 @@ module _ {T : Type 0} where
         record { before = []; number = n; rest = numbered n ss; is = ap (λ (p : ℕ × Outcome T). record { step = n; ticket = p.0; outcome = p.1 } ∷ numbered n ss) (sym e) }
     stands-in n (s ∷ ss) (inr i) = stands-right (record { step = n; ticket = s.0; outcome = s.1 } ∷ []) (numbered n ss) (stands-in n ss i)
 
-    stands-calls : (h : History T) (cs : List (Call T)) → Stands t outcome h.settled → Stands t outcome (with_calls h cs).settled
+    stands-calls : (h : PairedHistory T) (cs : List (Call T)) → Stands t outcome h.settled → Stands t outcome (with_calls h cs).settled
     stands-calls h [] s = s
     stands-calls h (c ∷ cs) s = stands-calls (with_call h c) cs (stands-left h.settled (numbered (length h.replies) c.settled) s)
 
-    stands-there : (h : History T) (before : List (Call T)) (c : Call T) (rest : List (Call T)) → IsIn (t, outcome) c.settled → Stands t outcome (with_calls h (before ++ c ∷ rest)).settled
+    stands-there : (h : PairedHistory T) (before : List (Call T)) (c : Call T) (rest : List (Call T)) → IsIn (t, outcome) c.settled → Stands t outcome (with_calls h (before ++ c ∷ rest)).settled
     stands-there h [] c rest i = stands-calls (with_call h c) rest (stands-right h.settled (numbered (length h.replies) c.settled) (stands-in (length h.replies) c.settled i))
     stands-there h (b ∷ bs) c rest i = stands-there (with_call h b) bs c rest i
 
@@ -120,7 +120,7 @@ module _ {T : Type 0} where
   -- what was settled once came to just that
   pub waits_as_settled : (capacity : Option ℕ) (log : List (Call T)) → IsLegal capacity log → WaitsAsSettled log
   waits_as_settled capacity log legal t outcome settled off =
-      let h : History T = history_of log in
+      let h : PairedHistory T = history_of log in
       let s = stands-settled t outcome log settled in
       let once = each_ends_once capacity log legal t in
       let count : settled_times t h.settled ≡ settled_times t s.before + (1 + settled_times t s.rest) =
@@ -128,7 +128,7 @@ module _ {T : Type 0} where
       let a : settled_times t s.before ≡ 0 = omega (arith, once, count) in
       let b : settled_times t s.rest ≡ 0 = omega (arith, once, count) in
       let w : withdrawn_times t h.events h.replies ≡ 0 = omega (arith, once, count) in
-      let back : list_any (λ u. u == t) (along withdrawn h.events h.replies) ≡ false = none-there t (along withdrawn h.events h.replies) w in
+      let back : list_any (λ u. u == t) (along withdrawn_ticket h.events h.replies) ≡ false = none-there t (along withdrawn_ticket h.events h.replies) w in
       let ended : list_any (λ x. (x.ticket == t) && is_ended x.outcome) h.settled ≡ false =
       ap (λ xs. list_any (λ (x : Settlement T). (x.ticket == t) && is_ended x.outcome) xs) s.is ∙ all-ended t s.before s.rest s.number outcome a b off in
       (rw (back, ended) refl, ap (λ xs. given xs t) s.is ∙ all-given t s.before s.rest s.number outcome a b)

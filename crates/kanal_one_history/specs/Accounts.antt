@@ -5,9 +5,9 @@ use Rattle.kanal_events.specs.declared.event.Reply.{Reply}
 use Rattle.kanal_events.specs.declared.event.Reply.TheVariants.{Refused}
 use Rattle.kanal_events.specs.Steps.{message_of}
 use Rattle.kanal_journal.specs.declared.journal.handles.Handles.{Handles}
-use Rattle.kanal_journal.specs.Runs.{Account, Leads, handles_after, has_handle, opening}
+use Rattle.kanal_journal.specs.Runs.{Account, Leads, handles_after, has_handle, opening_account}
 use Rattle.kanal_journal.specs.Replays.{played}
-use Rattle.kanal_journal.specs.Paired.{History, along, demands, kept, withdrawn}
+use Rattle.kanal_journal.specs.Paired.{PairedHistory, along, demands, kept, withdrawn_ticket}
 use Rattle.kanal_journal.specs.Laws.{StaysOver, told_history}
 use Rattle.kanal_state.specs.declared.call.Call.{Call}
 use Rattle.kanal_one_history.specs.Calls.{history_of, line_after}
@@ -29,19 +29,19 @@ module _ {T : Type 0} where
 
   -- the account of a new channel of this capacity after the events of these calls
   abbrev pub account_after : Option ℕ → List (Call T) → Account T
-  account_after capacity log = played (opening capacity) (history_of log).events
+  account_after capacity log = played (opening_account capacity) (history_of log).events
 
   -- the history that this account tells of the same events
-  abbrev pub history_after : Option ℕ → List (Call T) → History T
+  abbrev pub history_after : Option ℕ → List (Call T) → PairedHistory T
   history_after capacity log = told_history (history_of log).events (account_after capacity log)
 
   -- all tickets that were withdrawn
-  abbrev pub all_withdrawn : History T → List ℕ
-  all_withdrawn h = along withdrawn h.events h.replies
+  abbrev pub all_withdrawn : PairedHistory T → List ℕ
+  all_withdrawn h = along withdrawn_ticket h.events h.replies
 
   -- the events of this history lead a new channel to an account that tells the same, but for replies where a side has no live handle
   pub record LeadsAsTold (capacity : Option ℕ) (log : List (Call T)) : Type 0 where
-    pub leads : Leads (opening capacity) (history_of log).events (account_after capacity log)
+    pub leads : Leads (opening_account capacity) (history_of log).events (account_after capacity log)
     pub line : (account_after capacity log).line ≡ line_after capacity log
     pub settled : (account_after capacity log).settled ≡ (history_of log).settled
     pub drained : (account_after capacity log).drained ≡ (history_of log).drained

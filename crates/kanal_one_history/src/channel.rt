@@ -8,7 +8,7 @@ ghost use Rattle.kanal_log.specs.Views.{known};
 ghost use Rattle.kanal_core.specs.Line.{last_word};
 
 use crate::history::GhostHistory;
-use crate::pass::Pass;
+use crate::pass::GhostPass;
 use kanal_channel::Shared;
 use kanal_core::error::NewError;
 use kanal_core::internal::ChannelInternal;
@@ -35,7 +35,7 @@ pub fn bounded<T: Drop, J: LogId>(
     alloc: Global,
     capacity: usize,
     opened: NewLog<Call<T>>,
-) -> Result<(Channel<T, J>, Pass<T, J>), NewError>
+) -> Result<(Channel<T, J>, GhostPass<T, J>), NewError>
     requires name { table_of opened ≡ J.table }
     requires capacity { J.capacity ≡ Some capacity }
     ensures fresh { IfOk result (λ r. r.1 ≡ known [] [] whole) }
@@ -60,7 +60,7 @@ pub fn bounded<T: Drop, J: LogId>(
 pub fn unbounded<T: Drop, J: LogId>(
     alloc: Global,
     opened: NewLog<Call<T>>,
-) -> (Channel<T, J>, Pass<T, J>)
+) -> (Channel<T, J>, GhostPass<T, J>)
     requires name { table_of opened ≡ J.table }
     requires capacity { J.capacity ≡ None }
     ensures fresh { result.1 ≡ known [] [] whole }

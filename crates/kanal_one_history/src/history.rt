@@ -6,7 +6,7 @@ ghost use Rattle.kanal_log.specs.Logs.{table_of};
 ghost use Rattle.kanal_log.specs.Shares.{whole};
 ghost use Rattle.kanal_log.specs.Views.{known};
 
-use crate::pass::{InternalPass, Pass, Prefix};
+use crate::pass::{GhostPass, InternalPass, Prefix};
 use kanal_log::{EntryOf, GhostLog, LogId, NewLog, Writer};
 use kanal_state::{Call, History};
 use std::marker::Model;
@@ -36,13 +36,15 @@ impl<T, J: LogId> GhostHistory<T, J> {
     /// add calls. The caller knows that the name is this log's.
     /// Example: `let (log, mut history, pass) = GhostHistory::<u64, J>::opened(opened)`; then `pass` has seen
     /// nothing.
-    pub fn opened(opened: NewLog<Call<T>>) -> (GhostLog<Call<T>, J>, GhostHistory<T, J>, Pass<T, J>)
+    pub fn opened(
+        opened: NewLog<Call<T>>,
+    ) -> (GhostLog<Call<T>, J>, GhostHistory<T, J>, GhostPass<T, J>)
         requires name { table_of opened ≡ J.table }
         ensures empty { result.1 ≡ [] }
         ensures first { result.2 ≡ known [] [] whole }
     {
         let (log, writer, reader) = opened.named::<J>();
-        (log, GhostHistory { writer }, Pass { reader })
+        (log, GhostHistory { writer }, GhostPass { reader })
     }
 
     /// What makes the internal calls. It has seen all.
@@ -65,7 +67,7 @@ impl<T, J: LogId> History<T> for GhostHistory<T, J> {
     ghost use Rattle.kanal_one_history.specs.Puts.{Exchanges};
     ghost use Rattle.kanal_one_history.specs.Sound.{internal_pass_sound, pass_sound};
 
-    type Pass = Pass<T, J>;
+    type Pass = GhostPass<T, J>;
 
     type Log = GhostLog<Call<T>, J>;
 
@@ -87,7 +89,7 @@ impl<T, J: LogId> History<T> for GhostHistory<T, J> {
     fn append<X, Y, M: EntryOf<X, Y, Call<T>>>(
         &mut self,
         log: &GhostLog<Call<T>, J>,
-        pass: &mut Pass<T, J>,
+        pass: &mut GhostPass<T, J>,
         about: &X,
         answer: &Y,
     ) {
@@ -116,12 +118,12 @@ impl<T, J: LogId> History<T> for GhostHistory<T, J> {
     }
 
     #[inline(always)]
-    fn show(&mut self, log: &GhostLog<Call<T>, J>, pass: &mut Pass<T, J>) {
+    fn show(&mut self, log: &GhostLog<Call<T>, J>, pass: &mut GhostPass<T, J>) {
         self.writer.show(log, &mut pass.reader);
     }
 
     #[inline(always)]
-    fn prefix(log: &GhostLog<Call<T>, J>, pass: &mut Pass<T, J>) -> Prefix<T, J> {
+    fn prefix(log: &GhostLog<Call<T>, J>, pass: &mut GhostPass<T, J>) -> Prefix<T, J> {
         Prefix::of(log, &mut pass.reader)
     }
 
@@ -131,7 +133,7 @@ impl<T, J: LogId> History<T> for GhostHistory<T, J> {
     }
 
     #[inline(always)]
-    fn learn(log: &GhostLog<Call<T>, J>, pass: &mut Pass<T, J>, prefix: Prefix<T, J>) {
+    fn learn(log: &GhostLog<Call<T>, J>, pass: &mut GhostPass<T, J>, prefix: Prefix<T, J>) {
         prefix.teach(log, pass);
     }
 

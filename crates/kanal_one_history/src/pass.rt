@@ -22,11 +22,11 @@ use std::marker::Model;
 /// share of the right to add calls, which it always has. Dropping a pass ends nothing: the counts of a channel
 /// change by calls alone.
 #[derive(Drop)]
-pub struct Pass<T, J: LogId> {
+pub struct GhostPass<T, J: LogId> {
     pub(crate) reader: Reader<Call<T>, J>,
 }
 
-impl<T, J: LogId> Model for Pass<T, J> {
+impl<T, J: LogId> Model for GhostPass<T, J> {
     ghost use Rattle.kanal_log.specs.Shares.{HasShare};
     ghost use Rattle.kanal_log.specs.Views.{Known};
     ghost use Rattle.kanal_state.specs.declared.call.Call.{Call};
@@ -39,7 +39,7 @@ impl<T, J: LogId> Model for Pass<T, J> {
     ghost invariant = { λ p. IsLegal J.capacity p.reader.log × HasShare p.reader.share };
 }
 
-impl<T, J: LogId> Pass<T, J> {
+impl<T, J: LogId> GhostPass<T, J> {
     /// What holds of every pass, for a caller's proof; it does nothing when it runs.
     ///
     /// One line of messages tells of the calls that the pass has seen what was told of them. At every cut of
@@ -68,7 +68,7 @@ impl<T, J: LogId> Pass<T, J> {
         ensures copy { result ≡ known self.old.log [] (half self.old.share) }
         ensures same { self.new ≡ known self.old.log self.old.own (half self.old.share) }
     {
-        Pass {
+        GhostPass {
             reader: self.reader.again(log),
         }
     }
@@ -85,7 +85,7 @@ impl<T, J: LogId> Pass<T, J> {
         ensures own { self.new.own ≡ other.own ++ self.old.own }
         ensures share { self.new.share ≡ both other.share self.old.share }
     {
-        let Pass { reader } = other;
+        let GhostPass { reader } = other;
         self.reader.learn(log, reader);
     }
 
@@ -165,7 +165,7 @@ impl<T, J: LogId> Prefix<T, J> {
     }
 
     /// The pass learns it, and makes no call.
-    pub(crate) fn teach(self, log: &GhostLog<Call<T>, J>, pass: &mut Pass<T, J>)
+    pub(crate) fn teach(self, log: &GhostLog<Call<T>, J>, pass: &mut GhostPass<T, J>)
         ensures this { IsPrefix pass.old.log pass.new.log }
         ensures that { IsPrefix self pass.new.log }
         ensures own { pass.new.own ≡ pass.old.own }

@@ -6,8 +6,8 @@ use Rattle.kanal_events.specs.declared.event.Reply.{Reply}
 use Rattle.kanal_journal.specs.declared.journal.recorder.Entry.{Entry}
 use Rattle.kanal_recorded.specs.declared.pass.Note.{Note}
 use Rattle.kanal_journal.specs.declared.journal.recorder.Journal.{Journal}
-use Rattle.kanal_journal.specs.Runs.{Account, Leads, opening}
-use Rattle.kanal_journal.specs.Paired.{History, history_from}
+use Rattle.kanal_journal.specs.Runs.{Account, Leads, opening_account}
+use Rattle.kanal_journal.specs.Paired.{PairedHistory, history_from}
 use Rattle.kanal_journal.specs.Laws.{told_history}
 use Rattle.kanal_journal.specs.Replays.{Replays, events_of, replies_of}
 use Rattle.kanal_recorded.specs.Passes.{Calls}
@@ -55,7 +55,7 @@ module _ {T : Type 0} where
     pub own : All (IsOwn entries) passes
 
   -- the journal is one of this capacity, replays with its own lists, and the passes' calls are merged in it
-  pub record Finishes (given : Option ℕ) (passes : List (Calls T)) (journal : Journal T) : Type 0 where
+  pub record FinishPost (given : Option ℕ) (passes : List (Calls T)) (journal : Journal T) : Type 0 where
     pub capacity : journal.capacity ≡ given
     pub end : Account T
     pub replays : Replays given journal.entries.items end
@@ -65,12 +65,12 @@ module _ {T : Type 0} where
     pub merged : IsMerged journal.entries.items passes
 
   -- the history that a journal tells
-  abbrev pub journal_history : Journal T → History T
+  abbrev pub journal_history : Journal T → PairedHistory T
   journal_history j = history_from (events_of j.entries.items) (replies_of j.entries.items) j.settled.items j.drained.items
 
   -- the journal's events lead from a new channel of this capacity to an account that tells the journal's history: the laws hold of it
   pub record IsLedTo (given : Option ℕ) (journal : Journal T) : Type 0 where
     pub end : Account T
-    pub leads : Leads (opening given) (events_of journal.entries.items) end
+    pub leads : Leads (opening_account given) (events_of journal.entries.items) end
     pub history : told_history (events_of journal.entries.items) end ≡ journal_history journal
     pub cleared : end.cleared ≡ journal.cleared.items

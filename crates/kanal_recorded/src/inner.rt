@@ -6,8 +6,8 @@ ghost use Rattle.std.specs.Prelude.{◌≡◌, ◌↔◌, ◌+◌, ℕ, IfErr, I
 ghost use Rattle.kanal_core.specs.Line.{last_word};
 ghost use Rattle.kanal_core.specs.Moves.{last_count};
 ghost use Rattle.kanal_journal.specs.Paired.{Paired, until};
-ghost use Rattle.kanal_journal.specs.Replays.{opened, outcome_of};
-ghost use Rattle.kanal_recorded.specs.Merges.{Finishes, IsIdentity, IsLedTo, journal_history};
+ghost use Rattle.kanal_journal.specs.Replays.{opened_recording, outcome_of};
+ghost use Rattle.kanal_recorded.specs.Merges.{FinishPost, IsIdentity, IsLedTo, journal_history};
 
 use crate::finish::{is_capacity, is_merged};
 use crate::pass::Pass;
@@ -27,7 +27,7 @@ impl<T: Copy> Inner<T> {
     /// A new channel of this capacity, `None` being no limit, on which no call was made and of which
     /// no pass was drawn.
     pub(crate) fn new(alloc: Global, capacity: Option<usize>) -> Result<Self, NewError>
-        ensures opened { IfOk result (λ s. s.state ≡ opened capacity) }
+        ensures opened { IfOk result (λ s. s.state ≡ opened_recording capacity) }
         ensures none { IfOk result (λ s. s.parties ≡ 0) }
         ensures large { IsErrOf result NewError.TooLarge ↔ (capacity ≡ Some last_word) }
     {
@@ -71,7 +71,7 @@ impl<T: Copy> Inner<T> {
         ensures settled { IfOk result (λ j. j.settled.items ≡ self.state.account.settled) }
         ensures drained { IfOk result (λ j. j.drained.items ≡ self.state.account.drained) }
         ensures cleared { IfOk result (λ j. j.cleared.items ≡ self.state.account.cleared) }
-        ensures finished { IfOk result (λ j. Finishes capacity passes.now j) }
+        ensures finished { IfOk result (λ j. FinishPost capacity passes.now j) }
         ensures leads { IfOk result (λ j. IsLedTo capacity j) }
         ensures paired { IfOk result (λ j. (n : ℕ) → Paired (until n (journal_history j))) }
         ensures same { IfErr result (λ s. s ≡ self) }

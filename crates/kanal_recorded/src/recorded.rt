@@ -5,7 +5,7 @@ ghost use Rattle.std.specs.Prelude.{◌≡◌, ◌↔◌, ℕ, length, IfErr, If
 ghost use Rattle.std.specs.List.{sum_by};
 ghost use Rattle.kanal_core.specs.Line.{last_word};
 ghost use Rattle.kanal_journal.specs.Paired.{Paired, until};
-ghost use Rattle.kanal_recorded.specs.Merges.{Finishes, IsIdentity, IsLedTo, journal_history};
+ghost use Rattle.kanal_recorded.specs.Merges.{FinishPost, IsIdentity, IsLedTo, journal_history};
 ghost use Rattle.kanal_recorded.specs.Passes.{newcomer};
 
 use crate::inner::Inner;
@@ -110,7 +110,7 @@ impl<T: Copy> Recorded<T> {
     where
         T: Eq,
         requires { IsIdentity T.eq }
-        ensures finished { IfOk result (λ j. Finishes self passes.items j) }
+        ensures finished { IfOk result (λ j. FinishPost self passes.items j) }
         ensures leads { IfOk result (λ j. IsLedTo self j) }
         ensures paired { IfOk result (λ j. (n : ℕ) → Paired (until n (journal_history j))) }
         ensures count { IfOk result (λ j. sum_by (λ p. length p.notes) passes.items

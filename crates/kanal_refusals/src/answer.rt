@@ -4,7 +4,7 @@ use kanal::error::{CloseError, ReceiveError, ReceiveErrorTimeout, SendError, Sen
 
 /// An answer.
 #[derive(Clone, Copy, Debug, PartialEq, Eq)]
-pub enum Answer {
+pub enum AnyAnswer {
     /// It is done: a message was sent, or a side ended.
     Done,
     /// The message of a try entered.
@@ -44,69 +44,69 @@ pub enum Answer {
 }
 
 /// Of a send.
-pub fn sent(answer: Result<(), SendError>) -> Answer {
+pub fn sent(answer: Result<(), SendError>) -> AnyAnswer {
     match answer {
-        Ok(()) => Answer::Done,
-        Err(SendError::Sealed) => Answer::Sealed,
-        Err(SendError::NoMemory) => Answer::NoMemory,
-        Err(SendError::Finished) => Answer::Finished,
-        Err(_other) => Answer::Other,
+        Ok(()) => AnyAnswer::Done,
+        Err(SendError::Sealed) => AnyAnswer::Sealed,
+        Err(SendError::NoMemory) => AnyAnswer::NoMemory,
+        Err(SendError::Finished) => AnyAnswer::Finished,
+        Err(_other) => AnyAnswer::Other,
     }
 }
 
 /// Of a send that doesn't wait.
-pub fn tried(answer: Result<bool, SendError>) -> Answer {
+pub fn tried(answer: Result<bool, SendError>) -> AnyAnswer {
     match answer {
-        Ok(true) => Answer::Yes,
-        Ok(false) => Answer::No,
+        Ok(true) => AnyAnswer::Yes,
+        Ok(false) => AnyAnswer::No,
         Err(error) => sent(Err(error)),
     }
 }
 
 /// Of a send with a deadline.
-pub fn sent_in_time(answer: Result<(), SendErrorTimeout>) -> Answer {
+pub fn sent_in_time(answer: Result<(), SendErrorTimeout>) -> AnyAnswer {
     match answer {
-        Ok(()) => Answer::Done,
-        Err(SendErrorTimeout::Timeout) => Answer::Timeout,
-        Err(SendErrorTimeout::NoMemory) => Answer::NoMemory,
-        Err(_other) => Answer::Other,
+        Ok(()) => AnyAnswer::Done,
+        Err(SendErrorTimeout::Timeout) => AnyAnswer::Timeout,
+        Err(SendErrorTimeout::NoMemory) => AnyAnswer::NoMemory,
+        Err(_other) => AnyAnswer::Other,
     }
 }
 
 /// Of a receive; the message is dropped.
-pub fn received(answer: Result<Message, ReceiveError>) -> Answer {
+pub fn received(answer: Result<Message, ReceiveError>) -> AnyAnswer {
     match answer {
-        Ok(message) => Answer::Got(message.number),
-        Err(ReceiveError::SendClosed) => Answer::SendClosed,
-        Err(ReceiveError::NoMemory) => Answer::NoMemory,
-        Err(ReceiveError::Finished) => Answer::Finished,
-        Err(_other) => Answer::Other,
+        Ok(message) => AnyAnswer::Got(message.number),
+        Err(ReceiveError::SendClosed) => AnyAnswer::SendClosed,
+        Err(ReceiveError::NoMemory) => AnyAnswer::NoMemory,
+        Err(ReceiveError::Finished) => AnyAnswer::Finished,
+        Err(_other) => AnyAnswer::Other,
     }
 }
 
 /// Of a receive that doesn't wait.
-pub fn found(answer: Result<Option<Message>, ReceiveError>) -> Answer {
+pub fn found(answer: Result<Option<Message>, ReceiveError>) -> AnyAnswer {
     match answer {
-        Ok(Some(message)) => Answer::Got(message.number),
-        Ok(None) => Answer::Nothing,
+        Ok(Some(message)) => AnyAnswer::Got(message.number),
+        Ok(None) => AnyAnswer::Nothing,
         Err(error) => received(Err(error)),
     }
 }
 
 /// Of a receive with a deadline.
-pub fn received_in_time(answer: Result<Message, ReceiveErrorTimeout>) -> Answer {
+pub fn received_in_time(answer: Result<Message, ReceiveErrorTimeout>) -> AnyAnswer {
     match answer {
-        Ok(message) => Answer::Got(message.number),
-        Err(ReceiveErrorTimeout::Timeout) => Answer::Timeout,
-        Err(ReceiveErrorTimeout::NoMemory) => Answer::NoMemory,
-        Err(_other) => Answer::Other,
+        Ok(message) => AnyAnswer::Got(message.number),
+        Err(ReceiveErrorTimeout::Timeout) => AnyAnswer::Timeout,
+        Err(ReceiveErrorTimeout::NoMemory) => AnyAnswer::NoMemory,
+        Err(_other) => AnyAnswer::Other,
     }
 }
 
 /// Of a seal or a close.
-pub fn ended(answer: Result<(), CloseError>) -> Answer {
+pub fn ended(answer: Result<(), CloseError>) -> AnyAnswer {
     match answer {
-        Ok(()) => Answer::Done,
-        Err(_ended) => Answer::Ended,
+        Ok(()) => AnyAnswer::Done,
+        Err(_ended) => AnyAnswer::Ended,
     }
 }

@@ -1,5 +1,5 @@
 //! Every step of a cell, once it is made.
-use crate::driver::{Run, Tally, holds};
+use crate::driver::{Run, Score, holds};
 use crossbeam_utils::sync::Parker;
 use futures::task::{Poll, Source, Waker};
 use futures::test::MockTask;
@@ -8,7 +8,7 @@ use std::alloc::{AllocGlobal, Global};
 use std::random::RandomSource;
 
 /// Makes the steps of each cell.
-pub fn call_all<R: RandomSource + AllocGlobal>(rt: &R, alloc: Global, tally: Tally) -> Option<()> {
+pub fn call_all<R: RandomSource + AllocGlobal>(rt: &R, alloc: Global, tally: Score) -> Option<()> {
     let makes_calls = tally.run != Run::Setup;
     settled_or_left(alloc, makes_calls)?;
     slept(alloc, makes_calls)?;

@@ -13,14 +13,14 @@ pub enum Run {
 
 /// How many of the tested calls were refused for memory in this run.
 #[derive(Clone, Copy)]
-pub struct Tally {
+pub struct Score {
     /// What the run is for.
     pub run: Run,
     /// How many calls were refused.
     pub refused: u32,
 }
 
-impl Tally {
+impl Score {
     /// One more call was refused; None where none may be.
     pub fn add(&mut self) -> Option<()> {
         self.refused = self.refused.wrapping_add(1);
@@ -66,7 +66,7 @@ pub struct Row<M: 'static, C: 'static, A: 'static> {
 /// Makes the calls of a row; None where one answers otherwise.
 pub fn make_row<S: Subject, M>(
     subject: &mut S,
-    tally: &mut Tally,
+    tally: &mut Score,
     row: &Row<M, S::Call, S::Answer>,
 ) -> Option<()> {
     make_each(subject, tally, row.ready)?;
@@ -79,7 +79,7 @@ pub fn make_row<S: Subject, M>(
 /// Makes each of the calls; None where one answers otherwise.
 pub fn make_each<S: Subject>(
     subject: &mut S,
-    tally: &mut Tally,
+    tally: &mut Score,
     calls: &[(S::Call, S::Answer)],
 ) -> Option<()> {
     for (call, answer) in calls {
@@ -91,7 +91,7 @@ pub fn make_each<S: Subject>(
 /// Makes the call, and makes it again where it found no memory and has left things as they were.
 fn make<S: Subject>(
     subject: &mut S,
-    tally: &mut Tally,
+    tally: &mut Score,
     call: S::Call,
     expected: S::Answer,
 ) -> Option<()> {

@@ -4,8 +4,8 @@ mod polls;
 mod rows;
 mod served;
 
-use crate::answer::{Answer, ended};
-use crate::driver::{Row, Run, Subject, Tally, holds, make_each, make_row};
+use crate::answer::{AnyAnswer, ended};
+use crate::driver::{Row, Run, Score, Subject, holds, make_each, make_row};
 use crate::given::{Given, Message};
 use futures::test::MockTask;
 use kanal::error::NewError;
@@ -23,7 +23,7 @@ use std::time;
 
 /// How a channel is made.
 #[derive(Clone, Copy)]
-enum Made {
+enum MadeBy {
     Bounded(usize),
     Unbounded,
     BoundedAsync(usize),
@@ -32,7 +32,7 @@ enum Made {
 
 /// A form of a send: by the sender of threads, by a view of it, or by the sender of tasks.
 #[derive(Clone, Copy)]
-enum Form {
+enum SendKind {
     Plain,
     Try,
     TryRealtime,
@@ -48,7 +48,7 @@ enum Form {
 
 /// A form of a receive, by the receiver of threads, by a view of it, or by the receiver of tasks.
 #[derive(Clone, Copy)]
-enum Take {
+enum ReceiveKind {
     Plain,
     Try,
     TryRealtime,
@@ -60,16 +60,16 @@ enum Take {
 
 /// How another serves a call: it gives it a message with this number, or takes its message.
 #[derive(Clone, Copy)]
-enum Way {
+enum ServedBy {
     Give(u64),
     Take,
 }
 
 /// A call. `First` and `Second` are the tasks that poll.
 #[derive(Clone, Copy)]
-enum Call {
-    Send(Form, u64),
-    Receive(Take),
+enum HandleCall {
+    Send(SendKind, u64),
+    Receive(ReceiveKind),
     /// Makes room in the vector for so many messages.
     Room(usize),
     /// Drains into the vector, by the receiver of tasks or of threads.
@@ -111,7 +111,7 @@ enum Call {
 
 /// What a refused call leaves as it was.
 #[derive(Clone, Copy, Debug, PartialEq, Eq)]
-struct State {
+struct HandleState {
     len: usize,
     senders: u32,
     receivers: u32,
@@ -121,7 +121,7 @@ struct State {
 
 /// A channel's handles, the futures on it, and what the calls need.
 #[derive(Drop)]
-struct Handles<'a, R> {
+struct HandleKit<'a, R> {
     rt: &'a R,
     given: &'a Given,
     tasks: &'a (MockTask, MockTask),
@@ -135,16 +135,16 @@ struct Handles<'a, R> {
     is_served: bool,
 }
 
-impl<R: Wait + time::Clock> Subject for Handles<'_, R> {
-    type Call = Call;
+impl<R: Wait + time::Clock> Subject for HandleKit<'_, R> {
+    type Call = HandleCall;
 
-    type Answer = Answer;
+    type Answer = AnyAnswer;
 
-    type State = State;
+    type State = HandleState;
 
     /// How many messages are alive isn't known while a thread may drop some.
-    fn state(&self) -> State {
-        State {
+    fn state(&self) -> HandleState {
+        HandleState {
             len: self.tx.len(self.rt),
             senders: self.tx.sender_count(self.rt),
             receivers: self.tx.receiver_count(self.rt),
@@ -157,43 +157,43 @@ impl<R: Wait + time::Clock> Subject for Handles<'_, R> {
         }
     }
 
-    fn make(&mut self, call: Call) -> Answer {
+    fn make(&mut self, call: HandleCall) -> AnyAnswer {
         match call {
-            Call::Send(form, number) => self.send(form, number),
-            Call::Receive(take) => self.receive(take),
-            Call::Room(count) if self.into.try_reserve(count).is_err() => Answer::NoMemory,
-            Call::Room(_) => Answer::Done,
-            Call::Drain { by_task } => self.drain(by_task),
-            Call::SealBySender => ended(self.tx.seal(self.rt)),
-            Call::SealByReceiver => ended(self.rx.seal(self.rt)),
-            Call::CloseBySender => ended(self.tx.close(self.rt)),
-            Call::CloseByReceiver => ended(self.rx.close(self.rt)),
-            Call::Len => Answer::Number(self.tx.len(self.rt) as u64),
-            Call::Alive => Answer::Number(self.given.alive()),
-            Call::Questions => Answer::Flag(self.is_as_it_began()),
-            Call::Convert => Answer::Flag(self.converts()),
-            Call::ReceiveAsleep(number) => self.receive_asleep(number),
-            Call::SendAsleep(number) => self.send_asleep(number),
+            HandleCall::Send(form, number) => self.send(form, number),
+            HandleCall::Receive(take) => self.receive(take),
+            HandleCall::Room(count) if self.into.try_reserve(count).is_err() => AnyAnswer::NoMemory,
+            HandleCall::Room(_) => AnyAnswer::Done,
+            HandleCall::Drain { by_task } => self.drain(by_task),
+            HandleCall::SealBySender => ended(self.tx.seal(self.rt)),
+            HandleCall::SealByReceiver => ended(self.rx.seal(self.rt)),
+            HandleCall::CloseBySender => ended(self.tx.close(self.rt)),
+            HandleCall::CloseByReceiver => ended(self.rx.close(self.rt)),
+            HandleCall::Len => AnyAnswer::Number(self.tx.len(self.rt) as u64),
+            HandleCall::Alive => AnyAnswer::Number(self.given.alive()),
+            HandleCall::Questions => AnyAnswer::Flag(self.is_as_it_began()),
+            HandleCall::Convert => AnyAnswer::Flag(self.converts()),
+            HandleCall::ReceiveAsleep(number) => self.receive_asleep(number),
+            HandleCall::SendAsleep(number) => self.send_asleep(number),
             _ => self.poll(call),
         }
     }
 
     /// A poll by another task than the last asks for another poll.
-    fn refused(call: Call) -> Answer {
+    fn refused(call: HandleCall) -> AnyAnswer {
         match call {
-            Call::SecondPollsSend | Call::SecondPollsReceive => Answer::Woken,
-            _ => Answer::NoMemory,
+            HandleCall::SecondPollsSend | HandleCall::SecondPollsReceive => AnyAnswer::Woken,
+            _ => AnyAnswer::NoMemory,
         }
     }
 }
 
 /// Both ends of a channel that is made so.
-fn open(alloc: Global, made: Made) -> Result<(Sender<Message>, Receiver<Message>), NewError> {
+fn open(alloc: Global, made: MadeBy) -> Result<(Sender<Message>, Receiver<Message>), NewError> {
     let (tx, rx) = match made {
-        Made::Bounded(capacity) => return bounded(alloc, capacity),
-        Made::Unbounded => return unbounded(alloc),
-        Made::BoundedAsync(capacity) => bounded_async(alloc, capacity)?,
-        Made::UnboundedAsync => unbounded_async(alloc)?,
+        MadeBy::Bounded(capacity) => return bounded(alloc, capacity),
+        MadeBy::Unbounded => return unbounded(alloc),
+        MadeBy::BoundedAsync(capacity) => bounded_async(alloc, capacity)?,
+        MadeBy::UnboundedAsync => unbounded_async(alloc)?,
     };
     Ok((tx.to_sync(), rx.to_sync()))
 }
@@ -201,8 +201,8 @@ fn open(alloc: Global, made: Made) -> Result<(Sender<Message>, Receiver<Message>
 /// The same, made again where it was refused.
 fn opened(
     alloc: Global,
-    tally: &mut Tally,
-    made: Made,
+    tally: &mut Score,
+    made: MadeBy,
 ) -> Option<(Sender<Message>, Receiver<Message>)> {
     match open(alloc, made) {
         Err(NewError::NoMemory) => {
@@ -221,7 +221,7 @@ fn task<R: RandomSource + AllocGlobal>(rt: &R) -> Option<MockTask> {
     }
 }
 
-impl<'a, R> Handles<'a, R> {
+impl<'a, R> HandleKit<'a, R> {
     /// These handles, with no future on them.
     fn new(
         rt: &'a R,
@@ -231,7 +231,7 @@ impl<'a, R> Handles<'a, R> {
         tx: &'a Sender<Message>,
         rx: &'a Receiver<Message>,
     ) -> Self {
-        Handles {
+        HandleKit {
             rt,
             given,
             tasks,
@@ -248,7 +248,7 @@ impl<'a, R> Handles<'a, R> {
 
 /// Makes the calls of each row, after which no message of it is left. A run that may refuse nothing leaves
 /// out the rows whose calls all may ask for memory.
-pub fn call_all<R>(rt: &R, alloc: Global, tally: &mut Tally) -> Option<()>
+pub fn call_all<R>(rt: &R, alloc: Global, tally: &mut Score) -> Option<()>
 where
     R: Wait + time::Clock + RandomSource + AllocGlobal,
 {
@@ -259,7 +259,7 @@ where
         }
         let (tx, rx) = opened(alloc, tally, row.made)?;
         make_row(
-            &mut Handles::new(rt, alloc, &given, &tasks, &tx, &rx),
+            &mut HandleKit::new(rt, alloc, &given, &tasks, &tx, &rx),
             tally,
             row,
         )?;
@@ -271,14 +271,14 @@ where
 }
 
 /// Makes the calls of each row beside which a thread serves them.
-pub fn call_served<R>(rt: &R, alloc: Global, tally: &mut Tally) -> Option<()>
+pub fn call_served<R>(rt: &R, alloc: Global, tally: &mut Score) -> Option<()>
 where
     R: Threads + Wait + time::Clock + RandomSource + AllocGlobal + Copy + Send + 'static,
 {
     let (given, tasks) = (Given::new(alloc)?, (task(rt)?, task(rt)?));
     for row in SERVED {
-        let (tx, rx) = opened(alloc, tally, Made::BoundedAsync(0))?;
-        let mut handles = Handles::new(rt, alloc, &given, &tasks, &tx, &rx);
+        let (tx, rx) = opened(alloc, tally, MadeBy::BoundedAsync(0))?;
+        let mut handles = HandleKit::new(rt, alloc, &given, &tasks, &tx, &rx);
         call_beside_a_thread(&mut handles, tally, row)?;
         drop(handles);
         drop(tx);
@@ -290,9 +290,9 @@ where
 
 /// Makes the first calls of the row, and the others while a thread serves them.
 fn call_beside_a_thread<R>(
-    handles: &mut Handles<'_, R>,
-    tally: &mut Tally,
-    row: &Row<(Way, Way), Call, Answer>,
+    handles: &mut HandleKit<'_, R>,
+    tally: &mut Score,
+    row: &Row<(ServedBy, ServedBy), HandleCall, AnyAnswer>,
 ) -> Option<()>
 where
     R: Threads + Wait + time::Clock + Copy + Send + 'static,

@@ -1,5 +1,5 @@
 //! What is left while the lock is held: a future that waits and is dropped then.
-use crate::driver::{Run, Tally, holds};
+use crate::driver::{Run, Score, holds};
 use futures::task::Poll;
 use futures::test::MockTask;
 use kanal_channel::Shared;
@@ -14,7 +14,7 @@ use std::sync::Wait;
 pub fn leaves<R: Wait + RandomSource + AllocGlobal>(
     rt: &R,
     alloc: Global,
-    tally: Tally,
+    tally: Score,
 ) -> Option<()> {
     let task = MockTask::new(rt).ok()?;
     let core = ChannelInternal::new(alloc, 0).ok()?;
@@ -27,7 +27,7 @@ fn leaves_by_notice<R: Wait>(
     rt: &R,
     task: &MockTask,
     shared: &Shared<u64, NoHistory>,
-    tally: Tally,
+    tally: Score,
 ) -> Option<()> {
     let mut sending = send_future(shared, 3);
     holds(task.poll(&mut sending) == Poll::Pending)?;
@@ -37,6 +37,6 @@ fn leaves_by_notice<R: Wait>(
     let locked = shared.lock(rt);
     drop(sending);
     let left = shared.left_waits();
-    locked.unlock_quiet();
+    locked.unlock_and_drain();
     holds(left == 1 && shared.left_waits() == 0 && shared.try_recv(rt, &mut ()) == Ok(None))
 }

@@ -1,19 +1,19 @@
 //! Calls of the channel's core.
 mod rows;
 
-use crate::answer::Answer;
-use crate::driver::{Subject, Tally, make_row};
+use crate::answer::AnyAnswer;
+use crate::driver::{Score, Subject, make_row};
 use kanal_core::error::{DrainError, NewError, WaitError};
 use kanal_core::internal::{ChannelInternal, Closing, Offer, Steps, Take, Ticket};
 use rows::ROWS;
 use std::alloc::Global;
 use std::marker::Brand;
 
-type Core = ChannelInternal<u64, u8>;
+type NumberCore = ChannelInternal<u64, u8>;
 
 /// A call of the core.
 #[derive(Clone, Copy)]
-pub enum Call {
+pub enum CoreCall {
     /// Offers this message.
     Offer(u64),
     /// Lets a send of this message wait, which finds no place.
@@ -40,7 +40,7 @@ pub enum Call {
 
 /// What a refused call leaves as it was.
 #[derive(Clone, Copy, Debug, PartialEq, Eq)]
-pub struct State {
+pub struct CoreState {
     len: usize,
     drained: usize,
     senders: u32,
@@ -50,20 +50,20 @@ pub struct State {
 /// A core with the ticket of its first wait, and a vector to drain into.
 #[derive(Drop)]
 struct Called {
-    core: Core,
+    core: NumberCore,
     first: Option<Ticket>,
     into: Vec<u64>,
 }
 
 impl Subject for Called {
-    type Call = Call;
+    type Call = CoreCall;
 
-    type Answer = Answer;
+    type Answer = AnyAnswer;
 
-    type State = State;
+    type State = CoreState;
 
-    fn state(&self) -> State {
-        State {
+    fn state(&self) -> CoreState {
+        CoreState {
             len: self.core.len(),
             drained: self.into.len(),
             senders: self.core.sender_count(),
@@ -71,128 +71,132 @@ impl Subject for Called {
         }
     }
 
-    fn make(&mut self, call: Call) -> Answer {
+    fn make(&mut self, call: CoreCall) -> AnyAnswer {
         match call {
-            Call::Offer(message) => self.offer(message),
-            Call::WaitSend(message, w) => self.wait_send(message, w),
-            Call::Take => self.take(),
-            Call::WaitRecv(w) => self.wait_recv(w),
-            Call::Withdraw(w) => self.withdraw(w),
-            Call::Room(count) if self.into.try_reserve(count).is_err() => Answer::NoMemory,
-            Call::Room(_) => Answer::Done,
-            Call::Drain => self.drain(),
-            Call::AddSender => done(self.core.add_sender().is_ok()),
-            Call::AddReceiver => done(self.core.add_receiver().is_ok()),
-            Call::DropSender => Answer::Flag(self.core.drop_sender().next().is_some()),
-            Call::DropReceiver => Answer::Flag(self.core.drop_receiver().next().is_some()),
-            Call::Seal => done(self.core.seal().is_ok()),
-            Call::Close => self.close(),
-            Call::Questions => Answer::Flag(self.is_as_it_began()),
+            CoreCall::Offer(message) => self.offer(message),
+            CoreCall::WaitSend(message, w) => self.wait_send(message, w),
+            CoreCall::Take => self.take(),
+            CoreCall::WaitRecv(w) => self.wait_recv(w),
+            CoreCall::Withdraw(w) => self.withdraw(w),
+            CoreCall::Room(count) if self.into.try_reserve(count).is_err() => AnyAnswer::NoMemory,
+            CoreCall::Room(_) => AnyAnswer::Done,
+            CoreCall::Drain => self.drain(),
+            CoreCall::AddSender => done(self.core.add_sender().is_ok()),
+            CoreCall::AddReceiver => done(self.core.add_receiver().is_ok()),
+            CoreCall::DropSender => AnyAnswer::Flag(self.core.drop_sender().next().is_some()),
+            CoreCall::DropReceiver => AnyAnswer::Flag(self.core.drop_receiver().next().is_some()),
+            CoreCall::Seal => done(self.core.seal().is_ok()),
+            CoreCall::Close => self.close(),
+            CoreCall::Questions => AnyAnswer::Flag(self.is_as_it_began()),
         }
     }
 
-    fn refused(_call: Call) -> Answer {
-        Answer::NoMemory
+    fn refused(_call: CoreCall) -> AnyAnswer {
+        AnyAnswer::NoMemory
     }
 }
 
 /// Whether an end or a clone was made.
-fn done(is_made: bool) -> Answer {
-    if is_made { Answer::Done } else { Answer::Ended }
+fn done(is_made: bool) -> AnyAnswer {
+    if is_made {
+        AnyAnswer::Done
+    } else {
+        AnyAnswer::Ended
+    }
 }
 
 impl Called {
-    fn offer(&mut self, message: u64) -> Answer {
+    fn offer(&mut self, message: u64) -> AnyAnswer {
         match self.core.offer(message) {
-            Offer::Entered => Answer::Done,
-            Offer::Handed(_settled) => Answer::Handed,
-            Offer::Full(back) if back == message => Answer::No,
-            Offer::Sealed(back) if back == message => Answer::Sealed,
-            Offer::NoMemory(back) if back == message => Answer::NoMemory,
-            _ => Answer::Other,
+            Offer::Entered => AnyAnswer::Done,
+            Offer::Handed(_settled) => AnyAnswer::Handed,
+            Offer::Full(back) if back == message => AnyAnswer::No,
+            Offer::Sealed(back) if back == message => AnyAnswer::Sealed,
+            Offer::NoMemory(back) if back == message => AnyAnswer::NoMemory,
+            _ => AnyAnswer::Other,
         }
     }
 
-    fn wait_send(&mut self, message: u64, w: u8) -> Answer {
+    fn wait_send(&mut self, message: u64, w: u8) -> AnyAnswer {
         let Offer::Full(offered) = self.core.offer(message) else {
-            return Answer::Other;
+            return AnyAnswer::Other;
         };
         match self.core.wait_send(offered, w) {
             Ok(ticket) => {
                 self.first = self.first.or(Some(ticket));
-                Answer::Waits
+                AnyAnswer::Waits
             },
             Err((WaitError::NoMemory, back, same)) if back == message && same == w => {
-                Answer::NoMemory
+                AnyAnswer::NoMemory
             },
-            Err(_other) => Answer::Other,
+            Err(_other) => AnyAnswer::Other,
         }
     }
 
-    fn take(&mut self) -> Answer {
+    fn take(&mut self) -> AnyAnswer {
         match self.core.take() {
-            Take::Got(message, None) => Answer::Got(message),
-            Take::Empty => Answer::Nothing,
-            Take::SendClosed => Answer::SendClosed,
-            _ => Answer::Other,
+            Take::Got(message, None) => AnyAnswer::Got(message),
+            Take::Empty => AnyAnswer::Nothing,
+            Take::SendClosed => AnyAnswer::SendClosed,
+            _ => AnyAnswer::Other,
         }
     }
 
-    fn wait_recv(&mut self, w: u8) -> Answer {
+    fn wait_recv(&mut self, w: u8) -> AnyAnswer {
         let Take::Empty = self.core.take() else {
-            return Answer::Other;
+            return AnyAnswer::Other;
         };
         match self.core.wait_recv(w) {
             Ok(ticket) => {
                 self.first = self.first.or(Some(ticket));
-                Answer::Waits
+                AnyAnswer::Waits
             },
-            Err((WaitError::NoMemory, same)) if same == w => Answer::NoMemory,
-            Err(_other) => Answer::Other,
+            Err((WaitError::NoMemory, same)) if same == w => AnyAnswer::NoMemory,
+            Err(_other) => AnyAnswer::Other,
         }
     }
 
-    fn withdraw(&mut self, w: u8) -> Answer {
+    fn withdraw(&mut self, w: u8) -> AnyAnswer {
         let Some(first) = self.first else {
-            return Answer::Other;
+            return AnyAnswer::Other;
         };
         let Some(out) = self.core.withdraw(first, &mut Steps::<Brand>::idle()) else {
-            return Answer::Nothing;
+            return AnyAnswer::Nothing;
         };
         match out.message {
-            Some(message) if out.w == w => Answer::Got(message),
-            _ => Answer::Other,
+            Some(message) if out.w == w => AnyAnswer::Got(message),
+            _ => AnyAnswer::Other,
         }
     }
 
     /// Drains into the vector, and answers all that is in it as digits.
-    fn drain(&mut self) -> Answer {
+    fn drain(&mut self) -> AnyAnswer {
         let answer = self.core.drain_into(&mut self.into);
         let mut digits: u64 = 0;
         for digit in &self.into {
             digits = digits.wrapping_mul(10).wrapping_add(*digit);
         }
         match answer {
-            Ok((count, _taken)) => Answer::Drained(count, digits),
-            Err(DrainError::NoMemory) => Answer::NoMemory,
-            Err(_other) => Answer::Other,
+            Ok((count, _taken)) => AnyAnswer::Drained(count, digits),
+            Err(DrainError::NoMemory) => AnyAnswer::NoMemory,
+            Err(_other) => AnyAnswer::Other,
         }
     }
 
     /// Answers the first message that was cleared, where no more than one wait ended.
-    fn close(&mut self) -> Answer {
+    fn close(&mut self) -> AnyAnswer {
         match self.core.close() {
             Ok(Closing { cleared, ended }) => {
                 let (mut cleared, mut ended) = (cleared, ended);
                 let first = cleared.next();
                 let are_right = ended.next().is_some() == first.is_some() && ended.next().is_none();
                 match first {
-                    Some(message) if are_right => Answer::Got(message),
-                    None if are_right => Answer::Done,
-                    _ => Answer::Other,
+                    Some(message) if are_right => AnyAnswer::Got(message),
+                    None if are_right => AnyAnswer::Done,
+                    _ => AnyAnswer::Other,
                 }
             },
-            Err(_refused) => Answer::Ended,
+            Err(_refused) => AnyAnswer::Ended,
         }
     }
 
@@ -208,21 +212,21 @@ impl Called {
 }
 
 /// A core for so many messages, or without limit.
-fn opened(alloc: Global, tally: &mut Tally, capacity: Option<usize>) -> Option<Core> {
+fn opened(alloc: Global, tally: &mut Score, capacity: Option<usize>) -> Option<NumberCore> {
     let Some(capacity) = capacity else {
-        return Some(Core::unbounded(alloc));
+        return Some(NumberCore::unbounded(alloc));
     };
-    match Core::new(alloc, capacity) {
+    match NumberCore::new(alloc, capacity) {
         Err(NewError::NoMemory) => {
             tally.add()?;
-            Core::new(alloc, capacity).ok()
+            NumberCore::new(alloc, capacity).ok()
         },
         made => made.ok(),
     }
 }
 
 /// Makes the calls of each row.
-pub fn call_all(alloc: Global, tally: &mut Tally) -> Option<()> {
+pub fn call_all(alloc: Global, tally: &mut Score) -> Option<()> {
     for row in ROWS {
         let mut called = Called {
             core: opened(alloc, tally, row.made)?,

@@ -2,16 +2,16 @@
 //! memory.
 mod rows;
 
-use crate::driver::{Tally, holds};
+use crate::driver::{Score, holds};
 use kanal_core::error::NewError;
 use kanal_journal::journal::{Report, run};
-use rows::{ROWS, Row};
+use rows::{ROWS, ReportRow};
 use std::alloc::Global;
 use std::fmt;
 use std::fmt::Write;
 
 /// Runs each list.
-pub fn run_all(alloc: Global, tally: &mut Tally) -> Option<()> {
+pub fn run_all(alloc: Global, tally: &mut Score) -> Option<()> {
     for row in ROWS {
         runs(alloc, tally, row)?;
     }
@@ -19,7 +19,7 @@ pub fn run_all(alloc: Global, tally: &mut Tally) -> Option<()> {
 }
 
 /// Runs the list; None where the report isn't what the rules tell.
-fn runs(alloc: Global, tally: &mut Tally, row: &Row) -> Option<()> {
+fn runs(alloc: Global, tally: &mut Score, row: &ReportRow) -> Option<()> {
     let Ok(events) = Vec::from_slice(alloc, row.events) else {
         return Some(());
     };

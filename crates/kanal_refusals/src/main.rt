@@ -21,7 +21,7 @@ mod lists;
 mod passes;
 mod pool;
 
-use driver::{Run, Tally, holds};
+use driver::{Run, Score, holds};
 use std::alloc::AllocGlobal;
 use std::env;
 use std::env::Env;
@@ -47,7 +47,7 @@ fn run_of<R: Env + AllocGlobal>(rt: &R) -> Option<Run> {
 }
 
 /// Makes all calls; None where one answered otherwise.
-fn call_all<R>(rt: &R, tally: &mut Tally) -> Option<()>
+fn call_all<R>(rt: &R, tally: &mut Score) -> Option<()>
 where
     R: Threads + Wait + Clock + RandomSource + AllocGlobal + Copy + Send + Sync + 'static,
 {
@@ -69,7 +69,7 @@ where
 }
 
 /// Makes those of a cell, and a drop while the lock is held.
-fn call_what_takes_none<R: Wait + RandomSource + AllocGlobal>(rt: &R, tally: Tally) -> Option<()> {
+fn call_what_takes_none<R: Wait + RandomSource + AllocGlobal>(rt: &R, tally: Score) -> Option<()> {
     cell::call_all(rt, rt.alloc(), tally)?;
     held::leaves(rt, rt.alloc(), tally)
 }
@@ -78,7 +78,7 @@ fn main(rt: HostRuntime) -> ExitCode {
     let Some(run) = run_of(&rt) else {
         return ExitCode::FAILURE;
     };
-    let mut tally = Tally { run, refused: 0 };
+    let mut tally = Score { run, refused: 0 };
     let answered = call_all(&rt, &mut tally).is_some();
     if answered && println!(rt; "refused calls: {}", tally.refused).is_ok() {
         ExitCode::SUCCESS

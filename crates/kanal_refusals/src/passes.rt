@@ -1,5 +1,5 @@
 //! Calls of passes on a recorded channel, and the check of their history.
-use crate::driver::{Run, Subject, Tally, holds, make_each};
+use crate::driver::{Run, Score, Subject, holds, make_each};
 use kanal_core::error::NewError;
 use kanal_journal::journal::{Ask, Event, Refusal, Reply, Side};
 use kanal_recorded::{Pass, Recorded, Seen};
@@ -113,7 +113,7 @@ fn reply_of<R: Wait>(
 }
 
 /// A recorded channel for one message.
-fn recorded(alloc: Global, tally: &mut Tally) -> Option<Recorded<u64>> {
+fn recorded(alloc: Global, tally: &mut Score) -> Option<Recorded<u64>> {
     match Recorded::new(alloc, Some(1)) {
         Err(NewError::NoMemory) => {
             tally.add()?;
@@ -125,7 +125,7 @@ fn recorded(alloc: Global, tally: &mut Tally) -> Option<Recorded<u64>> {
 
 /// Makes the calls. What takes no memory: a pass hears another, a third one is drawn, and the history is
 /// checked.
-pub fn call_all<R: Wait>(rt: &R, alloc: Global, tally: &mut Tally) -> Option<()> {
+pub fn call_all<R: Wait>(rt: &R, alloc: Global, tally: &mut Score) -> Option<()> {
     let mut list = match Vec::with_capacity(alloc, 3) {
         Err(_refused) => Vec::with_capacity(alloc, 3).ok()?,
         Ok(list) => list,
@@ -147,7 +147,7 @@ pub fn call_all<R: Wait>(rt: &R, alloc: Global, tally: &mut Tally) -> Option<()>
 fn called<R: Wait>(
     rt: &R,
     channel: &Recorded<u64>,
-    tally: &mut Tally,
+    tally: &mut Score,
 ) -> Option<(Pass<u64>, Pass<u64>)> {
     let (a, b) = (channel.pass(rt).ok()?, channel.pass(rt).ok()?);
     let mut passes = Passes { rt, channel, a, b };

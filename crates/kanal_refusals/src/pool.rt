@@ -1,7 +1,7 @@
 //! A pool whose growths, threads and jobs may be refused: its workers have ended then.
 ghost use Rattle.std.proofs.Common.{rules};
 
-use crate::driver::{Tally, holds};
+use crate::driver::{Score, holds};
 use kanal_pool::{Gate, Job, NoMemory, PoolError, map_jobs};
 use std::alloc::Global;
 use std::sync::Wait;
@@ -11,9 +11,9 @@ use std::thread::Threads;
 
 /// A job whose answer is its number.
 #[derive(Clone, Copy, Debug, PartialEq, Eq)]
-struct Number(u64);
+struct NumberJob(u64);
 
-impl Job for Number {
+impl Job for NumberJob {
     type Answer = u64;
 
     ghost value = { λ number. number.0 };
@@ -27,12 +27,12 @@ impl Job for Number {
 
 /// How many jobs were begun, and how many have ended.
 #[derive(Drop)]
-struct Counts {
+struct RefusalCounts {
     entered: AtomicU64,
     left: AtomicU64,
 }
 
-impl Gate for Counts {
+impl Gate for RefusalCounts {
     fn enter(&self, _job: usize) {
         self.entered.fetch_add(1, SeqCst);
     }
@@ -43,9 +43,9 @@ impl Gate for Counts {
 }
 
 /// Three jobs by two workers.
-pub fn works<R: Threads + Wait + Sync>(rt: &R, alloc: Global, tally: &mut Tally) -> Option<()> {
-    let jobs = [Number(1), Number(2), Number(3)];
-    let counts = Counts {
+pub fn works<R: Threads + Wait + Sync>(rt: &R, alloc: Global, tally: &mut Score) -> Option<()> {
+    let jobs = [NumberJob(1), NumberJob(2), NumberJob(3)];
+    let counts = RefusalCounts {
         entered: AtomicU64::new(0),
         left: AtomicU64::new(0),
     };

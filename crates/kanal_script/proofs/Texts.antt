@@ -7,7 +7,7 @@ use Rattle.kanal_events.specs.declared.event.Reply.{Reply}
 use Rattle.kanal_journal.specs.declared.journal.report.Settlement.{Settlement}
 use Rattle.kanal_script.specs.Program.{AppendsBeginning}
 use Rattle.kanal_script.specs.Script.{line}
-use Rattle.kanal_script.specs.Answer.{messages_text, settlements_text, settlement_words, reply_words, counted, drained_count, cleared_count, settled_at, replies_text}
+use Rattle.kanal_script.specs.Answer.{messages_text, settlements_text, settlement_words, reply_words, counted, drained_count, cleared_count, count_settled, replies_text}
 
 -- nothing is written
 pub appends_none : (a : Option (List ℕ)) → Appends a a []
@@ -79,20 +79,20 @@ piece_none a b c later whole i next =
     (i.0, subst (λ (xs : List ℕ). Appends a c xs) (append-nil i.0) (appends_more a b c _ _ i.1 next), i.2)
 
 -- one more step
-pub step_more : (a b c d : Option (List ℕ)) (step : ℕ) (replies : List (Reply ℕ)) (reply : Reply ℕ) (drained cleared : List ℕ) (settled : List (Settlement ℕ)) (whole : List ℕ) → drop step replies ≡ reply ∷ drop (step + 1) replies → IsPrintedTo a b (replies_text step (drop step replies) drained cleared settled) whole → Appends b c (line (reply_words reply (counted reply drained cleared))) → Appends c d (settlements_text (take (settled_at step settled) settled)) → IsPrintedTo a d (replies_text (step + 1) (drop (step + 1) replies) (drop (drained_count reply) drained) (drop (cleared_count reply) cleared) (drop (settled_at step settled) settled)) whole
+pub step_more : (a b c d : Option (List ℕ)) (step : ℕ) (replies : List (Reply ℕ)) (reply : Reply ℕ) (drained cleared : List ℕ) (settled : List (Settlement ℕ)) (whole : List ℕ) → drop step replies ≡ reply ∷ drop (step + 1) replies → IsPrintedTo a b (replies_text step (drop step replies) drained cleared settled) whole → Appends b c (line (reply_words reply (counted reply drained cleared))) → Appends c d (settlements_text (take (count_settled step settled) settled)) → IsPrintedTo a d (replies_text (step + 1) (drop (step + 1) replies) (drop (drained_count reply) drained) (drop (cleared_count reply) cleared) (drop (count_settled step settled) settled)) whole
 step_more a b c d step replies reply drained cleared settled whole first before next last =
     let own = line (reply_words reply (counted reply drained cleared)) in
-    let ends = settlements_text (take (settled_at step settled) settled) in
-    let later = replies_text (step + 1) (drop (step + 1) replies) (drop (drained_count reply) drained) (drop (cleared_count reply) cleared) (drop (settled_at step settled) settled) in
+    let ends = settlements_text (take (count_settled step settled) settled) in
+    let later = replies_text (step + 1) (drop (step + 1) replies) (drop (drained_count reply) drained) (drop (cleared_count reply) cleared) (drop (count_settled step settled) settled) in
     let text : before.0 ++ (own ++ (ends ++ later)) ≡ whole = subst (λ (rs : List (Reply ℕ)). before.0 ++ replies_text step rs drained cleared settled ≡ whole) first before.2 in
     ((before.0 ++ own) ++ ends, appends_more a c d _ _ (appends_more a b c _ _ before.1 next) last, (append_assoc (before.0 ++ own) ends later ∙ append_assoc before.0 own (ends ++ later)) ∙ text)
 
 -- one more step, as the code cuts the messages and the settlements
-pub step_cut : (a b c d : Option (List ℕ)) (step : ℕ) (replies : List (Reply ℕ)) (e : Reply ℕ) (drained drained' cleared cleared' own : List ℕ) (settled ends settled' : List (Settlement ℕ)) (whole : List ℕ) (n : ℕ) → step < length replies → own ≡ counted (get_or replies step e) drained cleared → drained' ≡ drop (drained_count (get_or replies step e)) drained → cleared' ≡ drop (cleared_count (get_or replies step e)) cleared → n ≡ settled_at step settled → ends ≡ take n settled → settled' ≡ drop n settled → IsPrintedTo a b (replies_text step (drop step replies) drained cleared settled) whole → Appends b c (line (reply_words (get_or replies step e) own)) → Appends c d (settlements_text ends) → IsPrintedTo a d (replies_text (step + 1) (drop (step + 1) replies) drained' cleared' settled') whole
+pub step_cut : (a b c d : Option (List ℕ)) (step : ℕ) (replies : List (Reply ℕ)) (e : Reply ℕ) (drained drained' cleared cleared' own : List ℕ) (settled ends settled' : List (Settlement ℕ)) (whole : List ℕ) (n : ℕ) → step < length replies → own ≡ counted (get_or replies step e) drained cleared → drained' ≡ drop (drained_count (get_or replies step e)) drained → cleared' ≡ drop (cleared_count (get_or replies step e)) cleared → n ≡ count_settled step settled → ends ≡ take n settled → settled' ≡ drop n settled → IsPrintedTo a b (replies_text step (drop step replies) drained cleared settled) whole → Appends b c (line (reply_words (get_or replies step e) own)) → Appends c d (settlements_text ends) → IsPrintedTo a d (replies_text (step + 1) (drop (step + 1) replies) drained' cleared' settled') whole
 step_cut a b c d step replies e drained drained' cleared cleared' own settled ends settled' whole n inside own-is drained'-is cleared'-is n-is ends-is settled'-is before next last =
     let reply = get_or replies step e in
-    let front' : ends ≡ take (settled_at step settled) settled = ends-is ∙ ap (λ i. take i settled) n-is in
-    let back' : settled' ≡ drop (settled_at step settled) settled = settled'-is ∙ ap (λ i. drop i settled) n-is in
+    let front' : ends ≡ take (count_settled step settled) settled = ends-is ∙ ap (λ i. take i settled) n-is in
+    let back' : settled' ≡ drop (count_settled step settled) settled = settled'-is ∙ ap (λ i. drop i settled) n-is in
     let next' = subst (λ (xs : List ℕ). Appends b c (line (reply_words reply xs))) own-is next in
     let last' = subst (λ (xs : List (Settlement ℕ)). Appends c d (settlements_text xs)) front' last in
     rw (drained'-is, cleared'-is, back') (step_more a b c d step replies reply drained cleared settled whole (subst (λ (i : ℕ). drop step replies ≡ reply ∷ drop i replies) (sym (add-one step)) (drop-cons replies step e inside)) before next' last')

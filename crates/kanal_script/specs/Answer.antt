@@ -95,16 +95,16 @@ settlements_text [] = []
 settlements_text (settlement ∷ settled) = line (settlement_words settlement) ++ settlements_text settled
 
 -- how many settlements in front are the step's
-abbrev pub settled_at : ℕ → List (Settlement ℕ) → ℕ
-settled_at step settled = prefix_len (λ s. s.step == step) settled
+abbrev pub count_settled : ℕ → List (Settlement ℕ) → ℕ
+count_settled step settled = prefix_len (λ s. s.step == step) settled
 
 -- from the step on: each reply's line with the messages that it counts, and then its settlements' lines
 abbrev pub replies_text : ℕ → List (Reply ℕ) → List ℕ → List ℕ → List (Settlement ℕ) → List ℕ
 replies_text step [] drained cleared settled = []
 replies_text step (reply ∷ replies) drained cleared settled =
     line (reply_words reply (counted reply drained cleared))
-    ++ (settlements_text (take (settled_at step settled) settled)
-    ++ replies_text (step + 1) replies (drop (drained_count reply) drained) (drop (cleared_count reply) cleared) (drop (settled_at step settled) settled))
+    ++ (settlements_text (take (count_settled step settled) settled)
+    ++ replies_text (step + 1) replies (drop (drained_count reply) drained) (drop (cleared_count reply) cleared) (drop (count_settled step settled) settled))
 
 -- a report, printed
 abbrev pub report_text : Report ℕ → List ℕ

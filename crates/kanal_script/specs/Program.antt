@@ -41,8 +41,8 @@ answer_text None = too_large_text
 answer_text (Some report) = report_text report
 
 -- the output grows by just the printed answer to the bytes
-abbrev pub Answers : List ℕ → Option (List ℕ) → Option (List ℕ) → Type 0
-Answers bytes old new = (answer : Option (Report ℕ)) × IsAnswer bytes answer × Appends old new (answer_text answer)
+abbrev pub AnswersScript : List ℕ → Option (List ℕ) → Option (List ℕ) → Type 0
+AnswersScript bytes old new = (answer : Option (Report ℕ)) × IsAnswer bytes answer × Appends old new (answer_text answer)
 
 -- the output grows by a beginning of the text
 abbrev pub AppendsBeginning : Option (List ℕ) → Option (List ℕ) → List ℕ → Type 0

@@ -4,7 +4,7 @@
 ghost use Rattle.std.specs.Prelude.{◌≡◌, ◌≤◌, length, drop, OnOk};
 ghost use Rattle.std.specs.Io.KnownBytes.{Appends};
 ghost use Rattle.kanal_script.specs.Script.{line};
-ghost use Rattle.kanal_script.specs.Answer.{refusal_name, reason_name, messages_text, reply_words, flag_word, counted, drained_count, cleared_count, settlement_words, settlements_text, settled_at, report_text, too_large_text};
+ghost use Rattle.kanal_script.specs.Answer.{refusal_name, reason_name, messages_text, reply_words, flag_word, counted, drained_count, cleared_count, settlement_words, settlements_text, count_settled, report_text, too_large_text};
 
 use kanal_core::internal::{Outcome, Reason};
 use kanal_journal::journal::{Refusal, Reply, Report, Settlement};
@@ -165,8 +165,8 @@ pub fn print_settlement<W: Write>(output: &mut W, settlement: &Settlement<u64>) 
 }
 
 /// How many of the settlements, from the first on, are the step's.
-fn settled_at(step: usize, settled: &[Settlement<u64>]) -> usize
-    ensures count { result ≡ settled_at step settled.now }
+fn count_settled(step: usize, settled: &[Settlement<u64>]) -> usize
+    ensures count { result ≡ count_settled step settled.now }
     ensures within { result ≤ length settled.now }
 {
     settled
@@ -209,7 +209,7 @@ pub fn print<W: Write>(output: &mut W, report: &Report<u64>) -> io::Result<()>
     let mut settled = report.settled.as_slice();
     for (step, reply) in report.replies.iter().enumerate() {
         print_reply(output, reply, messages.take(reply))?;
-        let (own, later) = settled.split_at(settled_at(step, settled));
+        let (own, later) = settled.split_at(count_settled(step, settled));
         print_settlements(output, own)?;
         settled = later;
     }

@@ -4,7 +4,7 @@
 ghost use Rattle.std.specs.Prelude.{◌≡◌, ◌≢◌, ◌⊎◌, ◌≤◌, ℕ, Some, IfSome, IfOk, IfErr, OnOk, OnErr, IsTrue};
 ghost use Rattle.std.specs.Io.KnownBytes.{Appends};
 ghost use Rattle.kanal_script.specs.Faults.{IsFirstFault};
-ghost use Rattle.kanal_script.specs.Program.{fault_of, fault_status, fault_text, IsAnswer, answer_text, Answers, AppendsBeginning, BeginsToAnswer, IsReadFault, IsScriptFault};
+ghost use Rattle.kanal_script.specs.Program.{fault_of, fault_status, fault_text, IsAnswer, answer_text, AnswersScript, AppendsBeginning, BeginsToAnswer, IsReadFault, IsScriptFault};
 ghost use Rattle.kanal_script.specs.Script.{line};
 
 use crate::parser::{ParseError, parse};
@@ -155,7 +155,7 @@ fn tell<E: Write>(errors: &mut E, fault: Fault) -> bool
 /// Reads a script and writes its answer.
 fn answer<R: Read, W: Write>(alloc: Global, input: &mut R, output: &mut W) -> Result<(), Fault>
     ensures ok { OnOk result (IfSome (R.remaining input.old)
-        (λ bytes. Answers bytes (W.contents output.old) (W.contents output.new))) }
+        (λ bytes. AnswersScript bytes (W.contents output.old) (W.contents output.new))) }
     ensures kept { IfErr result (λ fault. fault ≢ Fault.Device → output.new ≡ output.old) }
     ensures begun { OnErr result ((output.new ≡ output.old)
         ⊎ IfSome (R.remaining input.old)
@@ -198,7 +198,7 @@ pub fn serve<R: Read, W: Write, E: Write>(
 ) -> u8
     ensures status { result ≤ 2 }
     ensures answered { result ≡ 0 → IfSome (R.remaining input.old)
-        (λ bytes. Answers bytes (W.contents output.old) (W.contents output.new)) }
+        (λ bytes. AnswersScript bytes (W.contents output.old) (W.contents output.new)) }
     ensures silent { result ≡ 0 → errors.new ≡ errors.old }
     ensures unreadable { result ≡ 2 → output.new ≡ output.old }
     ensures first { result ≡ 2 → IfSome (R.remaining input.old) (λ bytes. (number : ℕ)

@@ -6,7 +6,7 @@ use Rattle.std.specs.Option.{option_map}
 use Rattle.futures.specs.declared.task.waker.Waker.{Waker}
 use Rattle.kanal_core.specs.declared.internal.outcome.Ticket.{Ticket}
 use Rattle.kanal_core.specs.declared.internal.outcome.Waiter.{Waiter}
-use Rattle.kanal_core.specs.Channel.{Channel, line_of, entry_of, demand_of}
+use Rattle.kanal_core.specs.Channel.{ChannelView, line_of, entry_of, demand_of}
 use Rattle.kanal_core.specs.Line.{bare}
 use Rattle.kanal_core.specs.Waiters.{same_ticket, waiter_of, with_w, without}
 use Rattle.kanal_state.specs.Renewing.{Brought, Renews, Swaps, TakesNode}
@@ -22,7 +22,7 @@ module _ {T W : Type 0} where
       ]
 
   -- a channel in which a waiter has another W stands for the same line
-  pub line-with : (c : Channel T W) (t : Ticket) (v : W) → line_of (record c { waiters = with_w t v c.waiters }) ≡ line_of c
+  pub line-with : (c : ChannelView T W) (t : Ticket) (v : W) → line_of (record c { waiters = with_w t v c.waiters }) ≡ line_of c
   line-with c t v =
       ap (λ es. record (line_of (record c { waiters = with_w t v c.waiters })) { line = map bare c.buffer ++ es }) (with-same entry_of (λ x w. refl) t v c.waiters)
       ∙ ap (λ ds. record (line_of c) { demands = ds }) (with-same demand_of (λ x w. refl) t v c.waiters)

@@ -6,7 +6,7 @@ use Rattle.kanal_events.specs.declared.event.Event.{Event}
 use Rattle.kanal_events.specs.declared.event.Event.TheVariants.{CloneTx, CloneRx, DropTx, DropRx}
 use Rattle.kanal_events.specs.declared.event.Side.{Side}
 use Rattle.kanal_events.specs.declared.event.Side.TheVariants.{Tx, Rx}
-use Rattle.kanal_state.specs.declared.counted.Counted.{Counted}
+use Rattle.kanal_state.specs.declared.counted.CountedHandle.{CountedHandle}
 use Rattle.kanal_state.specs.declared.counted.CountedWait.{CountedWait}
 use Rattle.kanal_state.specs.declared.counted.notices.GoneHandles.{GoneHandles}
 use Rattle.kanal_state.specs.declared.counted.notices.GoneWaits.{GoneWaits}
@@ -20,7 +20,7 @@ stands (number ∷ numbers) = true
 
 module _ {S : Type 0} where
   -- whether the handle still has to be counted out
-  abbrev pub is_counted : Counted S → Bool
+  abbrev pub is_counted : CountedHandle S → Bool
   is_counted counted = stands counted.stands.numbers
 
   -- how many handles still have to be counted out

@@ -21,9 +21,9 @@ module _ {T P : Type 0} where
 
 module _ {T Hist Pass Log Prefix Internal : Type 0} where
   -- the reply: the call waits under its ticket, or it was refused
-  abbrev pub reply_at : WaitStart T Hist Pass Log Prefix Internal → Reply T
-  reply_at (Waits counted) = HasToWait (number_of (ticket_of counted))
-  reply_at (Refused reply waiter) = reply
+  abbrev pub start_reply : WaitStart T Hist Pass Log Prefix Internal → Reply T
+  start_reply (Waits counted) = HasToWait (number_of (ticket_of counted))
+  start_reply (Refused reply waiter) = reply
 
   -- the pass made the call, which waits; or it was refused, or there was no memory for it
   abbrev pub HasStarted : HistoryRelations T Pass → Pass → Pass → Event T → WaitStart T Hist Pass Log Prefix Internal → Type 0

@@ -46,30 +46,30 @@ fn stands() -> Stands {
 }
 
 /// A handle of a side that is counted.
-pub struct Counted<S> {
+pub struct CountedHandle<S> {
     stands: Stands,
     side: PhantomData<S>,
 }
 
 /// A sender that is counted.
-pub type CountedSender = Counted<SendSide>;
+pub type CountedSender = CountedHandle<SendSide>;
 
 /// A receiver that is counted.
-pub type CountedReceiver = Counted<ReceiveSide>;
+pub type CountedReceiver = CountedHandle<ReceiveSide>;
 
-impl<S> Drop for Counted<S> {
+impl<S> Drop for CountedHandle<S> {
     fn drop(self)
         requires counted_out { is_counted self ≡ false }
     {
-        let Counted { stands, side: _ } = self;
+        let CountedHandle { stands, side: _ } = self;
         drop(stands);
     }
 }
 
-impl<S> Counted<S> {
+impl<S> CountedHandle<S> {
     /// One handle more.
     fn new() -> Self {
-        Counted {
+        CountedHandle {
             stands: stands(),
             side: PhantomData,
         }
@@ -77,19 +77,19 @@ impl<S> Counted<S> {
 
     /// Counts the handle out into the notices of its side, which alone call this.
     fn notice(self) {
-        let Counted { stands, side: _ } = self;
+        let CountedHandle { stands, side: _ } = self;
         drop(stands);
     }
 }
 
-impl<S: OfSide> Counted<S> {
+impl<S: OfSide> CountedHandle<S> {
     /// Counts a handle in: a call of this pass counted one more. The state alone calls this, once a call.
     pub(crate) fn count_in<T, H: History<T>>(before: &Snapshot<H::Pass>, after: &H::Pass) -> Self
         requires made { IsReplied H.relations before.now.value after.now (one_more S.side) counted_by (Ok tt) }
     {
         let _ = before;
         let _ = after;
-        Counted::new()
+        CountedHandle::new()
     }
 
     /// Counts the handle out: its drop was made as an internal call.
@@ -101,7 +101,7 @@ impl<S: OfSide> Counted<S> {
     )
         requires made { H.internal_relations.appends before.now.value after.now (call_from (one_less S.side) made.now) }
     {
-        let Counted { stands, side: _ } = self;
+        let CountedHandle { stands, side: _ } = self;
         let _ = before;
         let _ = after;
         let _ = made;
@@ -123,7 +123,7 @@ impl FirstHandles {
     /// Example: `let (sender, receiver) = first.into_tokens()`.
     pub fn into_tokens(self) -> (CountedSender, CountedReceiver) {
         let FirstHandles(()) = self;
-        (Counted::new(), Counted::new())
+        (CountedHandle::new(), CountedHandle::new())
     }
 }
 

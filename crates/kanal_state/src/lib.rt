@@ -19,7 +19,7 @@ mod waiter_handle;
 pub use call::Call;
 pub use call_context::CallContext;
 pub use counted::{
-    Counted, CountedReceiver, CountedSender, CountedWait, FirstHandles, MustDrain, Notices,
+    CountedHandle, CountedReceiver, CountedSender, CountedWait, FirstHandles, MustDrain, Notices,
 };
 pub use history::History;
 pub use none::NoHistory;

@@ -17,7 +17,7 @@ ghost use Rattle.kanal_state.specs.Makes.{HasTooLittleRoom, AppendPost, StepAppe
 ghost use Rattle.kanal_state.specs.Counts.{count_of, counts_handle, ticket_of};
 ghost use Rattle.kanal_state.specs.Frames.{OnlyLineMoves};
 ghost use Rattle.kanal_state.specs.Renewing.{Renews};
-ghost use Rattle.kanal_state.specs.Waits.{HasStarted, Joins, reply_at};
+ghost use Rattle.kanal_state.specs.Waits.{HasStarted, Joins, start_reply};
 
 mod handle_count;
 mod internal_calls;
@@ -34,8 +34,8 @@ use kanal_events::event::{Event, Refusal, Reply, Side};
 use kanal_events::step_result::{FastResult, Placement, StepResult};
 use kanal_events::steps;
 use recording::{
-    Asked, OfAnswer, OfCall, OfRecv, OfReply, OfSend, OfTryRecv, OfTrySend, OfWithdrawal, note,
-    note_made,
+    AnswerEntry, Asked, CallEntry, RecvEntry, ReplyEntry, SendEntry, TryRecvEntry, TrySendEntry,
+    WithdrawalEntry, note, note_made,
 };
 use std::marker::Model;
 use std::snapshot::Snapshot;
@@ -200,7 +200,7 @@ impl<T: Drop, H: History<T>> State<T, H> {
         let asked = Snapshot::of(&message);
         steps::push(&mut self.core, message)?;
         let history = &mut self.history;
-        history.append::<Snapshot<T>, (), OfSend>(log, pass, &asked, &());
+        history.append::<Snapshot<T>, (), SendEntry>(log, pass, &asked, &());
         Ok(())
     }
 
@@ -216,7 +216,7 @@ impl<T: Drop, H: History<T>> State<T, H> {
     {
         let message = steps::pop(&mut self.core)?;
         let history = &mut self.history;
-        history.append::<T, (), OfRecv>(log, pass, &message, &());
+        history.append::<T, (), RecvEntry>(log, pass, &message, &());
         Some(message)
     }
 
@@ -234,7 +234,7 @@ impl<T: Drop, H: History<T>> State<T, H> {
         let asked = Snapshot::of(&message);
         steps::push(&mut self.core, message)?;
         let history = &mut self.history;
-        history.append::<Snapshot<T>, (), OfTrySend>(log, pass, &asked, &());
+        history.append::<Snapshot<T>, (), TrySendEntry>(log, pass, &asked, &());
         Ok(())
     }
 
@@ -251,7 +251,7 @@ impl<T: Drop, H: History<T>> State<T, H> {
     {
         let message = steps::pop(&mut self.core)?;
         let history = &mut self.history;
-        history.append::<T, (), OfTryRecv>(log, pass, &message, &());
+        history.append::<T, (), TryRecvEntry>(log, pass, &message, &());
         Some(message)
     }
 
@@ -277,7 +277,7 @@ impl<T: Drop, H: History<T>> State<T, H> {
         match tried {
             Ok(answered) => {
                 let lacks = answered.lacks_memory();
-                note::<T, FastResult<T, WaiterHandle<T, H>>, OfAnswer, H>(
+                note::<T, FastResult<T, WaiterHandle<T, H>>, AnswerEntry, H>(
                     history, log, pass, &asked, &answered, lacks,
                 );
                 Ok(Deferred { inside: answered })
@@ -328,7 +328,7 @@ impl<T: Drop, H: History<T>> State<T, H> {
         let asked = Snapshot::of(&event);
         let reply = too_many(&self.core, event);
         let lacks = reply.is_no_memory();
-        note::<T, Reply<T>, OfReply, H>(&mut self.history, log, pass, &asked, &reply, lacks);
+        note::<T, Reply<T>, ReplyEntry, H>(&mut self.history, log, pass, &asked, &reply, lacks);
         Deferred { inside: reply }
     }
 
@@ -353,14 +353,14 @@ impl<T: Drop, H: History<T>> State<T, H> {
         requires waits { may_wait event ≡ true }
         requires must { MustWait self.old.1 event }
         ensures started { HasStarted H.relations pass.old pass.new event result }
-        ensures step { Tells self.old.1 event (only self.new.1 (reply_at result)) }
+        ensures step { Tells self.old.1 event (only self.new.1 (start_reply result)) }
         ensures joins { Joins self.old.2 event waiter result self.new.2 }
         ensures internal_pass { self.new.0 ≡ self.old.0 }
     {
         let asked = Snapshot::of(&event);
         let (reply, kept) = steps::wait(&mut self.core, event, waiter);
         let lacks = reply.is_no_memory();
-        note::<T, Reply<T>, OfReply, H>(&mut self.history, log, pass, &asked, &reply, lacks);
+        note::<T, Reply<T>, ReplyEntry, H>(&mut self.history, log, pass, &asked, &reply, lacks);
         match kept {
             Placement::Ticket(ticket) => WaitStart::Waits(CountedWait::new(ticket)),
             Placement::Back(waiter) => WaitStart::Refused(
@@ -397,7 +397,7 @@ impl<T: Drop, H: History<T>> State<T, H> {
         };
         let before = Snapshot::of(pass);
         let history = &mut self.history;
-        history.append::<Ticket, Waiter<T, WaiterHandle<T, H>>, OfWithdrawal>(
+        history.append::<Ticket, Waiter<T, WaiterHandle<T, H>>, WithdrawalEntry>(
             log, pass, &ticket, &waiter,
         );
         counted.withdrawn::<T, WaiterHandle<T, H>, H>(&before, pass, &waiter);

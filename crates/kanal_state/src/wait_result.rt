@@ -3,7 +3,7 @@
 //! The type's invariant: what was seen says that a call settled this ticket with this outcome.
 ghost use Rattle.std.specs.Prelude.{◌≡◌, Some};
 ghost use Rattle.kanal_cell.specs.CellRule.{HasNotSettled};
-ghost use Rattle.kanal_cell.specs.CellEnds.{HasSettled, StaysAtCell, kept_waker, settle_view};
+ghost use Rattle.kanal_cell.specs.CellEnds.{WasSettled, StaysAtCell, kept_waker, settle_view};
 
 use crate::History;
 use futures::task::Waker;
@@ -86,7 +86,7 @@ impl<T: Drop, H: History<T>> Settler<T, H> {
     /// Hands over what became of the wait, and shows that; what comes back, since the waiter has left, is let
     /// go.
     pub(crate) fn settle(self, delivered: WaitResult<T, H>) -> SettleProof<WaitResult<T, H>>
-        ensures told { HasSettled result self.end delivered }
+        ensures told { WasSettled result self.end delivered }
     {
         let Settler { mut end } = self;
         let (settlement, back) = end.hand_over(delivered);

@@ -4,7 +4,7 @@
 //! slot.
 ghost use Rattle.std.specs.Prelude.{◌≡◌, ◌↔◌, ◌∷◌, [], true, false, Some, None, if◌then◌else◌, IfOk, IsSome};
 ghost use Rattle.kanal_cell.specs.CellRule.{fresh, after_poll, after_sleep, after_leave, after_settle, HasNotLeft, HasNotSettled, MaySleep};
-ghost use Rattle.kanal_cell.specs.CellEnds.{AreOfOneCell, FindsOutcome, GoesOn, HasSettled, StaysAtCell, wait_view, settle_view, kept_waker};
+ghost use Rattle.kanal_cell.specs.CellEnds.{AreOfOneCell, FindsOutcome, GoesOn, WasSettled, StaysAtCell, wait_view, settle_view, kept_waker};
 ghost use Rattle.kanal_cell.specs.declared.signal.rule.Role.TheVariants.{Waiter, Settler};
 
 use super::rule::{
@@ -27,11 +27,11 @@ use std::time::Duration;
 /// The word of a cell whose waiter sleeps, and that is neither settled nor left: SLEEPING alone.
 const ASLEEP: u32 = 1;
 
-type Seated<P> = (CellTable<P>, EndSeat<P>, EndSeat<P>);
+type TableWithSeats<P> = (CellTable<P>, EndSeat<P>, EndSeat<P>);
 
 /// A table for a cell, with the waiter's seat, which is lent the sleeper's slot, and the settler's, which
 /// is lent the outcome's.
-fn table_with_seats<P: Drop>(alloc: Global) -> Result<Seated<P>, NoMemory>
+fn table_with_seats<P: Drop>(alloc: Global) -> Result<TableWithSeats<P>, NoMemory>
     ensures sized { IfOk result (λ made. (made.0.shared.table_id.words ≡ 1)
         × (made.0.shared.table_id.slots ≡ 2)) }
     ensures waiter { IfOk result (λ made. (made.1.table_id ≡ made.0.shared.table_id)
@@ -269,7 +269,7 @@ impl<P: Drop> SettleEnd<P> {
     /// ```
     pub fn hand_over(&mut self, outcome: P) -> (SettleProof<P>, Option<P>)
         requires unspent { HasNotSettled (settle_view self.old) }
-        ensures shown { HasSettled result.0 self.old outcome }
+        ensures shown { WasSettled result.0 self.old outcome }
         ensures step { GoesOn after_settle (settle_view self.old) (settle_view self.new) }
         ensures answer { result.1
             ≡ (if (settle_view self.new).found.left then Some outcome else None) }

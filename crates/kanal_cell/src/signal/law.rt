@@ -4,7 +4,7 @@
 ghost use Rattle.atomic_table.specs.Table.{State};
 ghost use Rattle.kanal_cell.specs.declared.signal.rule.CellView.{CellView};
 ghost use Rattle.kanal_cell.specs.CellLaw.{CellLaw};
-ghost use Rattle.kanal_cell.specs.CellRule.{Slot, Runs};
+ghost use Rattle.kanal_cell.specs.CellRule.{CellSlot, HasBothEnds};
 ghost use Rattle.kanal_cell.specs.CellRunningLaw.{RunningLaw, SecondHolds, StepLaw};
 ghost use Rattle.kanal_cell.specs.CellSlots.{SlotLaw};
 ghost use Rattle.kanal_cell.specs.CellOutcome.{OutcomeSlot};
@@ -35,7 +35,7 @@ pub fn cell_law(steps: &[CellStep])
 /// lent the slot no more. If it found LEFT, the settler is still lent the slot with that outcome in
 /// it. The waiter's next step takes what lies at home. No step of the waiter brings the slot home.
 pub fn signal_law<P>(end: &WaitEnd<P>)
-    ensures states { (s : State (Slot P) CellView) → (r : Runs s) → RunningLaw s r }
+    ensures states { (s : State (CellSlot P) CellView) → (r : HasBothEnds s) → RunningLaw s r }
     ensures steps { StepLaw }
     ensures second { SecondHolds P }
     ensures slots { SlotLaw P }

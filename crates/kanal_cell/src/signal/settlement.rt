@@ -2,7 +2,7 @@
 //!
 //! It has no bytes. A settle alone makes one, after its step and after it woke whom it had to.
 ghost use Rattle.std.specs.Prelude.{◌≡◌, true};
-ghost use Rattle.kanal_cell.specs.CellEnds.{HasSettled, settle_view};
+ghost use Rattle.kanal_cell.specs.CellEnds.{WasSettled, settle_view};
 
 use super::SettleEnd;
 use super::waking::Woken;
@@ -19,7 +19,7 @@ impl<P> SettleProof<P> {
     /// Of the settler that has made its step, and of the outcome that it had.
     pub(super) fn new(end: &SettleEnd<P>, outcome: Snapshot<P>, woken: Woken) -> Self
         requires ended { (settle_view end.now).set.ended ≡ true }
-        ensures { HasSettled result end.now outcome.value }
+        ensures { WasSettled result end.now outcome.value }
     {
         drop(woken);
         SettleProof {

@@ -3,7 +3,7 @@
 //! It is the model of the running cell, and no value of it is ever shared. A step that the running cell's
 //! conditions rule out replies `Spent` here and changes nothing.
 ghost use Rattle.std.specs.Prelude.{◌≡◌, ◌||◌, [], Some, None, if◌then◌else◌, IfOk, IsOk};
-ghost use Rattle.kanal_cell.specs.CellMoves.{empty, is_home, answer, next, word_of, owner_of};
+ghost use Rattle.kanal_cell.specs.CellMoves.{empty, is_home, cell_reply, cell_after, cell_word, owner_of};
 ghost use Rattle.kanal_cell.specs.declared.signal.steps.CellStep.TheVariants.{Settle};
 ghost use Rattle.kanal_cell.specs.CellHistory.{IsHistory};
 
@@ -102,8 +102,8 @@ impl CellCore {
 
     /// Makes one step and answers its reply.
     pub fn step(&mut self, step: CellStep) -> CellReply
-        ensures reply { result ≡ answer self.old step }
-        ensures state { self.new ≡ next self.old step }
+        ensures reply { result ≡ cell_reply self.old step }
+        ensures state { self.new ≡ cell_after self.old step }
     {
         match step {
             CellStep::Sleep => {
@@ -145,7 +145,7 @@ impl CellCore {
 
     /// The three bits as a number.
     pub fn word(&self) -> u8
-        ensures { result ≡ word_of self.now }
+        ensures { result ≡ cell_word self.now }
     {
         let sleeping = if self.sleeping { 1u8 } else { 0 };
         let ended = if self.ended { 2u8 } else { 0 };
@@ -169,8 +169,8 @@ impl CellCore {
     }
 
     fn settle(&mut self, outcome: u64) -> CellReply
-        ensures reply { result ≡ answer self.old (Settle outcome) }
-        ensures state { self.new ≡ next self.old (Settle outcome) }
+        ensures reply { result ≡ cell_reply self.old (Settle outcome) }
+        ensures state { self.new ≡ cell_after self.old (Settle outcome) }
     {
         if self.ended {
             return CellReply::Spent;

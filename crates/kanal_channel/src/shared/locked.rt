@@ -102,7 +102,7 @@ impl<'a, T: Drop, H: History<T>> Locked<'a, T, H> {
 
 impl<T: Drop, H: History<T>> Shared<T, H> {
     /// Waits for the lock, with no notice left to apply.
-    /// Example: `let mut locked = shared.lock(&rt)`; then `locked.unlock_quiet()`.
+    /// Example: `let mut locked = shared.lock(&rt)`; then `locked.unlock_and_drain()`.
     #[inline]
     pub fn lock<R: Wait>(&self, rt: &R) -> Locked<'_, T, H> {
         let state = self.guard(rt);
@@ -113,7 +113,7 @@ impl<T: Drop, H: History<T>> Shared<T, H> {
     #[inline]
     fn guard<R: Wait>(&self, rt: &R) -> MutexGuard<'_, State<T, H>> {
         if let Some(state) = self.state.try_lock() {
-            if self.is_quiet() {
+            if self.has_no_notices() {
                 return state;
             }
             drop(state);
@@ -129,7 +129,7 @@ impl<T: Drop, H: History<T>> Shared<T, H> {
                 Some(state) => state,
                 None => self.lock_contended(rt),
             };
-            if self.is_quiet() {
+            if self.has_no_notices() {
                 return state;
             }
             if let Some(state) = self.apply_notices(state) {
@@ -168,7 +168,7 @@ impl<T: Drop, H: History<T>> Shared<T, H> {
     /// ```
     pub fn try_lock(&self) -> Option<(Locked<'_, T, H>, Pending<T, H>)> {
         let mut locked = self.try_lock_raw()?;
-        let pending = if self.is_quiet() {
+        let pending = if self.has_no_notices() {
             Pending::nothing()
         } else {
             locked.take_pending()
@@ -215,10 +215,10 @@ impl<T: Drop, H: History<T>> Shared<T, H> {
     }
 
     /// Whether there are no notices.
-    /// Example: `shared.is_quiet()` answers `false` after a handle was dropped while the lock was held.
+    /// Example: `shared.has_no_notices()` answers `false` after a handle was dropped while the lock was held.
     #[inline]
-    pub fn is_quiet(&self) -> bool {
-        self.notices.is_quiet()
+    pub fn has_no_notices(&self) -> bool {
+        self.notices.is_empty()
     }
 }
 

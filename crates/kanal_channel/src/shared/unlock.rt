@@ -20,9 +20,9 @@ const LOOKS: u32 = 64;
 impl<T: Drop, H: History<T>> Locked<'_, T, H> {
     /// Releases the lock after a step that settled no wait, and drains new notices. What left the core may be
     /// opened then, by the answer.
-    /// Example: `let mut locked = shared.lock(&rt)`; then `locked.unlock_quiet()`.
+    /// Example: `let mut locked = shared.lock(&rt)`; then `locked.unlock_and_drain()`.
     #[inline]
-    pub fn unlock_quiet(self) -> Released {
+    pub fn unlock_and_drain(self) -> Released {
         let shared = self.shared;
         let (released, due) = self.unlock();
         shared.drain_notices(due);

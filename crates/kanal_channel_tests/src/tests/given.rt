@@ -100,7 +100,7 @@ pub fn tell_late<R: Wait, T: Drop, F: FnOnce(), G: FnOnce()>(
             Some(reply)
         },
         Err(_event) => {
-            locked.unlock_quiet();
+            locked.unlock_and_drain();
             None
         },
     }

@@ -7,7 +7,7 @@ ghost use Rattle.std.specs.Borrow.{sem};
 ghost use Rattle.std.specs.Option.{option_copied_mut, option_map};
 ghost use Rattle.slab.specs.Slab.{HasRoomFor, Updates, get, slab_len};
 ghost use Rattle.kanal_core.specs.declared.internal.slots.Slot.{Slot};
-ghost use Rattle.kanal_core.specs.Visits.{one_more};
+ghost use Rattle.kanal_core.specs.Visits.{one_visit_more};
 
 use super::outcome::Waiter;
 use super::steps::Steps;
@@ -43,7 +43,7 @@ pub struct Slots<T, W> {
 }
 
 impl<T, W> Slots<T, W> {
-    ghost use Rattle.kanal_core.specs.SlotsLends.{lends_slot, lends_w};
+    ghost use Rattle.kanal_core.specs.SlotsLends.{lends_slot, slots_lends_w};
 
     /// No slots, which have no memory yet.
     pub fn new(alloc: Global) -> Self
@@ -91,7 +91,7 @@ impl<T, W> Slots<T, W> {
     /// Visits the slot at the place.
     pub fn get<L: Ledger>(&self, place: usize, steps: &mut Steps<L>) -> Option<&Slot<T, W>>
         ensures value { option_copied result ≡ get self.now.slab place }
-        ensures step { steps.new ≡ one_more steps.old }
+        ensures step { steps.new ≡ one_visit_more steps.old }
     {
         steps.tick();
         self.slab.get(place)
@@ -105,7 +105,7 @@ impl<T, W> Slots<T, W> {
     ) -> Option<&mut Slot<T, W>>
         ensures* writes_back { sem 𝓛 (lends_slot T.row W.row self.entry place result) }
         ensures value { option_copied_mut result ≡ get self.old.slab place }
-        ensures step { steps.new ≡ one_more steps.old }
+        ensures step { steps.new ≡ one_visit_more steps.old }
     {
         steps.tick();
         self.slab.get_mut(place)
@@ -114,10 +114,10 @@ impl<T, W> Slots<T, W> {
     /// Lends the W of the waiter at the place.
     pub fn w_mut<L: Ledger>(&mut self, place: usize, steps: &mut Steps<L>) -> &mut W
         requires { IsSome (get self.old.slab place) }
-        ensures* writes_back { sem 𝓛 (lends_w T.row W.row self.entry place result) }
+        ensures* writes_back { sem 𝓛 (slots_lends_w T.row W.row self.entry place result) }
         ensures value { Some result.now
             ≡ option_map (λ (s : Slot T W). s.waiter.w) (get self.old.slab place) }
-        ensures step { steps.new ≡ one_more steps.old }
+        ensures step { steps.new ≡ one_visit_more steps.old }
     {
         match self.get_mut(place, steps) {
             Some(slot) => slot.w_mut(),
@@ -135,7 +135,7 @@ impl<T, W> Slots<T, W> {
         ensures updates { Updates self.old.slab self.new.slab place None }
         ensures len { OnSome result (slab_len self.new.slab + 1 ≡ slab_len self.old.slab) }
         ensures absent { IfNone result (self.new.slab ≡ self.old.slab) }
-        ensures step { steps.new ≡ one_more steps.old }
+        ensures step { steps.new ≡ one_visit_more steps.old }
     {
         steps.tick();
         self.slab.try_remove(place)

@@ -2,7 +2,7 @@
 //!
 //! Anybody may hold a count and lend it to a call that counts; a count that is idle counts nothing.
 ghost use Rattle.std.specs.Prelude.{◌≡◌, ◌+◌, ◌<◌, Some, None};
-ghost use Rattle.kanal_core.specs.Visits.{one_more};
+ghost use Rattle.kanal_core.specs.Visits.{one_visit_more};
 
 use std::marker::Model;
 use std::sync::ledger::{Blank, Book, Ledger, Share};
@@ -81,7 +81,7 @@ impl<L: Ledger> Steps<L> {
 
     /// Takes one step.
     pub(crate) fn tick(&mut self)
-        ensures { self.new ≡ one_more self.old }
+        ensures { self.new ≡ one_visit_more self.old }
     {
         if let Some(tokens) = &mut self.tokens {
             tokens.tick();

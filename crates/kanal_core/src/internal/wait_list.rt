@@ -10,7 +10,7 @@ ghost use Rattle.std.specs.Option.{option_copied_mut, option_map};
 ghost use Rattle.slab.specs.Slab.{get};
 ghost use Rattle.kanal_core.specs.Calls.{TakesFirst, WaitsLast};
 ghost use Rattle.kanal_core.specs.Links.{IsFree, IsHeld, IsOneOut, TakesMessageAt, first_place, has_ticket};
-ghost use Rattle.kanal_core.specs.Visits.{RoseByAtMost, one_more};
+ghost use Rattle.kanal_core.specs.Visits.{RoseByAtMost, one_visit_more};
 ghost use Rattle.kanal_core.specs.Waiters.{behind, brought, emptied, waiter_of, without, IsFirstWhere, receiver_first, sender_first};
 
 use super::links::{end_with, end_without, set_after, set_before};
@@ -48,7 +48,7 @@ impl<T, W> Model for WaitList<T, W> {
 /// Whether the waiter with the ticket stands at the ticket's place.
 fn is_at<T, W, L: Ledger>(slots: &Slots<T, W>, ticket: Ticket, steps: &mut Steps<L>) -> bool
     ensures value { result ≡ has_ticket ticket (get slots.now.slab ticket.place) }
-    ensures step { steps.new ≡ one_more steps.old }
+    ensures step { steps.new ≡ one_visit_more steps.old }
 {
     match slots.get(ticket.place, steps) {
         Some(slot) => slot.waiter.ticket == ticket,
@@ -65,7 +65,7 @@ fn passes<W, F: Fn(&W) -> bool>(test: &F, w: &W) -> bool
 }
 
 impl<T, W> WaitList<T, W> {
-    ghost use Rattle.kanal_core.specs.ListLends.{lends_w};
+    ghost use Rattle.kanal_core.specs.ListLends.{list_lends_w};
     ghost use Rattle.kanal_core.specs.declared.internal.outcome.Waiter.{Waiter};
 
     /// A list that nobody waits in, which has no memory yet.
@@ -278,7 +278,7 @@ impl<T, W> WaitList<T, W> {
 
     /// Lends the W of the waiter with the ticket, if it is there.
     pub fn waiting(&mut self, ticket: Ticket) -> Option<&mut W>
-        ensures* writes_back { sem 𝓛 (lends_w T.row W.row self.entry ticket result) }
+        ensures* writes_back { sem 𝓛 (list_lends_w T.row W.row self.entry ticket result) }
         ensures value { option_copied_mut result
             ≡ option_map (λ (x : Waiter T W). x.w) (waiter_of ticket self.old) }
     {

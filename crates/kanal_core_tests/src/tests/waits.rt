@@ -20,14 +20,14 @@ pub fn filled<W: Drop>(rt: &(impl Abort + AllocGlobal)) -> ChannelInternal<u64, 
 }
 
 /// What the wait of a send answers, which gives message and W back where it is refused.
-pub type Sent<T, W> = Result<Ticket, (WaitError, T, W)>;
+pub type SendWait<T, W> = Result<Ticket, (WaitError, T, W)>;
 
 /// What the wait of a send answers that finds no place.
 pub fn sent<T: Drop, W: Drop>(
     core: &mut ChannelInternal<T, W>,
     message: T,
     w: W,
-) -> Option<Sent<T, W>> {
+) -> Option<SendWait<T, W>> {
     match core.offer(message) {
         Offer::Full(back) => Some(core.wait_send(back, w)),
         _ => None,
@@ -46,10 +46,10 @@ pub fn send<T: Drop, W: Drop>(
 }
 
 /// What the wait of a receive answers, which gives the W back where it is refused.
-pub type Received<W> = Result<Ticket, (WaitError, W)>;
+pub type RecvWait<W> = Result<Ticket, (WaitError, W)>;
 
 /// What the wait of a receive answers that finds no message.
-pub fn received<W: Drop>(core: &mut ChannelInternal<u64, W>, w: W) -> Option<Received<W>> {
+pub fn received<W: Drop>(core: &mut ChannelInternal<u64, W>, w: W) -> Option<RecvWait<W>> {
     match core.take() {
         Take::Empty => Some(core.wait_recv(w)),
         _ => None,

@@ -79,9 +79,9 @@ pub fn one_message<R: Wait>(rt: &R, alloc: Global) -> Option<Journal<u64>>
 
 /// A number to square.
 #[derive(Clone, Copy, Debug, PartialEq, Eq)]
-pub struct Square(pub u32);
+pub struct SquareJob(pub u32);
 
-impl Job for Square {
+impl Job for SquareJob {
     type Answer = u64;
 
     ghost value = { λ square. square.0 * square.0 };

@@ -7,10 +7,10 @@ use std::sync::Wait;
 use std::thread::{self, JoinHandle, Threads};
 
 /// What the last try answers.
-type Tried = std::result::Result<bool, SendError>;
+type TrySent = std::result::Result<bool, SendError>;
 
 /// Tries to send 1 and 2, the second by a view of the same sender.
-fn try_both<R: Wait>(rt: &R, sender: &Sender<u64>) -> Tried {
+fn try_both<R: Wait>(rt: &R, sender: &Sender<u64>) -> TrySent {
     sender.try_send(rt, 1)?;
     sender.as_async().as_sync().try_send(rt, 2)
 }
@@ -19,7 +19,7 @@ fn try_both<R: Wait>(rt: &R, sender: &Sender<u64>) -> Tried {
 fn try_two<R: Threads + Wait + Copy + Send + 'static>(
     rt: R,
     sender: Sender<u64>,
-) -> Result<JoinHandle<Tried>> {
+) -> Result<JoinHandle<TrySent>> {
     let thread = thread::spawn(&rt, move || try_both(&rt, &sender))?;
     Ok(thread)
 }

@@ -78,7 +78,7 @@ where
 
 /// What comes from two kinds of threads by one channel.
 #[derive(Clone, Copy, Debug, PartialEq, Eq)]
-enum Event {
+enum Item {
     Word(&'static str),
     Number(u64),
 }
@@ -88,14 +88,14 @@ pub fn one_of_several<R>(rt: R) -> Result<()>
 where
     R: Threads + Wait + AllocGlobal + Print + Copy + Send + 'static,
 {
-    let (sender, receiver) = kanal::bounded::<Event>(rt.alloc(), 1)?;
-    let words = send_one(rt, sender.clone(&rt)?, Event::Word("four"))?;
-    let numbers = send_one(rt, sender, Event::Number(5))?;
+    let (sender, receiver) = kanal::bounded::<Item>(rt.alloc(), 1)?;
+    let words = send_one(rt, sender.clone(&rt)?, Item::Word("four"))?;
+    let numbers = send_one(rt, sender, Item::Number(5))?;
     let mut letters: usize = 0;
     let mut sum: u64 = 0;
     receiver.for_each(&rt, |event| match event {
-        Event::Word(word) => letters = letters.wrapping_add(word.len()),
-        Event::Number(number) => sum = sum.wrapping_add(number),
+        Item::Word(word) => letters = letters.wrapping_add(word.len()),
+        Item::Number(number) => sum = sum.wrapping_add(number),
     })?;
     println!(rt; "{letters} letters, and {sum}")?;
     words.join(&rt)?;

@@ -1,5 +1,5 @@
 //! Channels between tasks, and between a task and a thread.
-use super::{Sent, send_one};
+use super::{SendResult, send_one};
 use anyhow::Result;
 use futures::executor::block_on;
 use kanal::error::ReceiveError;
@@ -22,7 +22,10 @@ pub fn within_one_task<R: Wait + RandomSource + AllocGlobal + Print>(rt: &R) -> 
 }
 
 /// Lends the sender to a task, which sends a hello and runs in a thread.
-fn send_in_a_task<R>(rt: R, sender: Sender<&'static str>) -> Result<JoinHandle<io::Result<Sent>>>
+fn send_in_a_task<R>(
+    rt: R,
+    sender: Sender<&'static str>,
+) -> Result<JoinHandle<io::Result<SendResult>>>
 where
     R: Threads + Wait + RandomSource + AllocGlobal + Copy + Send + 'static,
 {

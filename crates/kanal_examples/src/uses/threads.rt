@@ -1,5 +1,5 @@
 //! Channels between threads.
-use super::Sent;
+use super::SendResult;
 use anyhow::Result;
 use kanal::Sender;
 use std::alloc::AllocGlobal;
@@ -7,7 +7,7 @@ use std::sync::Wait;
 use std::thread::{self, JoinHandle, Threads};
 
 /// Sends two words.
-fn say_both<R: Wait>(rt: &R, sender: &Sender<&'static str>) -> Sent {
+fn say_both<R: Wait>(rt: &R, sender: &Sender<&'static str>) -> SendResult {
     sender.send(rt, "hello")?;
     sender.send(rt, "from a thread")
 }
@@ -16,7 +16,7 @@ fn say_both<R: Wait>(rt: &R, sender: &Sender<&'static str>) -> Sent {
 fn greet<R: Threads + Wait + Copy + Send + 'static>(
     rt: R,
     sender: Sender<&'static str>,
-) -> Result<JoinHandle<Sent>> {
+) -> Result<JoinHandle<SendResult>> {
     let thread = thread::spawn(&rt, move || say_both(&rt, &sender))?;
     Ok(thread)
 }

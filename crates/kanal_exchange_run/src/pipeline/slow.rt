@@ -10,15 +10,15 @@ const WORK: u64 = 1;
 
 /// How many counts wait for the slow stage: those in the channel before it, and those on their way in and out.
 #[derive(Drop)]
-pub struct Waiting {
+pub struct Backlog {
     now: AtomicU64,
     most: AtomicU64,
 }
 
-impl Waiting {
+impl Backlog {
     /// None waits.
     pub fn new() -> Self {
-        Waiting {
+        Backlog {
             now: AtomicU64::new(0),
             most: AtomicU64::new(0),
         }
@@ -47,7 +47,7 @@ pub struct Slow<'a, R> {
     /// What tells the time.
     pub rt: &'a R,
     /// Who waits for the stage.
-    pub waiting: &'a Waiting,
+    pub waiting: &'a Backlog,
 }
 
 impl<'a, R: Clock> Stage for Slow<'a, R> {

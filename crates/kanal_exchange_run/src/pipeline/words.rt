@@ -2,14 +2,14 @@
 ghost use Rattle.std.specs.Prelude.{◌≡◌, ◌%◌, ◌^◌, cond};
 ghost use Rattle.kanal_exchange_run.specs.Words.{words_of};
 
-use super::slow::Waiting;
+use super::slow::Backlog;
 use kanal_exchange::Stage;
 
 /// Makes the number of its words of each line.
 #[derive(Drop)]
 pub struct Words<'a> {
     /// Where it is told that a count waits for the slow stage.
-    pub waiting: &'a Waiting,
+    pub waiting: &'a Backlog,
 }
 
 impl<'a> Stage for Words<'a> {

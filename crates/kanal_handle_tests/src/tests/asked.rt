@@ -2,7 +2,7 @@
 
 /// The answers of a handle, each under its question's name.
 #[derive(Drop, Clone, Copy, Debug, PartialEq, Eq)]
-pub struct Answers {
+pub struct AllAnswers {
     pub len: usize,
     pub is_empty: bool,
     pub is_full: bool,
@@ -17,7 +17,7 @@ pub struct Answers {
 /// Asks a handle, of whichever kind, all questions that each kind has.
 macro_rules! answers {
     ($rt:expr, $handle:expr) => {
-        $crate::tests::asked::Answers {
+        $crate::tests::asked::AllAnswers {
             len: $handle.len($rt),
             is_empty: $handle.is_empty($rt),
             is_full: $handle.is_full($rt),

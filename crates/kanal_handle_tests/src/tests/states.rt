@@ -1,13 +1,13 @@
 //! Channels in states at which every two questions of one type differ in at least one, and each answers
 //! both ways, asked through all handles and views.
-use crate::tests::asked::{Answers, answers};
+use crate::tests::asked::{AllAnswers, answers};
 use crate::tests::given::{ends, equal};
 use kanal::{Receiver, Sender, unbounded};
 use std::process::Abort;
 use std::sync::Wait;
 
 /// Asks all questions of a sender for threads, of one for tasks, and of a view.
-fn senders_answer(rt: &(impl Wait + Abort), sender: &Sender<u64>, expected: Answers) {
+fn senders_answer(rt: &(impl Wait + Abort), sender: &Sender<u64>, expected: AllAnswers) {
     let for_tasks = sender.as_async();
     let view = for_tasks.as_sync();
     equal(rt, answers!(rt, sender), expected);
@@ -19,7 +19,7 @@ fn senders_answer(rt: &(impl Wait + Abort), sender: &Sender<u64>, expected: Answ
 fn receivers_answer(
     rt: &(impl Wait + Abort),
     receiver: &Receiver<u64>,
-    expected: Answers,
+    expected: AllAnswers,
     is_terminated: bool,
 ) {
     let for_tasks = receiver.as_async();
@@ -40,7 +40,7 @@ fn receivers_answer(
 }
 
 /// One message in two places, two senders and one receiver.
-const TWO_SENDERS: Answers = Answers {
+const TWO_SENDERS: AllAnswers = AllAnswers {
     len: 1,
     is_empty: false,
     is_full: false,
@@ -53,7 +53,7 @@ const TWO_SENDERS: Answers = Answers {
 };
 
 /// No message and no place, and one handle of each side.
-const NONE_WITHOUT_PLACES: Answers = Answers {
+const NONE_WITHOUT_PLACES: AllAnswers = AllAnswers {
     len: 0,
     is_empty: true,
     is_full: true,
@@ -66,7 +66,7 @@ const NONE_WITHOUT_PLACES: Answers = Answers {
 };
 
 /// One message without limit, and no sender.
-const NO_SENDER: Answers = Answers {
+const NO_SENDER: AllAnswers = AllAnswers {
     is_bounded: false,
     capacity: usize::MAX,
     sender_count: 0,
@@ -75,21 +75,21 @@ const NO_SENDER: Answers = Answers {
 };
 
 /// The same after the message was received.
-const NO_SENDER_NO_MESSAGE: Answers = Answers {
+const NO_SENDER_NO_MESSAGE: AllAnswers = AllAnswers {
     len: 0,
     is_empty: true,
     ..NO_SENDER
 };
 
 /// One message without limit, and no receiver.
-const NO_RECEIVER: Answers = Answers {
+const NO_RECEIVER: AllAnswers = AllAnswers {
     receiver_count: 0,
     sender_count: 1,
     ..NO_SENDER
 };
 
 /// No message in one place, after a close.
-const CLOSED: Answers = Answers {
+const CLOSED: AllAnswers = AllAnswers {
     len: 0,
     is_empty: true,
     capacity: 1,

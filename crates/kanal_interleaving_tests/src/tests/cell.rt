@@ -41,25 +41,25 @@ fn steps_of(rt: &(impl Abort + AllocGlobal), number: usize) -> Vec<CellStep> {
 }
 
 /// A place in a list; `None` where no step is such.
-type Place = Option<usize>;
+type StepPlace = Option<usize>;
 
 /// Whether this place comes before that step.
-fn is_before(place: Place, step: usize) -> bool {
+fn is_before(place: StepPlace, step: usize) -> bool {
     place.is_some_and(|place| place < step)
 }
 
 /// The first places in a list that its history speaks of.
 #[derive(Drop)]
 struct Places {
-    sleep: Place,
-    settle: Place,
-    leave: Place,
-    taker: Place,
+    sleep: StepPlace,
+    settle: StepPlace,
+    leave: StepPlace,
+    taker: StepPlace,
     outcome: u64,
 }
 
 /// The first place of a step of this kind. A settle is such whatever it brings.
-fn first(steps: &[CellStep], kind: CellStep) -> Place {
+fn first(steps: &[CellStep], kind: CellStep) -> StepPlace {
     for (place, step) in steps.iter().enumerate() {
         let are_settles = matches!((step, kind), (CellStep::Settle(_), CellStep::Settle(_)));
         if *step == kind || are_settles {
@@ -70,7 +70,7 @@ fn first(steps: &[CellStep], kind: CellStep) -> Place {
 }
 
 /// The first place after the settle that holds a poll or a leave or is the first sleep.
-fn first_taker(steps: &[CellStep], settle: Place, sleep: Place) -> Place {
+fn first_taker(steps: &[CellStep], settle: StepPlace, sleep: StepPlace) -> StepPlace {
     for (place, step) in steps.iter().enumerate() {
         let looks = matches!(step, CellStep::Poll | CellStep::Leave) || sleep == Some(place);
         if is_before(settle, place) && looks {
@@ -192,7 +192,7 @@ fn run_plain(rt: &(impl Abort + AllocGlobal), steps: &[CellStep]) -> Vec<CellRep
 
 /// What a running cell answers.
 #[derive(Debug, PartialEq, Eq, Drop)]
-enum Answer {
+enum CellAnswer {
     /// A sleep, a poll or a leave: the outcome, if the waiter has it now.
     Outcome(Option<u64>),
     /// A settle: the outcome, if it comes back.
@@ -203,20 +203,20 @@ enum Answer {
 }
 
 /// What a running cell answers where the plain one replies so. Whom a settle woke it doesn't answer.
-fn answer_of(reply: CellReply) -> Answer {
+fn answer_of(reply: CellReply) -> CellAnswer {
     match reply {
-        CellReply::Slept | CellReply::Pending => Answer::Outcome(None),
-        CellReply::Outcome(outcome) => Answer::Outcome(Some(outcome)),
-        CellReply::Left(outcome) => Answer::Outcome(outcome),
-        CellReply::Settled { woke: _, back } => Answer::Back(back),
-        CellReply::Flag(is_left) => Answer::IsLeft(is_left),
-        CellReply::Spent => Answer::Spent,
+        CellReply::Slept | CellReply::Pending => CellAnswer::Outcome(None),
+        CellReply::Outcome(outcome) => CellAnswer::Outcome(Some(outcome)),
+        CellReply::Left(outcome) => CellAnswer::Outcome(outcome),
+        CellReply::Settled { woke: _, back } => CellAnswer::Back(back),
+        CellReply::Flag(is_left) => CellAnswer::IsLeft(is_left),
+        CellReply::Spent => CellAnswer::Spent,
     }
 }
 
 /// A waiting end that has neither slept nor had the outcome.
 #[derive(Drop)]
-struct Awake {
+struct AwakeEnd {
     end: WaitEnd<u64>,
     ghost unspent: { MaySleep (wait_view end) },
 }
@@ -230,88 +230,88 @@ struct Staying {
 
 /// A settling end that has not settled.
 #[derive(Drop)]
-struct Settling {
+struct SettlingEnd {
     end: SettleEnd<u64>,
     ghost unspent: { HasNotSettled (settle_view end) },
 }
 
 /// What may still be done with a waiting end.
 #[derive(Drop)]
-enum Waiting {
-    Awake(Awake),
+enum WaitingEnd {
+    Awake(AwakeEnd),
     Staying(Staying),
     Gone,
 }
 
 /// A running cell, by its ends.
 #[derive(Drop)]
-struct Running {
-    waiting: Waiting,
-    settling: Option<Settling>,
+struct RunningCell {
+    waiting: WaitingEnd,
+    settling: Option<SettlingEnd>,
 }
 
-impl Running {
+impl RunningCell {
     /// The ends of a fresh cell.
     fn new(rt: &(impl Abort + AllocGlobal)) -> Self {
         let (wait, settle) = signal::new(rt.alloc()).expect(rt, "a cell");
-        Running {
-            waiting: Waiting::Awake(Awake { end: wait }),
-            settling: Some(Settling { end: settle }),
+        RunningCell {
+            waiting: WaitingEnd::Awake(AwakeEnd { end: wait }),
+            settling: Some(SettlingEnd { end: settle }),
         }
     }
 
     /// Makes the step; the sleeper is for a sleep.
-    fn step(&mut self, step: CellStep, sleeper: Unparker) -> Answer {
+    fn step(&mut self, step: CellStep, sleeper: Unparker) -> CellAnswer {
         match step {
             CellStep::Sleep => self.sleep(sleeper),
             CellStep::Settle(outcome) => match self.settling.take() {
-                Some(Settling { mut end }) => Answer::Back(end.settle(outcome)),
-                None => Answer::Spent,
+                Some(SettlingEnd { mut end }) => CellAnswer::Back(end.settle(outcome)),
+                None => CellAnswer::Spent,
             },
             CellStep::Poll => self.poll(),
-            CellStep::Leave => match mem::replace(&mut self.waiting, Waiting::Gone) {
-                Waiting::Awake(Awake { mut end }) => Answer::Outcome(end.leave()),
-                Waiting::Staying(Staying { mut end }) => Answer::Outcome(end.leave()),
-                Waiting::Gone => Answer::Spent,
+            CellStep::Leave => match mem::replace(&mut self.waiting, WaitingEnd::Gone) {
+                WaitingEnd::Awake(AwakeEnd { mut end }) => CellAnswer::Outcome(end.leave()),
+                WaitingEnd::Staying(Staying { mut end }) => CellAnswer::Outcome(end.leave()),
+                WaitingEnd::Gone => CellAnswer::Spent,
             },
             CellStep::IsLeft => match &self.settling {
-                Some(settling) => Answer::IsLeft(settling.end.is_left()),
-                None => Answer::Spent,
+                Some(settling) => CellAnswer::IsLeft(settling.end.is_left()),
+                None => CellAnswer::Spent,
             },
         }
     }
 
     /// Sleeps, unless that was done, or the outcome was had, or the end has left.
-    fn sleep(&mut self, sleeper: Unparker) -> Answer {
-        match mem::replace(&mut self.waiting, Waiting::Gone) {
-            Waiting::Awake(Awake { mut end }) => {
+    fn sleep(&mut self, sleeper: Unparker) -> CellAnswer {
+        match mem::replace(&mut self.waiting, WaitingEnd::Gone) {
+            WaitingEnd::Awake(AwakeEnd { mut end }) => {
                 let outcome = end.sleep(sleeper);
-                self.waiting = Waiting::Staying(Staying { end });
-                Answer::Outcome(outcome)
+                self.waiting = WaitingEnd::Staying(Staying { end });
+                CellAnswer::Outcome(outcome)
             },
-            Waiting::Staying(_) | Waiting::Gone => Answer::Spent,
+            WaitingEnd::Staying(_) | WaitingEnd::Gone => CellAnswer::Spent,
         }
     }
 
     /// Polls, unless the end has left. It can't sleep any more once it has the outcome.
-    fn poll(&mut self) -> Answer {
-        match mem::replace(&mut self.waiting, Waiting::Gone) {
-            Waiting::Awake(Awake { mut end }) => match end.poll() {
+    fn poll(&mut self) -> CellAnswer {
+        match mem::replace(&mut self.waiting, WaitingEnd::Gone) {
+            WaitingEnd::Awake(AwakeEnd { mut end }) => match end.poll() {
                 Some(outcome) => {
-                    self.waiting = Waiting::Staying(Staying { end });
-                    Answer::Outcome(Some(outcome))
+                    self.waiting = WaitingEnd::Staying(Staying { end });
+                    CellAnswer::Outcome(Some(outcome))
                 },
                 None => {
-                    self.waiting = Waiting::Awake(Awake { end });
-                    Answer::Outcome(None)
+                    self.waiting = WaitingEnd::Awake(AwakeEnd { end });
+                    CellAnswer::Outcome(None)
                 },
             },
-            Waiting::Staying(Staying { mut end }) => {
+            WaitingEnd::Staying(Staying { mut end }) => {
                 let outcome = end.poll();
-                self.waiting = Waiting::Staying(Staying { end });
-                Answer::Outcome(outcome)
+                self.waiting = WaitingEnd::Staying(Staying { end });
+                CellAnswer::Outcome(outcome)
             },
-            Waiting::Gone => Answer::Spent,
+            WaitingEnd::Gone => CellAnswer::Spent,
         }
     }
 }
@@ -323,7 +323,7 @@ fn run_running(
     steps: &[CellStep],
     replies: &[CellReply],
 ) {
-    let mut running = Running::new(rt);
+    let mut running = RunningCell::new(rt);
     for (step, reply) in steps.iter().zip(replies.iter()) {
         let sleeper = parker.unparker().clone().expect(rt, "an unparker");
         let answer = running.step(*step, sleeper);

@@ -8,14 +8,14 @@ use std::sync::atomic::Ordering::SeqCst;
 
 /// How often the message of each number was dropped.
 #[derive(Drop)]
-pub struct Drops {
+pub struct DropCounts {
     counts: [AtomicU64; 5],
 }
 
-impl Drops {
+impl DropCounts {
     /// No message was dropped.
-    pub fn new(rt: &(impl Abort + AllocGlobal)) -> Arc<Drops, Global> {
-        let drops = Drops {
+    pub fn new(rt: &(impl Abort + AllocGlobal)) -> Arc<DropCounts, Global> {
+        let drops = DropCounts {
             counts: [
                 AtomicU64::new(0),
                 AtomicU64::new(0),
@@ -38,25 +38,25 @@ impl Drops {
 }
 
 /// A message with a number, which counts its drop.
-pub struct Counted {
+pub struct Numbered {
     number: usize,
-    drops: Arc<Drops, Global>,
+    drops: Arc<DropCounts, Global>,
 }
 
-impl Drop for Counted {
+impl Drop for Numbered {
     fn drop(self) {
-        let Counted { number, drops } = self;
+        let Numbered { number, drops } = self;
         if let Some(count) = drops.counts.get(number) {
             count.fetch_add(1, SeqCst);
         }
     }
 }
 
-impl Counted {
+impl Numbered {
     /// The message of this number.
-    pub fn new(rt: &impl Abort, drops: &Arc<Drops, Global>, number: usize) -> Self {
+    pub fn new(rt: &impl Abort, drops: &Arc<DropCounts, Global>, number: usize) -> Self {
         let drops = Arc::try_clone(drops).expect(rt, "one more");
-        Counted { number, drops }
+        Numbered { number, drops }
     }
 
     /// Its number.

@@ -9,7 +9,7 @@ use std::collections::VecDeque;
 use std::process::Abort;
 
 /// What the offer of a message comes to.
-pub enum Offer {
+pub enum ModelOffer {
     /// The message is in the buffer.
     Entered,
     /// The receiver with this number has it.
@@ -21,7 +21,7 @@ pub enum Offer {
 }
 
 /// What a take comes to.
-pub enum Take {
+pub enum ModelTake {
     /// This message; and the send with that number, which waited, is done.
     Taken(usize, Option<usize>),
     /// There is none.
@@ -40,7 +40,7 @@ pub struct Told {
 
 /// A channel. `None` is no limit.
 #[derive(Drop)]
-pub struct Line {
+pub struct ModelLine {
     capacity: Option<usize>,
     messages: VecDeque<usize, Global>,
     demands: VecDeque<usize, Global>,
@@ -54,10 +54,10 @@ pub fn add(rt: &impl Abort, numbers: &mut VecDeque<usize, Global>, number: usize
     assert!(rt; added);
 }
 
-impl Line {
+impl ModelLine {
     /// An empty channel with so many handles of each side.
     pub fn new(rt: &impl AllocGlobal, capacity: Option<usize>, handles: u32) -> Self {
-        Line {
+        ModelLine {
             capacity,
             messages: VecDeque::new(rt.alloc()),
             demands: VecDeque::new(rt.alloc()),
@@ -79,40 +79,40 @@ impl Line {
     }
 
     /// Offers a message: to the receiver that waits longest, or to the buffer.
-    pub fn offer(&mut self, rt: &impl Abort, message: usize) -> Offer {
+    pub fn offer(&mut self, rt: &impl Abort, message: usize) -> ModelOffer {
         match (self.senders, self.receivers) {
-            (0, 0) => return Offer::Refused(SendError::Closed),
-            (_, 0) => return Offer::Refused(SendError::ReceiveClosed),
-            (0, _) => return Offer::Refused(SendError::Sealed),
+            (0, 0) => return ModelOffer::Refused(SendError::Closed),
+            (_, 0) => return ModelOffer::Refused(SendError::ReceiveClosed),
+            (0, _) => return ModelOffer::Refused(SendError::Sealed),
             _ => {},
         }
         if let Some(receiver) = self.demands.pop_front() {
-            return Offer::Handed(receiver);
+            return ModelOffer::Handed(receiver);
         }
         if self
             .capacity
             .is_some_and(|capacity| self.messages.len() >= capacity)
         {
-            return Offer::Full;
+            return ModelOffer::Full;
         }
         add(rt, &mut self.messages, message);
-        Offer::Entered
+        ModelOffer::Entered
     }
 
     /// Takes the front of the line. The send that waits longest, whose message is the first one behind the
     /// buffer, is done then: its message has moved up into the buffer, or was the one taken.
-    pub fn take(&mut self) -> Take {
+    pub fn take(&mut self) -> ModelTake {
         if self.receivers == 0 {
-            return Take::Refused(ReceiveError::Closed);
+            return ModelTake::Refused(ReceiveError::Closed);
         }
         let served = match self.capacity {
             Some(capacity) => self.messages.get(capacity).copied(),
             None => None,
         };
         match self.messages.pop_front() {
-            Some(message) => Take::Taken(message, served),
-            None if self.senders == 0 => Take::Refused(ReceiveError::SendClosed),
-            None => Take::Empty,
+            Some(message) => ModelTake::Taken(message, served),
+            None if self.senders == 0 => ModelTake::Refused(ReceiveError::SendClosed),
+            None => ModelTake::Empty,
         }
     }
 

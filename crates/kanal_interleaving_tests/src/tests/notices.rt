@@ -5,7 +5,7 @@
 //! Whether a drop finds the lock held is left to the schedule.
 use crate::tests::given::{equal, holds, new_task};
 use crate::tests::meeting::{Meeting, shared};
-use crate::tests::watch::Watch;
+use crate::tests::watch::Watchdog;
 use futures::task::Poll;
 use kanal::error::ReceiveError;
 use kanal::{AsyncReceiver, AsyncSender, bounded_async};
@@ -83,7 +83,7 @@ fn end_receives<R>(rt: R, senders: u32) -> u32
 where
     R: Threads + Wait + time::Clock + Abort + RandomSource + AllocGlobal + Copy + Send + 'static,
 {
-    let watch = Watch::start(rt);
+    let watch = Watchdog::start(rt);
     for round in 0..ROUNDS {
         end_a_receive(rt, senders, round);
         watch.count();

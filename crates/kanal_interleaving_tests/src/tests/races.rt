@@ -3,10 +3,10 @@
 //! Whoever comes first, the call has an answer that the rules have for one of the orders, and each message
 //! is dropped once. The two threads meet right before: a round in which they don't fails the test. Who is
 //! first after that is left to the schedule, and a round that doesn't end fails the test, too.
-use crate::tests::counted::{Counted, Drops};
+use crate::tests::counted::{DropCounts, Numbered};
 use crate::tests::given::{equal, holds, new_task};
 use crate::tests::meeting::{Meeting, shared};
-use crate::tests::watch::Watch;
+use crate::tests::watch::Watchdog;
 use futures::task::Poll;
 use futures::test::MockTask;
 use kanal::error::{ReceiveError, SendError, SendErrorTimeout};
@@ -29,7 +29,7 @@ pub(super) enum End {
 
 /// The call of this thread.
 #[derive(Clone, Copy)]
-enum Call {
+enum RaceCall {
     Send,
     Receive,
     Drain,
@@ -74,15 +74,15 @@ impl Round {
 
 /// The handle through which the other thread ends the channel.
 #[derive(Drop)]
-enum Handle {
-    Sends(Sender<Counted>),
-    Receives(Receiver<Counted>),
+enum EitherHandle {
+    Sends(Sender<Numbered>),
+    Receives(Receiver<Numbered>),
 }
 
 /// Ends the channel through this handle, in another thread, which this one has met.
 fn end_by<R: Threads + Wait + Abort + AllocGlobal + Copy + Send + 'static>(
     rt: R,
-    handle: Handle,
+    handle: EitherHandle,
     round: Round,
 ) -> JoinHandle<()> {
     let meeting = Meeting::new(&rt, 2);
@@ -90,8 +90,8 @@ fn end_by<R: Threads + Wait + Abort + AllocGlobal + Copy + Send + 'static>(
     let ending = thread::spawn(&rt, move || {
         theirs.attend(&rt, round.pauses);
         let receiver = match handle {
-            Handle::Sends(sender) => return end_sender(&rt, sender, round.end),
-            Handle::Receives(receiver) => receiver,
+            EitherHandle::Sends(sender) => return end_sender(&rt, sender, round.end),
+            EitherHandle::Receives(receiver) => receiver,
         };
         let _ = match round.end {
             End::Close => receiver.close(&rt),
@@ -106,7 +106,7 @@ fn end_by<R: Threads + Wait + Abort + AllocGlobal + Copy + Send + 'static>(
 }
 
 /// Ends the channel through its sender, which is dropped.
-pub(super) fn end_sender<R: Wait>(rt: &R, sender: Sender<Counted>, end: End) {
+pub(super) fn end_sender<R: Wait>(rt: &R, sender: Sender<Numbered>, end: End) {
     let _ = match end {
         End::Close => sender.close(rt),
         End::Drop => Ok(()),
@@ -131,11 +131,11 @@ fn ends_send(end: End, error: SendError) -> bool {
 fn send<R: Threads + Wait + Abort + AllocGlobal + Copy + Send + 'static>(
     rt: R,
     round: Round,
-    drops: &Arc<Drops, Global>,
+    drops: &Arc<DropCounts, Global>,
 ) {
     let (sender, receiver) = bounded(rt.alloc(), round.count).expect(&rt, "a channel");
-    let message = Counted::new(&rt, drops, 0);
-    let ending = end_by(rt, Handle::Receives(receiver), round);
+    let message = Numbered::new(&rt, drops, 0);
+    let ending = end_by(rt, EitherHandle::Receives(receiver), round);
     let answer = sender.send(&rt, message);
     ending.join(&rt);
     holds(
@@ -153,13 +153,13 @@ fn send<R: Threads + Wait + Abort + AllocGlobal + Copy + Send + 'static>(
 fn filled<R: Wait + Abort + AllocGlobal>(
     rt: &R,
     count: usize,
-    drops: &Arc<Drops, Global>,
-) -> (Sender<Counted>, Receiver<Counted>) {
+    drops: &Arc<DropCounts, Global>,
+) -> (Sender<Numbered>, Receiver<Numbered>) {
     let (sender, receiver) = bounded(rt.alloc(), 1).expect(rt, "a channel");
     if count == 1 {
         equal(
             rt,
-            sender.try_send(rt, Counted::new(rt, drops, 0)),
+            sender.try_send(rt, Numbered::new(rt, drops, 0)),
             Ok(true),
         );
     }
@@ -170,10 +170,10 @@ fn filled<R: Wait + Abort + AllocGlobal>(
 fn receive<R: Threads + Wait + Abort + AllocGlobal + Copy + Send + 'static>(
     rt: R,
     round: Round,
-    drops: &Arc<Drops, Global>,
+    drops: &Arc<DropCounts, Global>,
 ) {
     let (sender, receiver) = filled(&rt, round.count, drops);
-    let ending = end_by(rt, Handle::Sends(sender), round);
+    let ending = end_by(rt, EitherHandle::Sends(sender), round);
     let mut received = 0usize;
     let mut last = receiver.recv(&rt);
     if last.is_ok() {
@@ -195,11 +195,11 @@ fn receive<R: Threads + Wait + Abort + AllocGlobal + Copy + Send + 'static>(
 fn drain<R: Threads + Wait + Abort + AllocGlobal + Copy + Send + 'static>(
     rt: R,
     round: Round,
-    drops: &Arc<Drops, Global>,
+    drops: &Arc<DropCounts, Global>,
 ) {
     let (sender, receiver) = filled(&rt, round.count, drops);
     let mut drained = Vec::new(rt.alloc());
-    let ending = end_by(rt, Handle::Sends(sender), round);
+    let ending = end_by(rt, EitherHandle::Sends(sender), round);
     let answer = receiver.drain_into(&rt, &mut drained);
     ending.join(&rt);
     holds(
@@ -222,12 +222,12 @@ const READS: u64 = 12;
 fn time_out<R: Threads + Wait + time::Clock + Abort + AllocGlobal + Copy + Send + 'static>(
     rt: R,
     round: Round,
-    drops: &Arc<Drops, Global>,
+    drops: &Arc<DropCounts, Global>,
 ) {
     let (sender, receiver) = bounded(rt.alloc(), 0).expect(&rt, "a channel");
-    let message = Counted::new(&rt, drops, 0);
+    let message = Numbered::new(&rt, drops, 0);
     let clock = TestClock::rising();
-    let ending = end_by(rt, Handle::Receives(receiver), round);
+    let ending = end_by(rt, EitherHandle::Receives(receiver), round);
     let answer = sender.send_timeout(&rt, message, Duration::from_nanos(READS), &clock);
     ending.join(&rt);
     holds(
@@ -249,13 +249,13 @@ fn drop_waiting<R: Threads + Wait + Abort + AllocGlobal + Copy + Send + 'static>
     rt: R,
     task: &MockTask,
     round: Round,
-    drops: &Arc<Drops, Global>,
+    drops: &Arc<DropCounts, Global>,
 ) {
     let (sender, receiver) = bounded(rt.alloc(), 0).expect(&rt, "a channel");
-    let sender: AsyncSender<Counted> = sender.to_async();
-    let mut sending = sender.send(Counted::new(&rt, drops, 0));
+    let sender: AsyncSender<Numbered> = sender.to_async();
+    let mut sending = sender.send(Numbered::new(&rt, drops, 0));
     equal(&rt, task.poll(&mut sending), Poll::Pending);
-    let ending = end_by(rt, Handle::Receives(receiver), round);
+    let ending = end_by(rt, EitherHandle::Receives(receiver), round);
     drop(sending);
     ending.join(&rt);
     drop(sender);
@@ -265,17 +265,17 @@ fn drop_waiting<R: Threads + Wait + Abort + AllocGlobal + Copy + Send + 'static>
 /// Runs all rounds of the call. How many they were.
 fn race<
     R: Threads + Wait + time::Clock + Abort + RandomSource + AllocGlobal + Copy + Send + 'static,
->(rt: R, call: Call) -> u32 {
-    let (task, drops) = (new_task(&rt), Drops::new(&rt));
-    let watch = Watch::start(rt);
+>(rt: R, call: RaceCall) -> u32 {
+    let (task, drops) = (new_task(&rt), DropCounts::new(&rt));
+    let watch = Watchdog::start(rt);
     for number in 0..ROUNDS {
         let round = Round::numbered(number);
         match call {
-            Call::Send => send(rt, round, &drops),
-            Call::Receive => receive(rt, round, &drops),
-            Call::Drain => drain(rt, round, &drops),
-            Call::TimeOut => time_out(rt, round, &drops),
-            Call::DropWaiting => drop_waiting(rt, &task, round, &drops),
+            RaceCall::Send => send(rt, round, &drops),
+            RaceCall::Receive => receive(rt, round, &drops),
+            RaceCall::Drain => drain(rt, round, &drops),
+            RaceCall::TimeOut => time_out(rt, round, &drops),
+            RaceCall::DropWaiting => drop_waiting(rt, &task, round, &drops),
         }
         watch.count();
     }
@@ -284,25 +284,25 @@ fn race<
 
 #[test]
 fn an_end_beside_a_send(rt: HostRuntime) {
-    equal(&rt, race(rt, Call::Send), 30_000);
+    equal(&rt, race(rt, RaceCall::Send), 30_000);
 }
 
 #[test]
 fn an_end_beside_a_receive(rt: HostRuntime) {
-    equal(&rt, race(rt, Call::Receive), 30_000);
+    equal(&rt, race(rt, RaceCall::Receive), 30_000);
 }
 
 #[test]
 fn an_end_beside_a_drain(rt: HostRuntime) {
-    equal(&rt, race(rt, Call::Drain), 30_000);
+    equal(&rt, race(rt, RaceCall::Drain), 30_000);
 }
 
 #[test]
 fn an_end_beside_a_timed_send(rt: HostRuntime) {
-    equal(&rt, race(rt, Call::TimeOut), 30_000);
+    equal(&rt, race(rt, RaceCall::TimeOut), 30_000);
 }
 
 #[test]
 fn an_end_beside_the_drop_of_a_future(rt: HostRuntime) {
-    equal(&rt, race(rt, Call::DropWaiting), 30_000);
+    equal(&rt, race(rt, RaceCall::DropWaiting), 30_000);
 }

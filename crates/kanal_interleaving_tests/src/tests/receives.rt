@@ -5,11 +5,11 @@
 //! In a tenth of the rounds the drop is surely first, in another tenth the other thread is, and what follows
 //! from that is asked. In the rest the two threads meet right before, and the schedule has the order. A round
 //! in which they don't meet fails the test, and so does one that doesn't end.
-use crate::tests::counted::{Counted, Drops};
+use crate::tests::counted::{DropCounts, Numbered};
 use crate::tests::given::{equal, holds, new_task};
 use crate::tests::meeting::{Meeting, shared};
 use crate::tests::races::{End, ROUNDS, Round, end_sender};
-use crate::tests::watch::Watch;
+use crate::tests::watch::Watchdog;
 use futures::test::MockTask;
 use kanal::error::{ReceiveError, SendError};
 use kanal::{AsyncReceiver, ReceiveFuture, Sender, bounded};
@@ -47,17 +47,17 @@ impl First {
 }
 
 /// What a send that doesn't wait answers.
-type Sent = Result<bool, SendError>;
+type TrySent = Result<bool, SendError>;
 
 /// The ends of a channel of messages.
-type Ends = (Sender<Counted>, AsyncReceiver<Counted>);
+type ChannelEnds = (Sender<Numbered>, AsyncReceiver<Numbered>);
 
 /// A receive that waits.
 fn waiting<'a>(
     rt: &impl Abort,
     task: &MockTask,
-    receiver: &'a AsyncReceiver<Counted>,
-) -> ReceiveFuture<'a, Counted> {
+    receiver: &'a AsyncReceiver<Numbered>,
+) -> ReceiveFuture<'a, Numbered> {
     let mut receiving = receiver.recv();
     holds(rt, task.poll(&mut receiving).is_pending());
     receiving
@@ -65,8 +65,8 @@ fn waiting<'a>(
 
 /// A thread, and where it waits for this one. It answers what its send did, and hands back a sender by which it
 /// didn't end the channel.
-type Started = (
-    JoinHandle<(Option<Sender<Counted>>, Option<Sent>)>,
+type StartedThread = (
+    JoinHandle<(Option<Sender<Numbered>>, Option<TrySent>)>,
     Arc<Meeting, Global>,
 );
 
@@ -74,11 +74,11 @@ type Started = (
 /// that is the other's part.
 fn start<R: Threads + Wait + Abort + AllocGlobal + Copy + Send + 'static>(
     rt: R,
-    sender: Sender<Counted>,
-    message: Option<Counted>,
+    sender: Sender<Numbered>,
+    message: Option<Numbered>,
     round: Round,
     ends: bool,
-) -> Started {
+) -> StartedThread {
     let meeting = Meeting::new(&rt, 2);
     let theirs = shared(&rt, &meeting);
     let other = thread::spawn(&rt, move || {
@@ -99,10 +99,10 @@ fn start<R: Threads + Wait + Abort + AllocGlobal + Copy + Send + 'static>(
 /// Meets the thread, drops the receive and waits for the thread's end, in this order of the two.
 fn drop_receive<R: Threads + Abort>(
     rt: &R,
-    receiving: ReceiveFuture<'_, Counted>,
-    started: Started,
+    receiving: ReceiveFuture<'_, Numbered>,
+    started: StartedThread,
     first: First,
-) -> (Option<Sender<Counted>>, Option<Sent>) {
+) -> (Option<Sender<Numbered>>, Option<TrySent>) {
     let (thread, meeting) = started;
     match first {
         First::Drop => {
@@ -125,7 +125,7 @@ fn drop_receive<R: Threads + Abort>(
 }
 
 /// Ends the test unless the channel is empty, and ended so.
-fn is_ended<R: Wait + Abort>(rt: &R, receiver: &AsyncReceiver<Counted>, end: End) {
+fn is_ended<R: Wait + Abort>(rt: &R, receiver: &AsyncReceiver<Numbered>, end: End) {
     let (receivers, error) = match end {
         End::Close => (0, ReceiveError::Closed),
         End::Drop | End::Seal => (1, ReceiveError::SendClosed),
@@ -140,7 +140,7 @@ fn is_ended<R: Wait + Abort>(rt: &R, receiver: &AsyncReceiver<Counted>, end: End
 }
 
 /// Receives the message where it lies in the buffer; else it was dropped already. It was dropped once then.
-fn receive_rest<R: Wait + Abort>(rt: &R, receiver: &AsyncReceiver<Counted>, drops: &Drops) {
+fn receive_rest<R: Wait + Abort>(rt: &R, receiver: &AsyncReceiver<Numbered>, drops: &DropCounts) {
     if receiver.len(rt) == 0 {
         drops.were_once(rt, 1);
         return;
@@ -155,7 +155,7 @@ fn receive_rest<R: Wait + Abort>(rt: &R, receiver: &AsyncReceiver<Counted>, drop
 }
 
 /// Whether the send can be answered so. Where the drop is first, the message finds no receive.
-fn is_sent(sent: Sent, places: usize, first: First) -> bool {
+fn is_sent(sent: TrySent, places: usize, first: First) -> bool {
     match first {
         First::Drop => sent == Ok(places == 1),
         First::Other => sent == Ok(true),
@@ -174,11 +174,16 @@ fn is_left(left: usize, places: usize, first: First) -> bool {
 }
 
 /// Ends the test unless no receive waits any more: a message finds a place in the buffer, or none.
-fn nobody_waits<R: Wait + Abort>(rt: &R, ends: Ends, places: usize, drops: &Arc<Drops, Global>) {
+fn nobody_waits<R: Wait + Abort>(
+    rt: &R,
+    ends: ChannelEnds,
+    places: usize,
+    drops: &Arc<DropCounts, Global>,
+) {
     let (sender, receiver) = ends;
     equal(rt, receiver.sender_count(rt), 1);
     equal(rt, receiver.receiver_count(rt), 1);
-    let sent = sender.try_send(rt, Counted::new(rt, drops, 0));
+    let sent = sender.try_send(rt, Numbered::new(rt, drops, 0));
     equal(rt, sent, Ok(places == 1));
     equal(rt, receiver.len(rt), places);
     drop((sender, receiver));
@@ -192,13 +197,13 @@ fn beside<R: Threads + Wait + Abort + AllocGlobal + Copy + Send + 'static>(
     other: Other,
     round: Round,
     first: First,
-    drops: &Arc<Drops, Global>,
+    drops: &Arc<DropCounts, Global>,
 ) {
     let (sender, receiver) = bounded(rt.alloc(), round.count).expect(&rt, "a channel");
     let receiver = receiver.to_async();
     let receiving = waiting(&rt, task, &receiver);
     let message = if other.sends {
-        Some(Counted::new(&rt, drops, 0))
+        Some(Numbered::new(&rt, drops, 0))
     } else {
         None
     };
@@ -229,8 +234,8 @@ fn race<R>(rt: R, sends: bool, ends: bool) -> u32
 where
     R: Threads + Wait + time::Clock + Abort + RandomSource + AllocGlobal + Copy + Send + 'static,
 {
-    let (task, drops) = (new_task(&rt), Drops::new(&rt));
-    let watch = Watch::start(rt);
+    let (task, drops) = (new_task(&rt), DropCounts::new(&rt));
+    let watch = Watchdog::start(rt);
     for number in 0..ROUNDS {
         let (round, first) = (Round::numbered(number), First::numbered(number));
         beside(rt, &task, Other { sends, ends }, round, first, &drops);

@@ -4,7 +4,7 @@
 //! threads meet before their first calls: a round in which they don't fails the test.
 use crate::tests::given::equal;
 use crate::tests::meeting::Meeting;
-use crate::tests::watch::Watch;
+use crate::tests::watch::Watchdog;
 use kanal_core::mutex::Mutex;
 use kanal_journal::journal::{Ask, Event, Journal, Reply, Side, run};
 use kanal_recorded::{Pass, Recorded, Seen};
@@ -177,7 +177,7 @@ fn run_again(rt: &(impl Abort + AllocGlobal), journal: &Journal<u64>) -> usize {
 #[test]
 fn random_calls_of_four_threads(rt: HostRuntime) {
     let mut replies = 0usize;
-    let watch = Watch::start(rt);
+    let watch = Watchdog::start(rt);
     for round in 0..200u64 {
         let journal = journal(&rt, round);
         replies = replies.wrapping_add(run_again(&rt, &journal));

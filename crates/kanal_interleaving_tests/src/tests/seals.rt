@@ -4,10 +4,10 @@
 //! A message that was sent is received behind the seal, and one that was refused isn't. The threads meet right
 //! before: a round in which they don't fails the test, and so does one that doesn't end. Who is first after
 //! that is left to the schedule.
-use crate::tests::counted::{Counted, Drops};
+use crate::tests::counted::{DropCounts, Numbered};
 use crate::tests::given::{equal, holds};
 use crate::tests::meeting::{Meeting, shared};
-use crate::tests::watch::Watch;
+use crate::tests::watch::Watchdog;
 use kanal::error::{ReceiveError, SendError};
 use kanal::{Receiver, Sender, bounded};
 use std::alloc::{AllocGlobal, Global};
@@ -20,7 +20,7 @@ use std::thread::Threads;
 const ROUNDS: u32 = 10_000;
 
 /// Ends the test unless so many messages are there, and then the end.
-fn receive_rest<R: Wait + Abort>(rt: &R, receiver: &Receiver<Counted>, count: usize) {
+fn receive_rest<R: Wait + Abort>(rt: &R, receiver: &Receiver<Numbered>, count: usize) {
     for _ in 0..count {
         holds(rt, receiver.recv(rt).is_ok());
     }
@@ -34,11 +34,11 @@ fn receive_rest<R: Wait + Abort>(rt: &R, receiver: &Receiver<Counted>, count: us
 fn send_beside_a_seal<R: Threads + Wait + Abort + AllocGlobal + Copy + Send + 'static>(
     rt: R,
     pauses: u32,
-    drops: &Arc<Drops, Global>,
+    drops: &Arc<DropCounts, Global>,
 ) {
     let (sender, receiver) = bounded(rt.alloc(), 1).expect(&rt, "a channel");
-    let other: Sender<Counted> = sender.clone(&rt).expect(&rt, "a clone");
-    let message = Counted::new(&rt, drops, 0);
+    let other: Sender<Numbered> = sender.clone(&rt).expect(&rt, "a clone");
+    let message = Numbered::new(&rt, drops, 0);
     let meeting = Meeting::new(&rt, 2);
     let theirs = shared(&rt, &meeting);
     let sealing = thread::spawn(&rt, move || {
@@ -57,8 +57,8 @@ fn send_beside_a_seal<R: Threads + Wait + Abort + AllocGlobal + Copy + Send + 's
 
 #[test]
 fn a_seal_beside_a_send(rt: HostRuntime) {
-    let drops = Drops::new(&rt);
-    let watch = Watch::start(rt);
+    let drops = DropCounts::new(&rt);
+    let watch = Watchdog::start(rt);
     for round in 0..ROUNDS {
         send_beside_a_seal(rt, round % 40, &drops);
         watch.count();

@@ -2,9 +2,9 @@
 //!
 //! Each step's answer, the option that it was lent, the length and both counts are those of a plain
 //! line; at the end each message was dropped once.
-use crate::tests::counted::{Counted, Drops};
+use crate::tests::counted::{DropCounts, Numbered};
 use crate::tests::given::equal;
-use crate::tests::line::{Line, Offer, Take, Told};
+use crate::tests::line::{ModelLine, ModelOffer, ModelTake, Told};
 use crate::tests::lists::{ALL, LISTS, list_of};
 use kanal::error::{CloseError, ReceiveError, SendError};
 use kanal::{Receiver, Sender, bounded, unbounded};
@@ -24,7 +24,7 @@ enum Form {
 
 /// One step. The sender's steps do nothing once it was dropped.
 #[derive(Clone, Copy, Debug, PartialEq, Eq)]
-enum Step {
+enum SyncStep {
     Send(Form),
     TryReceive,
     TryReceiveRealtime,
@@ -37,22 +37,22 @@ enum Step {
 }
 
 /// All of them.
-const STEPS: [Step; 10] = [
-    Step::Send(Form::Plain),
-    Step::Send(Form::OfOption),
-    Step::Send(Form::Realtime),
-    Step::Send(Form::OfOptionRealtime),
-    Step::TryReceive,
-    Step::TryReceiveRealtime,
-    Step::Drain,
-    Step::DropSender,
-    Step::Close,
-    Step::Seal,
+const STEPS: [SyncStep; 10] = [
+    SyncStep::Send(Form::Plain),
+    SyncStep::Send(Form::OfOption),
+    SyncStep::Send(Form::Realtime),
+    SyncStep::Send(Form::OfOptionRealtime),
+    SyncStep::TryReceive,
+    SyncStep::TryReceiveRealtime,
+    SyncStep::Drain,
+    SyncStep::DropSender,
+    SyncStep::Close,
+    SyncStep::Seal,
 ];
 
 /// What a step answers.
 #[derive(Debug, PartialEq, Eq, Drop)]
-enum Answer {
+enum SyncAnswer {
     /// Nothing: the sender was dropped, now or before.
     Nothing,
     /// A send by value.
@@ -66,28 +66,28 @@ enum Answer {
 
 /// The two handles, and what the receiver drained.
 #[derive(Drop)]
-struct Handles {
-    sender: Option<Sender<Counted>>,
-    receiver: Receiver<Counted>,
-    drained: Vec<Counted>,
+struct SyncHandles {
+    sender: Option<Sender<Numbered>>,
+    receiver: Receiver<Numbered>,
+    drained: Vec<Numbered>,
 }
 
 /// What the option holds; its message is dropped.
-fn held_by(option: Option<Counted>) -> Option<usize> {
+fn held_by(option: Option<Numbered>) -> Option<usize> {
     option.map(|message| message.number())
 }
 
 /// What a receive answers, by the message's number; the message is dropped.
-fn received(answer: Result<Option<Counted>, ReceiveError>) -> Answer {
-    Answer::Received(answer.map(held_by))
+fn received(answer: Result<Option<Numbered>, ReceiveError>) -> SyncAnswer {
+    SyncAnswer::Received(answer.map(held_by))
 }
 
 /// Sends the message in this form.
-fn send<R: Wait>(rt: &R, sender: &Sender<Counted>, form: Form, message: Counted) -> Answer {
+fn send<R: Wait>(rt: &R, sender: &Sender<Numbered>, form: Form, message: Numbered) -> SyncAnswer {
     let mut option = None;
     let answer = match form {
-        Form::Plain => return Answer::Sent(sender.try_send(rt, message)),
-        Form::Realtime => return Answer::Sent(sender.try_send_realtime(message)),
+        Form::Plain => return SyncAnswer::Sent(sender.try_send(rt, message)),
+        Form::Realtime => return SyncAnswer::Sent(sender.try_send_realtime(message)),
         Form::OfOption => {
             option = Some(message);
             sender.try_send_option(rt, &mut option)
@@ -97,10 +97,10 @@ fn send<R: Wait>(rt: &R, sender: &Sender<Counted>, form: Form, message: Counted)
             sender.try_send_option_realtime(&mut option)
         },
     };
-    Answer::SentOption(answer, held_by(option))
+    SyncAnswer::SentOption(answer, held_by(option))
 }
 
-impl Handles {
+impl SyncHandles {
     /// The handles of a new channel; `None` is no limit.
     fn new(rt: &(impl Abort + AllocGlobal), capacity: Option<usize>) -> Self {
         let made = match capacity {
@@ -108,7 +108,7 @@ impl Handles {
             None => unbounded(rt.alloc()),
         };
         let (sender, receiver) = made.expect(rt, "a channel");
-        Handles {
+        SyncHandles {
             sender: Some(sender),
             receiver,
             drained: Vec::new(rt.alloc()),
@@ -119,24 +119,24 @@ impl Handles {
     fn step<R: Wait + Abort>(
         &mut self,
         rt: &R,
-        step: Step,
-        drops: &Arc<Drops, Global>,
+        step: SyncStep,
+        drops: &Arc<DropCounts, Global>,
         number: usize,
-    ) -> Answer {
+    ) -> SyncAnswer {
         match step {
-            Step::Send(form) => match &self.sender {
-                Some(sender) => send(rt, sender, form, Counted::new(rt, drops, number)),
-                None => Answer::Nothing,
+            SyncStep::Send(form) => match &self.sender {
+                Some(sender) => send(rt, sender, form, Numbered::new(rt, drops, number)),
+                None => SyncAnswer::Nothing,
             },
-            Step::TryReceive => received(self.receiver.try_recv(rt)),
-            Step::TryReceiveRealtime => received(self.receiver.try_recv_realtime()),
-            Step::Drain => Answer::Drained(self.receiver.drain_into(rt, &mut self.drained)),
-            Step::DropSender => {
+            SyncStep::TryReceive => received(self.receiver.try_recv(rt)),
+            SyncStep::TryReceiveRealtime => received(self.receiver.try_recv_realtime()),
+            SyncStep::Drain => SyncAnswer::Drained(self.receiver.drain_into(rt, &mut self.drained)),
+            SyncStep::DropSender => {
                 self.sender = None;
-                Answer::Nothing
+                SyncAnswer::Nothing
             },
-            Step::Close => Answer::Ended(self.receiver.close(rt)),
-            Step::Seal => Answer::Ended(self.receiver.seal(rt)),
+            SyncStep::Close => SyncAnswer::Ended(self.receiver.close(rt)),
+            SyncStep::Seal => SyncAnswer::Ended(self.receiver.seal(rt)),
         }
     }
 
@@ -152,19 +152,19 @@ impl Handles {
 
 /// The plain line in place of the handles' channel.
 #[derive(Drop)]
-struct Account {
-    line: Line,
+struct SyncModel {
+    line: ModelLine,
     has_sender: bool,
     /// How many messages were made: they are numbered from 0.
     made: usize,
     drained: VecDeque<usize, Global>,
 }
 
-impl Account {
+impl SyncModel {
     /// Of a new channel.
     fn new(rt: &impl AllocGlobal, capacity: Option<usize>) -> Self {
-        Account {
-            line: Line::new(rt, capacity, 1),
+        SyncModel {
+            line: ModelLine::new(rt, capacity, 1),
             has_sender: true,
             made: 0,
             drained: VecDeque::new(rt.alloc()),
@@ -173,40 +173,40 @@ impl Account {
 
     /// What the step has to answer. A receive takes the front, and the first drop of the sender is that of
     /// the last one.
-    fn step(&mut self, rt: &impl Abort, step: Step) -> Answer {
+    fn step(&mut self, rt: &impl Abort, step: SyncStep) -> SyncAnswer {
         match step {
-            Step::Send(form) => self.send(rt, form),
-            Step::TryReceive | Step::TryReceiveRealtime => {
-                Answer::Received(match self.line.take() {
-                    Take::Taken(message, _) => Ok(Some(message)),
-                    Take::Empty => Ok(None),
-                    Take::Refused(error) => Err(error),
+            SyncStep::Send(form) => self.send(rt, form),
+            SyncStep::TryReceive | SyncStep::TryReceiveRealtime => {
+                SyncAnswer::Received(match self.line.take() {
+                    ModelTake::Taken(message, _) => Ok(Some(message)),
+                    ModelTake::Empty => Ok(None),
+                    ModelTake::Refused(error) => Err(error),
                 })
             },
-            Step::Drain => Answer::Drained(self.line.drain(rt, &mut self.drained)),
-            Step::DropSender => {
+            SyncStep::Drain => SyncAnswer::Drained(self.line.drain(rt, &mut self.drained)),
+            SyncStep::DropSender => {
                 if self.has_sender {
                     self.has_sender = false;
                     self.line.drop_sender();
                 }
-                Answer::Nothing
+                SyncAnswer::Nothing
             },
-            Step::Close => Answer::Ended(self.line.close()),
-            Step::Seal => Answer::Ended(self.line.seal()),
+            SyncStep::Close => SyncAnswer::Ended(self.line.close()),
+            SyncStep::Seal => SyncAnswer::Ended(self.line.seal()),
         }
     }
 
     /// A send makes the next message. The option is empty only where it was sent.
-    fn send(&mut self, rt: &impl Abort, form: Form) -> Answer {
+    fn send(&mut self, rt: &impl Abort, form: Form) -> SyncAnswer {
         if !self.has_sender {
-            return Answer::Nothing;
+            return SyncAnswer::Nothing;
         }
         let message = self.made;
         self.made = message.wrapping_add(1);
         let answer = match self.line.offer(rt, message) {
-            Offer::Entered | Offer::Handed(_) => Ok(true),
-            Offer::Full => Ok(false),
-            Offer::Refused(error) => Err(error),
+            ModelOffer::Entered | ModelOffer::Handed(_) => Ok(true),
+            ModelOffer::Full => Ok(false),
+            ModelOffer::Refused(error) => Err(error),
         };
         let left = if answer == Ok(true) {
             None
@@ -214,14 +214,14 @@ impl Account {
             Some(message)
         };
         match form {
-            Form::Plain | Form::Realtime => Answer::Sent(answer),
-            Form::OfOption | Form::OfOptionRealtime => Answer::SentOption(answer, left),
+            Form::Plain | Form::Realtime => SyncAnswer::Sent(answer),
+            Form::OfOption | Form::OfOptionRealtime => SyncAnswer::SentOption(answer, left),
         }
     }
 }
 
 /// Ends the test unless these messages have these numbers, in order.
-fn are_drained(rt: &impl Abort, messages: &[Counted], numbers: &VecDeque<usize, Global>) {
+fn are_drained(rt: &impl Abort, messages: &[Numbered], numbers: &VecDeque<usize, Global>) {
     equal(rt, messages.len(), numbers.len());
     for (message, number) in messages.iter().zip(numbers.iter()) {
         equal(rt, message.number(), *number);
@@ -232,11 +232,11 @@ fn are_drained(rt: &impl Abort, messages: &[Counted], numbers: &VecDeque<usize, 
 fn run_list<R: Wait + Abort + AllocGlobal>(
     rt: &R,
     capacity: Option<usize>,
-    list: &[Step],
-    drops: &Arc<Drops, Global>,
+    list: &[SyncStep],
+    drops: &Arc<DropCounts, Global>,
 ) {
-    let mut handles = Handles::new(rt, capacity);
-    let mut account = Account::new(rt, capacity);
+    let mut handles = SyncHandles::new(rt, capacity);
+    let mut account = SyncModel::new(rt, capacity);
     for step in list {
         let answer = handles.step(rt, *step, drops, account.made);
         let expected = account.step(rt, *step);
@@ -251,13 +251,13 @@ fn run_list<R: Wait + Abort + AllocGlobal>(
 
 /// Runs all lists at this capacity. How many they were, and how many of those have no seal.
 fn run_lists<R: Wait + Abort + AllocGlobal>(rt: &R, capacity: Option<usize>) -> (u64, u64) {
-    let drops = Drops::new(rt);
+    let drops = DropCounts::new(rt);
     let (mut lists, mut unsealed) = (0u64, 0u64);
     for number in 0..LISTS {
         let list = list_of(rt, &STEPS, number);
         run_list(rt, capacity, list.as_slice(), &drops);
         lists = lists.wrapping_add(1);
-        unsealed = unsealed.wrapping_add(u64::from(!list.contains(&Step::Seal)));
+        unsealed = unsealed.wrapping_add(u64::from(!list.contains(&SyncStep::Seal)));
     }
     (lists, unsealed)
 }

@@ -3,9 +3,9 @@
 //!
 //! Each poll's answer, the length and both counts are those of a plain line; at the end both messages
 //! were dropped once. A future may be polled after its answer, and a step of a dropped one does nothing.
-use crate::tests::counted::{Counted, Drops};
+use crate::tests::counted::{DropCounts, Numbered};
 use crate::tests::given::{equal, new_task};
-use crate::tests::line::{Line, Offer, Take, Told};
+use crate::tests::line::{ModelLine, ModelOffer, ModelTake, Told};
 use crate::tests::lists::{ALL, LISTS, list_of};
 use futures::task::Poll;
 use futures::test::MockTask;
@@ -45,7 +45,7 @@ const STEPS: [Step; 10] = [
 
 /// What a step answers.
 #[derive(Clone, Copy, Debug, PartialEq, Eq, Drop)]
-enum Answer {
+enum Polled {
     /// Nothing: the future was dropped, now or before.
     Nothing,
     /// The future goes on waiting.
@@ -57,18 +57,18 @@ enum Answer {
 
 /// A handle for each future.
 #[derive(Drop)]
-struct Handles {
-    senders: (AsyncSender<Counted>, AsyncSender<Counted>),
-    receivers: (AsyncReceiver<Counted>, AsyncReceiver<Counted>),
+struct Pairs {
+    senders: (AsyncSender<Numbered>, AsyncSender<Numbered>),
+    receivers: (AsyncReceiver<Numbered>, AsyncReceiver<Numbered>),
 }
 
-impl Handles {
+impl Pairs {
     /// The handles of a new channel with so many places.
     fn new<R: Wait + Abort + AllocGlobal>(rt: &R, capacity: usize) -> Self {
         let (sender, receiver) = bounded_async(rt.alloc(), capacity).expect(rt, "a channel");
         let other_sender = sender.clone(rt).expect(rt, "a clone");
         let other_receiver = receiver.clone(rt).expect(rt, "a clone");
-        Handles {
+        Pairs {
             senders: (sender, other_sender),
             receivers: (receiver, other_receiver),
         }
@@ -88,40 +88,40 @@ impl Handles {
 /// The futures; `None` is one that was dropped.
 #[derive(Drop)]
 struct Futures<'a> {
-    first_send: Option<SendFuture<'a, Counted>>,
-    second_send: Option<SendFuture<'a, Counted>>,
-    first_receive: Option<ReceiveFuture<'a, Counted>>,
-    second_receive: Option<ReceiveFuture<'a, Counted>>,
+    first_send: Option<SendFuture<'a, Numbered>>,
+    second_send: Option<SendFuture<'a, Numbered>>,
+    first_receive: Option<ReceiveFuture<'a, Numbered>>,
+    second_receive: Option<ReceiveFuture<'a, Numbered>>,
 }
 
 /// What a poll of the send answers.
-fn poll_send(task: &MockTask, future: &mut Option<SendFuture<'_, Counted>>) -> Answer {
+fn poll_send(task: &MockTask, future: &mut Option<SendFuture<'_, Numbered>>) -> Polled {
     let Some(future) = future else {
-        return Answer::Nothing;
+        return Polled::Nothing;
     };
     match task.poll(future) {
-        Poll::Ready(answer) => Answer::Sent(answer),
-        Poll::Pending => Answer::Pending,
+        Poll::Ready(answer) => Polled::Sent(answer),
+        Poll::Pending => Polled::Pending,
     }
 }
 
 /// What a poll of the receive answers, by the message's number; the message is dropped.
-fn poll_receive(task: &MockTask, future: &mut Option<ReceiveFuture<'_, Counted>>) -> Answer {
+fn poll_receive(task: &MockTask, future: &mut Option<ReceiveFuture<'_, Numbered>>) -> Polled {
     let Some(future) = future else {
-        return Answer::Nothing;
+        return Polled::Nothing;
     };
     match task.poll(future) {
-        Poll::Ready(Ok(message)) => Answer::Received(Ok(message.number())),
-        Poll::Ready(Err(error)) => Answer::Received(Err(error)),
-        Poll::Pending => Answer::Pending,
+        Poll::Ready(Ok(message)) => Polled::Received(Ok(message.number())),
+        Poll::Ready(Err(error)) => Polled::Received(Err(error)),
+        Poll::Pending => Polled::Pending,
     }
 }
 
 impl<'a> Futures<'a> {
     /// Those of these handles, not polled yet.
-    fn new(rt: &impl Abort, handles: &'a Handles, drops: &Arc<Drops, Global>) -> Self {
-        let first = Counted::new(rt, drops, 0);
-        let second = Counted::new(rt, drops, 1);
+    fn new(rt: &impl Abort, handles: &'a Pairs, drops: &Arc<DropCounts, Global>) -> Self {
+        let first = Numbered::new(rt, drops, 0);
+        let second = Numbered::new(rt, drops, 1);
         Futures {
             first_send: Some(handles.senders.0.send(first)),
             second_send: Some(handles.senders.1.send(second)),
@@ -131,7 +131,7 @@ impl<'a> Futures<'a> {
     }
 
     /// The send with this number.
-    fn send(&mut self, number: usize) -> &mut Option<SendFuture<'a, Counted>> {
+    fn send(&mut self, number: usize) -> &mut Option<SendFuture<'a, Numbered>> {
         match number {
             0 => &mut self.first_send,
             _ => &mut self.second_send,
@@ -139,7 +139,7 @@ impl<'a> Futures<'a> {
     }
 
     /// The receive with this number.
-    fn receive(&mut self, number: usize) -> &mut Option<ReceiveFuture<'a, Counted>> {
+    fn receive(&mut self, number: usize) -> &mut Option<ReceiveFuture<'a, Numbered>> {
         match number {
             0 => &mut self.first_receive,
             _ => &mut self.second_receive,
@@ -147,33 +147,33 @@ impl<'a> Futures<'a> {
     }
 
     /// Makes the step.
-    fn step<R: Wait>(&mut self, rt: &R, task: &MockTask, handles: &Handles, step: Step) -> Answer {
+    fn step<R: Wait>(&mut self, rt: &R, task: &MockTask, handles: &Pairs, step: Step) -> Polled {
         match step {
             Step::PollSend(number) => poll_send(task, self.send(number)),
             Step::PollReceive(number) => poll_receive(task, self.receive(number)),
             Step::DropSend(number) => {
                 *self.send(number) = None;
-                Answer::Nothing
+                Polled::Nothing
             },
             Step::DropReceive(number) => {
                 *self.receive(number) = None;
-                Answer::Nothing
+                Polled::Nothing
             },
-            Step::Close => Answer::Ended(handles.senders.0.close(rt)),
-            Step::Seal => Answer::Ended(handles.senders.0.seal(rt)),
+            Step::Close => Polled::Ended(handles.senders.0.close(rt)),
+            Step::Seal => Polled::Ended(handles.senders.0.seal(rt)),
         }
     }
 }
 
 /// Where a future is, by the rules.
 #[derive(Clone, Copy, Drop)]
-enum Stage {
+enum FutureStage {
     /// It made no step.
     New,
     /// It waits.
     Waits,
     /// Its wait was settled, and its next poll answers so.
-    Settled(Answer),
+    Settled(Polled),
     /// It has answered.
     Finished,
     /// It was dropped.
@@ -182,14 +182,14 @@ enum Stage {
 
 /// The plain line in place of the handles' channel, and where each future is.
 #[derive(Drop)]
-struct Account {
-    line: Line,
-    sends: [Stage; 2],
-    receives: [Stage; 2],
+struct TaskModel {
+    line: ModelLine,
+    sends: [FutureStage; 2],
+    receives: [FutureStage; 2],
 }
 
 /// Where the future with this number is from now on.
-fn set(stages: &mut [Stage], number: usize, stage: Stage) {
+fn set(stages: &mut [FutureStage], number: usize, stage: FutureStage) {
     if let Some(place) = stages.get_mut(number) {
         *place = stage;
     }
@@ -197,128 +197,132 @@ fn set(stages: &mut [Stage], number: usize, stage: Stage) {
 
 /// What becomes of the future with this number at a poll: an answer, and where it is then; or it makes
 /// its first step.
-fn look(stages: &mut [Stage], number: usize, finished: Answer) -> Option<Answer> {
+fn look(stages: &mut [FutureStage], number: usize, finished: Polled) -> Option<Polled> {
     match stages.get(number).copied() {
-        Some(Stage::New) => None,
-        Some(Stage::Waits) => Some(Answer::Pending),
-        Some(Stage::Settled(answer)) => {
-            set(stages, number, Stage::Finished);
+        Some(FutureStage::New) => None,
+        Some(FutureStage::Waits) => Some(Polled::Pending),
+        Some(FutureStage::Settled(answer)) => {
+            set(stages, number, FutureStage::Finished);
             Some(answer)
         },
-        Some(Stage::Finished) => Some(finished),
-        Some(Stage::Gone) | None => Some(Answer::Nothing),
+        Some(FutureStage::Finished) => Some(finished),
+        Some(FutureStage::Gone) | None => Some(Polled::Nothing),
     }
 }
 
 /// Ends all waits so.
-fn end_waits(stages: &mut [Stage], answer: Answer) {
+fn end_waits(stages: &mut [FutureStage], answer: Polled) {
     for stage in stages.iter_mut() {
-        if matches!(stage, Stage::Waits) {
-            *stage = Stage::Settled(answer);
+        if matches!(stage, FutureStage::Waits) {
+            *stage = FutureStage::Settled(answer);
         }
     }
 }
 
-impl Account {
+impl TaskModel {
     /// Of a new channel.
     fn new(rt: &impl AllocGlobal, capacity: usize) -> Self {
-        Account {
-            line: Line::new(rt, Some(capacity), 2),
-            sends: [Stage::New, Stage::New],
-            receives: [Stage::New, Stage::New],
+        TaskModel {
+            line: ModelLine::new(rt, Some(capacity), 2),
+            sends: [FutureStage::New, FutureStage::New],
+            receives: [FutureStage::New, FutureStage::New],
         }
     }
 
     /// What the step has to answer. A send that waits takes its message with it, where it is dropped.
-    fn step(&mut self, rt: &impl Abort, step: Step) -> Answer {
+    fn step(&mut self, rt: &impl Abort, step: Step) -> Polled {
         match step {
             Step::PollSend(number) => return self.poll_send(rt, number),
             Step::PollReceive(number) => return self.poll_receive(rt, number),
             Step::Close => return self.close(),
             Step::Seal => return self.seal(),
             Step::DropSend(number) => {
-                if let Some(Stage::Waits) = self.sends.get(number) {
+                if let Some(FutureStage::Waits) = self.sends.get(number) {
                     self.line.leave_send(number);
                 }
-                set(&mut self.sends, number, Stage::Gone);
+                set(&mut self.sends, number, FutureStage::Gone);
             },
             Step::DropReceive(number) => {
-                if let Some(Stage::Waits) = self.receives.get(number) {
+                if let Some(FutureStage::Waits) = self.receives.get(number) {
                     self.line.leave_receive(number);
                 }
-                set(&mut self.receives, number, Stage::Gone);
+                set(&mut self.receives, number, FutureStage::Gone);
             },
         }
-        Answer::Nothing
+        Polled::Nothing
     }
 
     /// The first step of a send offers its message, and waits where there is no place.
-    fn poll_send(&mut self, rt: &impl Abort, number: usize) -> Answer {
-        let finished = Answer::Sent(Err(SendError::Finished));
+    fn poll_send(&mut self, rt: &impl Abort, number: usize) -> Polled {
+        let finished = Polled::Sent(Err(SendError::Finished));
         if let Some(answer) = look(&mut self.sends, number, finished) {
             return answer;
         }
         let answer = match self.line.offer(rt, number) {
-            Offer::Full => {
+            ModelOffer::Full => {
                 self.line.wait_send(rt, number);
-                set(&mut self.sends, number, Stage::Waits);
-                return Answer::Pending;
+                set(&mut self.sends, number, FutureStage::Waits);
+                return Polled::Pending;
             },
-            Offer::Handed(receiver) => {
-                let given = Stage::Settled(Answer::Received(Ok(number)));
+            ModelOffer::Handed(receiver) => {
+                let given = FutureStage::Settled(Polled::Received(Ok(number)));
                 set(&mut self.receives, receiver, given);
                 Ok(())
             },
-            Offer::Entered => Ok(()),
-            Offer::Refused(error) => Err(error),
+            ModelOffer::Entered => Ok(()),
+            ModelOffer::Refused(error) => Err(error),
         };
-        set(&mut self.sends, number, Stage::Finished);
-        Answer::Sent(answer)
+        set(&mut self.sends, number, FutureStage::Finished);
+        Polled::Sent(answer)
     }
 
     /// The first step of a receive takes the front, and waits where there is none.
-    fn poll_receive(&mut self, rt: &impl Abort, number: usize) -> Answer {
-        let finished = Answer::Received(Err(ReceiveError::Finished));
+    fn poll_receive(&mut self, rt: &impl Abort, number: usize) -> Polled {
+        let finished = Polled::Received(Err(ReceiveError::Finished));
         if let Some(answer) = look(&mut self.receives, number, finished) {
             return answer;
         }
         let answer = match self.line.take() {
-            Take::Empty => {
+            ModelTake::Empty => {
                 self.line.wait_receive(rt, number);
-                set(&mut self.receives, number, Stage::Waits);
-                return Answer::Pending;
+                set(&mut self.receives, number, FutureStage::Waits);
+                return Polled::Pending;
             },
-            Take::Taken(message, served) => {
+            ModelTake::Taken(message, served) => {
                 if let Some(send) = served {
-                    set(&mut self.sends, send, Stage::Settled(Answer::Sent(Ok(()))));
+                    set(
+                        &mut self.sends,
+                        send,
+                        FutureStage::Settled(Polled::Sent(Ok(()))),
+                    );
                 }
                 Ok(message)
             },
-            Take::Refused(error) => Err(error),
+            ModelTake::Refused(error) => Err(error),
         };
-        set(&mut self.receives, number, Stage::Finished);
-        Answer::Received(answer)
+        set(&mut self.receives, number, FutureStage::Finished);
+        Polled::Received(answer)
     }
 
     /// A close ends all waits.
-    fn close(&mut self) -> Answer {
+    fn close(&mut self) -> Polled {
         let answer = self.line.close();
         if answer.is_ok() {
-            end_waits(&mut self.sends, Answer::Sent(Err(SendError::Closed)));
-            let ended = Answer::Received(Err(ReceiveError::Closed));
+            end_waits(&mut self.sends, Polled::Sent(Err(SendError::Closed)));
+            let ended = Polled::Received(Err(ReceiveError::Closed));
             end_waits(&mut self.receives, ended);
         }
-        Answer::Ended(answer)
+        Polled::Ended(answer)
     }
 
     /// A seal ends the receives that wait.
-    fn seal(&mut self) -> Answer {
+    fn seal(&mut self) -> Polled {
         let answer = self.line.seal();
         if answer.is_ok() {
-            let ended = Answer::Received(Err(ReceiveError::SendClosed));
+            let ended = Polled::Received(Err(ReceiveError::SendClosed));
             end_waits(&mut self.receives, ended);
         }
-        Answer::Ended(answer)
+        Polled::Ended(answer)
     }
 }
 
@@ -328,11 +332,11 @@ fn run_list<R: Wait + Abort + AllocGlobal>(
     task: &MockTask,
     capacity: usize,
     list: &[Step],
-    drops: &Arc<Drops, Global>,
+    drops: &Arc<DropCounts, Global>,
 ) {
-    let handles = Handles::new(rt, capacity);
+    let handles = Pairs::new(rt, capacity);
     let mut futures = Futures::new(rt, &handles, drops);
-    let mut account = Account::new(rt, capacity);
+    let mut account = TaskModel::new(rt, capacity);
     for step in list {
         let answer = futures.step(rt, task, &handles, *step);
         let expected = account.step(rt, *step);
@@ -347,7 +351,7 @@ fn run_list<R: Wait + Abort + AllocGlobal>(
 
 /// Runs all lists at this capacity. How many they were, and how many of those have no seal.
 fn run_lists<R: Wait + Abort + RandomSource + AllocGlobal>(rt: &R, capacity: usize) -> (u64, u64) {
-    let (task, drops) = (new_task(rt), Drops::new(rt));
+    let (task, drops) = (new_task(rt), DropCounts::new(rt));
     let (mut lists, mut unsealed) = (0u64, 0u64);
     for number in 0..LISTS {
         let list = list_of(rt, &STEPS, number);

@@ -20,13 +20,13 @@ const LOOKS: u32 = 60_000;
 
 /// How far the test is.
 #[derive(Drop)]
-struct Progress {
+struct RoundsDone {
     rounds: AtomicU32,
     is_over: AtomicBool,
 }
 
 /// Looks again and again whether the next round has ended, until the test is over.
-fn look<R: Clock + Abort>(rt: &R, progress: &Progress) {
+fn look<R: Clock + Abort>(rt: &R, progress: &RoundsDone) {
     let (mut last, mut same) = (0u32, 0u32);
     for _ in 0..LOOKS {
         if progress.is_over.load(SeqCst) {
@@ -46,22 +46,22 @@ fn look<R: Clock + Abort>(rt: &R, progress: &Progress) {
 }
 
 /// The thread that looks, and what it looks at.
-pub struct Watch {
-    progress: Arc<Progress, Global>,
+pub struct Watchdog {
+    progress: Arc<RoundsDone, Global>,
     thread: JoinHandle<()>,
 }
 
-impl Watch {
+impl Watchdog {
     /// Starts the thread, before the first round.
     pub fn start<R: Threads + Clock + Abort + AllocGlobal + Copy + Send + 'static>(rt: R) -> Self {
-        let new = Progress {
+        let new = RoundsDone {
             rounds: AtomicU32::new(0),
             is_over: AtomicBool::new(false),
         };
         let progress = Arc::new(rt.alloc(), new).expect(&rt, "memory for the progress");
         let theirs = Arc::try_clone(&progress).expect(&rt, "one more");
         let thread = thread::spawn(&rt, move || look(&rt, &theirs)).expect(&rt, "a thread");
-        Watch { progress, thread }
+        Watchdog { progress, thread }
     }
 
     /// A round has ended.
@@ -71,7 +71,7 @@ impl Watch {
 
     /// Stops the thread, after the last round. How many rounds there were.
     pub fn stop<R: Threads>(self, rt: &R) -> u32 {
-        let Watch { progress, thread } = self;
+        let Watchdog { progress, thread } = self;
         progress.is_over.store(true, SeqCst);
         thread.join(rt);
         progress.rounds.load(SeqCst)

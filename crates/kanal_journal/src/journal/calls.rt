@@ -15,17 +15,21 @@ ghost use Rattle.kanal_events.specs.declared.event.Side.TheVariants.{Tx, Rx};
 use super::handles::Handles;
 use kanal_core::internal::{ChannelInternal, Ticket};
 use kanal_events::event::{Event, Refusal, Reply};
-use kanal_events::step_result::{Placement, StepResult as StepResultWith};
+use kanal_events::step_result::{Placement, StepResult};
 use kanal_events::steps;
 
 /// A core on which nobody brings anything to a wait.
-pub(crate) type Core<T> = ChannelInternal<T, ()>;
+pub(crate) type JournalCore<T> = ChannelInternal<T, ()>;
 
 /// What a step of such a core told.
-pub(crate) type StepResult<T> = StepResultWith<T, ()>;
+pub(crate) type JournalStep<T> = StepResult<T, ()>;
 
 /// Makes a send or a receive, and keeps the ticket of a wait that it starts.
-fn wait<T: Drop>(core: &mut Core<T>, tickets: &mut Vec<Ticket>, event: Event<T>) -> StepResult<T>
+fn wait<T: Drop>(
+    core: &mut JournalCore<T>,
+    tickets: &mut Vec<Ticket>,
+    event: Event<T>,
+) -> JournalStep<T>
     requires waits { may_wait event ≡ true }
     requires room { vec_len tickets.old < vec_capacity tickets.old }
     requires given { AreGiven tickets.old.items core.old }
@@ -43,7 +47,7 @@ fn wait<T: Drop>(core: &mut Core<T>, tickets: &mut Vec<Ticket>, event: Event<T>)
 }
 
 /// Takes back the wait with this ticket, if it waits.
-fn withdraw<T: Drop>(core: &mut Core<T>, tickets: &[Ticket], number: u64) -> StepResult<T>
+fn withdraw<T: Drop>(core: &mut JournalCore<T>, tickets: &[Ticket], number: u64) -> JournalStep<T>
     requires { AreGiven tickets.now core.old }
     ensures told { Tells (line_of core.old) (Event.Withdraw number)
         (told_of (line_of core.new) result) }
@@ -60,7 +64,7 @@ fn withdraw<T: Drop>(core: &mut Core<T>, tickets: &[Ticket], number: u64) -> Ste
 }
 
 /// Clones a sender.
-fn clone_tx<T: Drop>(core: &mut Core<T>, handles: &mut Handles) -> StepResult<T>
+fn clone_tx<T: Drop>(core: &mut JournalCore<T>, handles: &mut Handles) -> JournalStep<T>
     requires { AreFew handles.old }
     ensures told { Tells (line_of core.old) Event.CloneTx (told_of (line_of core.new) result) }
     ensures handles { handles.new ≡ handles_after handles.old Event.CloneTx (reply_of result) }
@@ -74,7 +78,7 @@ fn clone_tx<T: Drop>(core: &mut Core<T>, handles: &mut Handles) -> StepResult<T>
 }
 
 /// Clones a receiver.
-fn clone_rx<T: Drop>(core: &mut Core<T>, handles: &mut Handles) -> StepResult<T>
+fn clone_rx<T: Drop>(core: &mut JournalCore<T>, handles: &mut Handles) -> JournalStep<T>
     requires { AreFew handles.old }
     ensures told { Tells (line_of core.old) Event.CloneRx (told_of (line_of core.new) result) }
     ensures handles { handles.new ≡ handles_after handles.old Event.CloneRx (reply_of result) }
@@ -88,7 +92,7 @@ fn clone_rx<T: Drop>(core: &mut Core<T>, handles: &mut Handles) -> StepResult<T>
 }
 
 /// Drops a sender.
-fn drop_tx<T: Drop>(core: &mut Core<T>, handles: &mut Handles) -> StepResult<T>
+fn drop_tx<T: Drop>(core: &mut JournalCore<T>, handles: &mut Handles) -> JournalStep<T>
     requires { has_side handles.old Tx ≡ true }
     ensures told { Tells (line_of core.old) Event.DropTx (told_of (line_of core.new) result) }
     ensures handles { handles.new ≡ handles_after handles.old Event.DropTx (reply_of result) }
@@ -102,7 +106,7 @@ fn drop_tx<T: Drop>(core: &mut Core<T>, handles: &mut Handles) -> StepResult<T>
 }
 
 /// Drops a receiver.
-fn drop_rx<T: Drop>(core: &mut Core<T>, handles: &mut Handles) -> StepResult<T>
+fn drop_rx<T: Drop>(core: &mut JournalCore<T>, handles: &mut Handles) -> JournalStep<T>
     requires { has_side handles.old Rx ≡ true }
     ensures told { Tells (line_of core.old) Event.DropRx (told_of (line_of core.new) result) }
     ensures handles { handles.new ≡ handles_after handles.old Event.DropRx (reply_of result) }
@@ -118,12 +122,12 @@ fn drop_rx<T: Drop>(core: &mut Core<T>, handles: &mut Handles) -> StepResult<T>
 /// Makes one event, through a live handle of its side.
 #[tactic(auto, using(crate::proofs::Giving::still_given))]
 fn make<T: Drop>(
-    core: &mut Core<T>,
+    core: &mut JournalCore<T>,
     tickets: &mut Vec<Ticket>,
     handles: &mut Handles,
     drained: &mut Vec<T>,
     event: Event<T>,
-) -> StepResult<T>
+) -> JournalStep<T>
     requires handle { has_handle handles.old event ≡ true }
     requires few { AreFew handles.old }
     requires room { vec_len tickets.old < vec_capacity tickets.old }
@@ -153,12 +157,12 @@ fn make<T: Drop>(
 
 /// Makes one event, if its side has a live handle.
 pub(crate) fn answer<T: Drop>(
-    core: &mut Core<T>,
+    core: &mut JournalCore<T>,
     tickets: &mut Vec<Ticket>,
     handles: &mut Handles,
     drained: &mut Vec<T>,
     event: Event<T>,
-) -> StepResult<T>
+) -> JournalStep<T>
     requires few { AreFew handles.old }
     requires room { vec_len tickets.old < vec_capacity tickets.old }
     requires given { AreGiven tickets.old.items core.old }

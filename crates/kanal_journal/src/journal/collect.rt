@@ -5,7 +5,7 @@ ghost use Rattle.std.specs.Prelude.{◌≡◌, ◌+◌, ◌<◌, ◌≤◌, [], 
 ghost use Rattle.kanal_events.specs.StepResult.{reply_of, settled_of, cleared_of, owed_of};
 ghost use Rattle.kanal_journal.specs.Runs.{numbered};
 
-use super::calls::StepResult;
+use super::calls::JournalStep;
 use super::report::Settlement;
 use kanal_core::internal::{Cleared, Remaining};
 use kanal_events::event::Reply;
@@ -50,7 +50,7 @@ fn settle<T: Drop>(step: usize, owed: Wakeup<T, ()>, into: &mut Vec<Settlement<T
 }
 
 /// Puts the waits that a step settled at the vector's end, where they have room.
-fn settle_all<T: Drop>(step: usize, made: &mut StepResult<T>, into: &mut Vec<Settlement<T>>)
+fn settle_all<T: Drop>(step: usize, made: &mut JournalStep<T>, into: &mut Vec<Settlement<T>>)
     requires { vec_len into.old + length (settled_of made.old) ≤ vec_capacity into.old }
     ensures items { into.new.items ≡ into.old.items ++ numbered step (settled_of made.old) }
     ensures room { vec_capacity into.new ≡ vec_capacity into.old }
@@ -67,7 +67,7 @@ fn settle_all<T: Drop>(step: usize, made: &mut StepResult<T>, into: &mut Vec<Set
 /// its reply.
 pub(crate) fn note<T: Drop>(
     step: usize,
-    made: StepResult<T>,
+    made: JournalStep<T>,
     settlements: &mut Vec<Settlement<T>>,
     clearings: &mut Vec<T>,
 ) -> Reply<T>

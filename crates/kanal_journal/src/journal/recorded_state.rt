@@ -5,8 +5,8 @@
 ghost use Rattle.std.specs.Prelude.{◌≡◌, ◌↔◌, ℕ, IfOk, IsErrOf, Some, length};
 ghost use Rattle.kanal_core.specs.Line.{last_word, messages};
 ghost use Rattle.kanal_journal.specs.Paired.{Paired, until, rest};
-ghost use Rattle.kanal_journal.specs.Replays.{Records, Replays, opened, outcome_of, history_of, events_of};
-ghost use Rattle.kanal_journal.specs.Runs.{Leads, opening};
+ghost use Rattle.kanal_journal.specs.Replays.{Records, Replays, opened_recording, outcome_of, recorded_history, events_of};
+ghost use Rattle.kanal_journal.specs.Runs.{Leads, opening_account};
 ghost use Rattle.kanal_journal.specs.Recorders.{RecorderIsSound};
 
 use super::recorder::{Entry, Journal, Recorder};
@@ -53,7 +53,7 @@ impl<T: Copy> RecordedState<T> {
     /// state.step(0, Event::TrySend(7))   answers  Yes
     /// ```
     pub fn new(alloc: Global, capacity: Option<usize>) -> Result<Self, NewError>
-        ensures opened { IfOk result (λ s. s ≡ opened capacity) }
+        ensures opened { IfOk result (λ s. s ≡ opened_recording capacity) }
         ensures large { IsErrOf result NewError.TooLarge ↔ (capacity ≡ Some last_word) }
     {
         let recorder = Recorder::new(alloc, capacity)?;
@@ -91,10 +91,10 @@ impl<T: Copy> RecordedState<T> {
     /// the messages that went to none.
     pub fn replays(&self)
         ensures replays { Replays self.now.capacity self.now.entries self.now.account }
-        ensures leads { Leads (opening self.now.capacity) (events_of self.now.entries)
+        ensures leads { Leads (opening_account self.now.capacity) (events_of self.now.entries)
             self.now.account }
-        ensures paired { (n : ℕ) → Paired (until n (history_of self.now)) }
-        ensures left { messages self.now.account.line.line ≡ rest (history_of self.now) }
+        ensures paired { (n : ℕ) → Paired (until n (recorded_history self.now)) }
+        ensures left { messages self.now.account.line.line ≡ rest (recorded_history self.now) }
     {
         let _ = &self.recorder;
     }
@@ -164,8 +164,8 @@ impl<T: Copy> RecordedState<T> {
             × (result.drained.items ≡ self.account.drained)
             × (result.cleared.items ≡ self.account.cleared) }
         ensures replays { Replays self.capacity self.entries self.account }
-        ensures leads { Leads (opening self.capacity) (events_of self.entries) self.account }
-        ensures paired { (n : ℕ) → Paired (until n (history_of self)) }
+        ensures leads { Leads (opening_account self.capacity) (events_of self.entries) self.account }
+        ensures paired { (n : ℕ) → Paired (until n (recorded_history self)) }
     {
         let RecordedState { recorder, capacity } = self;
         recorder.into_journal(capacity)

@@ -4,7 +4,7 @@
 //! which each step is given and gives back; `RecordedState` keeps it, and nothing else has a recorder.
 ghost use Rattle.std.specs.Prelude.{◌≡◌, ◌↔◌, ◌+◌, ◌<◌, [], ◌∷◌, ◌++◌, IfOk, IsErrOf, Some, vec_len, vec_capacity};
 ghost use Rattle.kanal_core.specs.Line.{last_word};
-ghost use Rattle.kanal_journal.specs.Replays.{Records, opened, outcome_of};
+ghost use Rattle.kanal_journal.specs.Replays.{Records, opened_recording, outcome_of};
 ghost use Rattle.kanal_journal.specs.Running.{IsSame, HasRoom};
 ghost use Rattle.kanal_journal.specs.Recorders.{RecorderIsSound, recording_of};
 
@@ -65,7 +65,7 @@ pub(crate) struct Recorder<T: Copy> {
 impl<T: Copy> Recorder<T> {
     /// A new channel of this capacity, or without limit, on which no call was made.
     pub(crate) fn new(alloc: Global, capacity: Option<usize>) -> Result<Self, NewError>
-        ensures opened { IfOk result (λ r. recording_of r ≡ opened capacity) }
+        ensures opened { IfOk result (λ r. recording_of r ≡ opened_recording capacity) }
         ensures sound { IfOk result (λ r. RecorderIsSound r) }
         ensures large { IsErrOf result NewError.TooLarge ↔ (capacity ≡ Some last_word) }
     {

@@ -7,7 +7,7 @@ ghost use Rattle.kanal_core.specs.Channel.{opening};
 ghost use Rattle.kanal_core.specs.Line.{last_word};
 ghost use Rattle.kanal_journal.specs.Running.{RunningStep, IsOpened, IsWithinEvents, HasRoom, HasSameRoom, IsSame};
 
-use super::calls::Core;
+use super::calls::JournalCore;
 use super::handles::Handles;
 use super::report::Settlement;
 use super::{calls, collect};
@@ -20,7 +20,7 @@ use std::alloc::{AllocError, Global};
 /// cleared.
 #[derive(Drop)]
 pub(super) struct Running<T> {
-    pub(super) core: Core<T>,
+    pub(super) core: JournalCore<T>,
     tickets: Vec<Ticket>,
     handles: Handles,
     pub(super) settled: Vec<Settlement<T>>,
@@ -29,7 +29,7 @@ pub(super) struct Running<T> {
 }
 
 /// A new core of this capacity, or without limit.
-fn channel<T: Drop>(alloc: Global, capacity: Option<usize>) -> Result<Core<T>, NewError>
+fn channel<T: Drop>(alloc: Global, capacity: Option<usize>) -> Result<JournalCore<T>, NewError>
     ensures new { IfOk result (λ c. c ≡ opening capacity) }
     ensures large { IsErrOf result NewError.TooLarge ↔ (capacity ≡ Some last_word) }
 {

@@ -61,4 +61,4 @@ pub struct PaddedReprC {
 }
 
 /// A message of size 0, with the largest alignment that can be had.
-pub type Nothing = [u128; 0];
+pub type NoBytes = [u128; 0];

@@ -1,73 +1,73 @@
 //! The calls of handles that wait for no other thread.
-use super::{Form, Handles, Take};
-use crate::answer::{Answer, found, received, received_in_time, sent, sent_in_time, tried};
+use super::{HandleKit, ReceiveKind, SendKind};
+use crate::answer::{AnyAnswer, found, received, received_in_time, sent, sent_in_time, tried};
 use crate::given::Message;
 use kanal::TestClock;
 use std::sync::Wait;
 use std::time;
 use std::time::Duration;
 
-impl<R: Wait + time::Clock> Handles<'_, R> {
+impl<R: Wait + time::Clock> HandleKit<'_, R> {
     /// Sends a message with this number.
-    pub fn send(&self, form: Form, number: u64) -> Answer {
+    pub fn send(&self, form: SendKind, number: u64) -> AnyAnswer {
         let Some(message) = self.given.message(number) else {
-            return Answer::Other;
+            return AnyAnswer::Other;
         };
         let (rt, now, clock) = (self.rt, Duration::from_nanos(0), TestClock::still(0));
         match form {
-            Form::Plain => sent(self.tx.send(rt, message)),
-            Form::Try => tried(self.tx.try_send(rt, message)),
-            Form::TryRealtime => tried(self.tx.try_send_realtime(message)),
-            Form::Late => sent_in_time(self.tx.send_timeout(rt, message, now, &clock)),
-            Form::ByView => sent(self.tx.as_async().as_sync().send(rt, message)),
-            Form::LateByView => {
+            SendKind::Plain => sent(self.tx.send(rt, message)),
+            SendKind::Try => tried(self.tx.try_send(rt, message)),
+            SendKind::TryRealtime => tried(self.tx.try_send_realtime(message)),
+            SendKind::Late => sent_in_time(self.tx.send_timeout(rt, message, now, &clock)),
+            SendKind::ByView => sent(self.tx.as_async().as_sync().send(rt, message)),
+            SendKind::LateByView => {
                 let view = self.tx.as_async().as_sync();
                 sent_in_time(view.send_timeout(rt, message, now, &clock))
             },
-            Form::TryByTask => tried(self.tx.as_async().try_send(rt, message)),
+            SendKind::TryByTask => tried(self.tx.as_async().try_send(rt, message)),
             _ => self.send_option(form, message),
         }
     }
 
     /// Sends a message that stays in its option where it isn't sent.
-    fn send_option(&self, form: Form, message: Message) -> Answer {
+    fn send_option(&self, form: SendKind, message: Message) -> AnyAnswer {
         let (rt, now, clock) = (self.rt, Duration::from_nanos(0), TestClock::still(0));
         let mut option = Some(message);
         let answer = match form {
-            Form::TryOption => tried(self.tx.try_send_option(rt, &mut option)),
-            Form::TryOptionRealtime => tried(self.tx.try_send_option_realtime(&mut option)),
-            Form::LateOptionByView => {
+            SendKind::TryOption => tried(self.tx.try_send_option(rt, &mut option)),
+            SendKind::TryOptionRealtime => tried(self.tx.try_send_option_realtime(&mut option)),
+            SendKind::LateOptionByView => {
                 let view = self.tx.as_async().as_sync();
                 sent_in_time(view.send_option_timeout(rt, &mut option, now, &clock))
             },
             _ => sent_in_time(self.tx.send_option_timeout(rt, &mut option, now, &clock)),
         };
-        let is_sent = matches!(answer, Answer::Yes | Answer::Done);
+        let is_sent = matches!(answer, AnyAnswer::Yes | AnyAnswer::Done);
         if is_sent == option.is_some() {
-            return Answer::Other;
+            return AnyAnswer::Other;
         }
         answer
     }
 
     /// Receives a message, and drops it.
-    pub fn receive(&self, take: Take) -> Answer {
+    pub fn receive(&self, take: ReceiveKind) -> AnyAnswer {
         let (rt, now, clock) = (self.rt, Duration::from_nanos(0), TestClock::still(0));
         match take {
-            Take::Plain => received(self.rx.recv(rt)),
-            Take::Try => found(self.rx.try_recv(rt)),
-            Take::TryRealtime => found(self.rx.try_recv_realtime()),
-            Take::Late => received_in_time(self.rx.recv_timeout(rt, now, &clock)),
-            Take::ByView => received(self.rx.as_async().as_sync().recv(rt)),
-            Take::LateByView => {
+            ReceiveKind::Plain => received(self.rx.recv(rt)),
+            ReceiveKind::Try => found(self.rx.try_recv(rt)),
+            ReceiveKind::TryRealtime => found(self.rx.try_recv_realtime()),
+            ReceiveKind::Late => received_in_time(self.rx.recv_timeout(rt, now, &clock)),
+            ReceiveKind::ByView => received(self.rx.as_async().as_sync().recv(rt)),
+            ReceiveKind::LateByView => {
                 let view = self.rx.as_async().as_sync();
                 received_in_time(view.recv_timeout(rt, now, &clock))
             },
-            Take::TryByTask => found(self.rx.as_async().try_recv(rt)),
+            ReceiveKind::TryByTask => found(self.rx.as_async().try_recv(rt)),
         }
     }
 
     /// Drains into the vector, and answers the numbers of all that are in it as digits.
-    pub fn drain(&mut self, by_task: bool) -> Answer {
+    pub fn drain(&mut self, by_task: bool) -> AnyAnswer {
         let answer = if by_task {
             self.rx.as_async().drain_into(self.rt, &mut self.into)
         } else {
@@ -78,7 +78,7 @@ impl<R: Wait + time::Clock> Handles<'_, R> {
             digits = digits.wrapping_mul(10).wrapping_add(message.number);
         }
         match answer {
-            Ok(count) => Answer::Drained(count, digits),
+            Ok(count) => AnyAnswer::Drained(count, digits),
             Err(error) => received(Err(error)),
         }
     }

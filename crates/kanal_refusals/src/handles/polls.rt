@@ -1,6 +1,6 @@
 //! The calls of futures and of the stream.
-use super::{Call, Handles};
-use crate::answer::{Answer, received, sent};
+use super::{HandleCall, HandleKit};
+use crate::answer::{AnyAnswer, received, sent};
 use crate::given::Message;
 use futures::StreamExt;
 use futures::task::Poll;
@@ -9,87 +9,87 @@ use kanal::error::{ReceiveError, SendError};
 use kanal::{ReceiveFuture, ReceiveStream, SendFuture};
 
 /// What a poll of the send answers. One that was refused is over.
-fn poll_send(task: &MockTask, future: &mut Option<SendFuture<'_, Message>>) -> Answer {
+fn poll_send(task: &MockTask, future: &mut Option<SendFuture<'_, Message>>) -> AnyAnswer {
     let Some(future) = future else {
-        return Answer::Other;
+        return AnyAnswer::Other;
     };
     let answer = match task.poll(future) {
         Poll::Ready(answer) => sent(answer),
-        Poll::Pending if task.is_woken() => Answer::Woken,
-        Poll::Pending => Answer::Waits,
+        Poll::Pending if task.is_woken() => AnyAnswer::Woken,
+        Poll::Pending => AnyAnswer::Waits,
     };
-    if answer == Answer::NoMemory && task.poll(future) != Poll::Ready(Err(SendError::Finished)) {
-        return Answer::Other;
+    if answer == AnyAnswer::NoMemory && task.poll(future) != Poll::Ready(Err(SendError::Finished)) {
+        return AnyAnswer::Other;
     }
     answer
 }
 
 /// What a poll of the receive answers. One that was refused is over.
-fn poll_receive(task: &MockTask, future: &mut Option<ReceiveFuture<'_, Message>>) -> Answer {
+fn poll_receive(task: &MockTask, future: &mut Option<ReceiveFuture<'_, Message>>) -> AnyAnswer {
     let Some(future) = future else {
-        return Answer::Other;
+        return AnyAnswer::Other;
     };
     let answer = match task.poll(future) {
         Poll::Ready(answer) => received(answer),
-        Poll::Pending if task.is_woken() => Answer::Woken,
-        Poll::Pending => Answer::Waits,
+        Poll::Pending if task.is_woken() => AnyAnswer::Woken,
+        Poll::Pending => AnyAnswer::Waits,
     };
-    let is_refused = answer == Answer::NoMemory;
+    let is_refused = answer == AnyAnswer::NoMemory;
     if is_refused && !matches!(task.poll(future), Poll::Ready(Err(ReceiveError::Finished))) {
-        return Answer::Other;
+        return AnyAnswer::Other;
     }
     answer
 }
 
 /// What a poll of the stream answers. One that has ended tells why, and one that goes on tells nothing.
-fn poll_stream(task: &MockTask, stream: &mut Option<ReceiveStream<'_, Message>>) -> Answer {
+fn poll_stream(task: &MockTask, stream: &mut Option<ReceiveStream<'_, Message>>) -> AnyAnswer {
     let Some(stream) = stream else {
-        return Answer::Other;
+        return AnyAnswer::Other;
     };
     let answer = match task.poll(&mut stream.next()) {
-        Poll::Ready(Some(message)) => Answer::Got(message.number),
-        Poll::Ready(None) => Answer::Nothing,
-        Poll::Pending if task.is_woken() => Answer::Woken,
-        Poll::Pending => Answer::Waits,
+        Poll::Ready(Some(message)) => AnyAnswer::Got(message.number),
+        Poll::Ready(None) => AnyAnswer::Nothing,
+        Poll::Pending if task.is_woken() => AnyAnswer::Woken,
+        Poll::Pending => AnyAnswer::Waits,
     };
     match stream.fault() {
-        Some(error) if answer == Answer::Nothing => received(Err(*error)),
-        None if answer != Answer::Nothing => answer,
-        _ => Answer::Other,
+        Some(error) if answer == AnyAnswer::Nothing => received(Err(*error)),
+        None if answer != AnyAnswer::Nothing => answer,
+        _ => AnyAnswer::Other,
     }
 }
 
-impl<'a, R> Handles<'a, R> {
+impl<'a, R> HandleKit<'a, R> {
     /// Makes a call of a future or of the stream.
-    pub fn poll(&mut self, call: Call) -> Answer {
+    pub fn poll(&mut self, call: HandleCall) -> AnyAnswer {
         let (first, second) = (&self.tasks.0, &self.tasks.1);
         match call {
-            Call::BeginSend(number) => {
+            HandleCall::BeginSend(number) => {
                 self.sending = self.new_send(number);
                 poll_send(first, &mut self.sending)
             },
-            Call::FirstPollsSend => poll_send(first, &mut self.sending),
-            Call::SecondPollsSend => poll_send(second, &mut self.sending),
-            Call::SendBeside(number) => poll_send(second, &mut self.new_send(number)),
-            Call::LeaveSend => {
+            HandleCall::FirstPollsSend => poll_send(first, &mut self.sending),
+            HandleCall::SecondPollsSend => poll_send(second, &mut self.sending),
+            HandleCall::SendBeside(number) => poll_send(second, &mut self.new_send(number)),
+            HandleCall::LeaveSend => {
                 self.sending = None;
-                Answer::Done
+                AnyAnswer::Done
             },
-            Call::BeginReceive => {
+            HandleCall::BeginReceive => {
                 self.receiving = Some(self.rx.as_async().recv());
                 poll_receive(first, &mut self.receiving)
             },
-            Call::FirstPollsReceive => poll_receive(first, &mut self.receiving),
-            Call::SecondPollsReceive => poll_receive(second, &mut self.receiving),
-            Call::ReceiveBeside => poll_receive(second, &mut Some(self.rx.as_async().recv())),
-            Call::BeginStream => {
+            HandleCall::FirstPollsReceive => poll_receive(first, &mut self.receiving),
+            HandleCall::SecondPollsReceive => poll_receive(second, &mut self.receiving),
+            HandleCall::ReceiveBeside => poll_receive(second, &mut Some(self.rx.as_async().recv())),
+            HandleCall::BeginStream => {
                 self.stream = Some(self.rx.as_async().stream());
                 poll_stream(first, &mut self.stream)
             },
-            Call::FirstPollsStream => poll_stream(first, &mut self.stream),
-            Call::StreamBeside => poll_stream(second, &mut Some(self.rx.as_async().stream())),
-            Call::SecondIsWoken => Answer::Flag(second.is_woken()),
-            _ => Answer::Other,
+            HandleCall::FirstPollsStream => poll_stream(first, &mut self.stream),
+            HandleCall::StreamBeside => poll_stream(second, &mut Some(self.rx.as_async().stream())),
+            HandleCall::SecondIsWoken => AnyAnswer::Flag(second.is_woken()),
+            _ => AnyAnswer::Other,
         }
     }
 

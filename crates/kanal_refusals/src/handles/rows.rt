@@ -1,70 +1,70 @@
 //! The rows of the handles.
-use super::Call::{
+use super::HandleCall::{
     self, Alive, BeginReceive, BeginSend, BeginStream, CloseByReceiver, CloseBySender, Convert,
     Drain, FirstPollsReceive, FirstPollsSend, FirstPollsStream, LeaveSend, Len, Questions, Receive,
     ReceiveAsleep, ReceiveBeside, Room, SealByReceiver, SealBySender, SecondIsWoken,
     SecondPollsReceive, SecondPollsSend, Send, SendAsleep, SendBeside, StreamBeside,
 };
-use super::Made::{self, Bounded, BoundedAsync, Unbounded, UnboundedAsync};
-use super::{Form, Take, Way};
-use crate::answer::Answer::{
+use super::MadeBy::{self, Bounded, BoundedAsync, Unbounded, UnboundedAsync};
+use super::{ReceiveKind, SendKind, ServedBy};
+use crate::answer::AnyAnswer::{
     self, Done, Drained, Ended, Flag, Got, No, Nothing, Number, Sealed, SendClosed, Timeout, Waits,
     Yes,
 };
 use crate::driver::Row;
 
 /// A drain by each receiver.
-const BY_THREAD: Call = Drain { by_task: false };
+const BY_THREAD: HandleCall = Drain { by_task: false };
 
-const BY_TASK: Call = Drain { by_task: true };
+const BY_TASK: HandleCall = Drain { by_task: true };
 
 /// Ten messages are in the buffer, and none was dropped but by a refusal.
-const TEN_ARE_IN: &[(Call, Answer)] = &[(Len, Number(10)), (Alive, Number(10))];
+const TEN_ARE_IN: &[(HandleCall, AnyAnswer)] = &[(Len, Number(10)), (Alive, Number(10))];
 
 /// Each row, on a channel that is made so.
-pub const ROWS: &[Row<Made, Call, Answer>] = &[
+pub const ROWS: &[Row<MadeBy, HandleCall, AnyAnswer>] = &[
     // A buffer without limit grows by each form of a send.
     Row {
         made: Unbounded,
-        ready: &[(Send(Form::Plain, 1), Done); 10],
+        ready: &[(Send(SendKind::Plain, 1), Done); 10],
         calls: TEN_ARE_IN,
     },
     Row {
         made: Unbounded,
-        ready: &[(Send(Form::Try, 1), Yes); 10],
+        ready: &[(Send(SendKind::Try, 1), Yes); 10],
         calls: TEN_ARE_IN,
     },
     Row {
         made: Unbounded,
-        ready: &[(Send(Form::TryRealtime, 1), Yes); 10],
+        ready: &[(Send(SendKind::TryRealtime, 1), Yes); 10],
         calls: TEN_ARE_IN,
     },
     Row {
         made: Unbounded,
-        ready: &[(Send(Form::Late, 1), Done); 10],
+        ready: &[(Send(SendKind::Late, 1), Done); 10],
         calls: TEN_ARE_IN,
     },
     Row {
         made: Unbounded,
-        ready: &[(Send(Form::TryOption, 1), Yes); 10],
+        ready: &[(Send(SendKind::TryOption, 1), Yes); 10],
         calls: TEN_ARE_IN,
     },
     Row {
         made: Unbounded,
-        ready: &[(Send(Form::TryOptionRealtime, 1), Yes); 10],
+        ready: &[(Send(SendKind::TryOptionRealtime, 1), Yes); 10],
         calls: TEN_ARE_IN,
     },
     Row {
         made: Unbounded,
-        ready: &[(Send(Form::LateOption, 1), Done); 10],
+        ready: &[(Send(SendKind::LateOption, 1), Done); 10],
         calls: TEN_ARE_IN,
     },
     // Drains ask for the room of all messages before they move one.
     Row {
         made: Bounded(2),
         ready: &[
-            (Send(Form::Plain, 1), Done),
-            (Send(Form::Plain, 2), Done),
+            (Send(SendKind::Plain, 1), Done),
+            (Send(SendKind::Plain, 2), Done),
             (BY_THREAD, Drained(2, 12)),
         ],
         calls: &[],
@@ -72,8 +72,8 @@ pub const ROWS: &[Row<Made, Call, Answer>] = &[
     Row {
         made: BoundedAsync(2),
         ready: &[
-            (Send(Form::TryByTask, 1), Yes),
-            (Send(Form::TryByTask, 2), Yes),
+            (Send(SendKind::TryByTask, 1), Yes),
+            (Send(SendKind::TryByTask, 2), Yes),
             (BY_TASK, Drained(2, 12)),
         ],
         calls: &[],
@@ -86,7 +86,7 @@ pub const ROWS: &[Row<Made, Call, Answer>] = &[
     // A drain into a vector with room.
     Row {
         made: Bounded(2),
-        ready: &[(Send(Form::Plain, 1), Done), (Room(1), Done)],
+        ready: &[(Send(SendKind::Plain, 1), Done), (Room(1), Done)],
         calls: &[(BY_THREAD, Drained(1, 1))],
     },
     // Sends and receives that never wait; messages that find no place stay in their options.
@@ -94,15 +94,15 @@ pub const ROWS: &[Row<Made, Call, Answer>] = &[
         made: Bounded(2),
         ready: &[],
         calls: &[
-            (Send(Form::Plain, 1), Done),
-            (Send(Form::TryRealtime, 2), Yes),
-            (Send(Form::Try, 3), No),
-            (Send(Form::TryOption, 3), No),
-            (Send(Form::TryOptionRealtime, 4), No),
+            (Send(SendKind::Plain, 1), Done),
+            (Send(SendKind::TryRealtime, 2), Yes),
+            (Send(SendKind::Try, 3), No),
+            (Send(SendKind::TryOption, 3), No),
+            (Send(SendKind::TryOptionRealtime, 4), No),
             (Alive, Number(2)),
-            (Receive(Take::Plain), Got(1)),
-            (Receive(Take::Try), Got(2)),
-            (Receive(Take::TryRealtime), Nothing),
+            (Receive(ReceiveKind::Plain), Got(1)),
+            (Receive(ReceiveKind::Try), Got(2)),
+            (Receive(ReceiveKind::TryRealtime), Nothing),
         ],
     },
     // Clones, conversions and drops.
@@ -117,12 +117,12 @@ pub const ROWS: &[Row<Made, Call, Answer>] = &[
         ready: &[],
         calls: &[
             (Questions, Flag(true)),
-            (Send(Form::Plain, 1), Done),
+            (Send(SendKind::Plain, 1), Done),
             (SealByReceiver, Done),
             (SealBySender, Ended),
-            (Send(Form::Try, 2), Sealed),
-            (Receive(Take::Try), Got(1)),
-            (Receive(Take::Try), SendClosed),
+            (Send(SendKind::Try, 2), Sealed),
+            (Receive(ReceiveKind::Try), Got(1)),
+            (Receive(ReceiveKind::Try), SendClosed),
             (CloseByReceiver, Done),
             (CloseBySender, Ended),
         ],
@@ -133,36 +133,36 @@ pub const ROWS: &[Row<Made, Call, Answer>] = &[
         ready: &[],
         calls: &[
             (SealBySender, Done),
-            (Send(Form::Try, 1), Sealed),
-            (Receive(Take::Try), SendClosed),
+            (Send(SendKind::Try, 1), Sealed),
+            (Receive(ReceiveKind::Try), SendClosed),
         ],
     },
     // Waits whose deadline is now: all of a wait is made, and withdrawn.
     Row {
         made: Bounded(1),
         ready: &[
-            (Send(Form::Plain, 1), Done),
-            (Send(Form::LateOption, 7), Timeout),
-            (Receive(Take::Try), Got(1)),
-            (Receive(Take::Try), Nothing),
+            (Send(SendKind::Plain, 1), Done),
+            (Send(SendKind::LateOption, 7), Timeout),
+            (Receive(ReceiveKind::Try), Got(1)),
+            (Receive(ReceiveKind::Try), Nothing),
         ],
         calls: &[],
     },
     Row {
         made: Bounded(0),
         ready: &[
-            (Send(Form::Late, 7), Timeout),
+            (Send(SendKind::Late, 7), Timeout),
             (Alive, Number(0)),
-            (Receive(Take::Try), Nothing),
+            (Receive(ReceiveKind::Try), Nothing),
         ],
         calls: &[],
     },
     Row {
         made: Bounded(1),
         ready: &[
-            (Receive(Take::Late), Timeout),
-            (Send(Form::Plain, 5), Done),
-            (Receive(Take::Late), Got(5)),
+            (Receive(ReceiveKind::Late), Timeout),
+            (Send(SendKind::Plain, 5), Done),
+            (Receive(ReceiveKind::Late), Got(5)),
         ],
         calls: &[],
     },
@@ -182,11 +182,11 @@ pub const ROWS: &[Row<Made, Call, Answer>] = &[
         made: BoundedAsync(0),
         ready: &[
             (BeginSend(3), Waits),
-            (Send(Form::LateByView, 4), Timeout),
+            (Send(SendKind::LateByView, 4), Timeout),
             (SendBeside(5), Waits),
             (BY_TASK, Drained(1, 3)),
             (FirstPollsSend, Done),
-            (Receive(Take::TryByTask), Nothing),
+            (Receive(ReceiveKind::TryByTask), Nothing),
         ],
         calls: &[],
     },
@@ -194,10 +194,10 @@ pub const ROWS: &[Row<Made, Call, Answer>] = &[
         made: BoundedAsync(0),
         ready: &[
             (BeginSend(3), Waits),
-            (Send(Form::LateOptionByView, 4), Timeout),
-            (Receive(Take::TryByTask), Got(3)),
+            (Send(SendKind::LateOptionByView, 4), Timeout),
+            (Receive(ReceiveKind::TryByTask), Got(3)),
             (FirstPollsSend, Done),
-            (Receive(Take::TryByTask), Nothing),
+            (Receive(ReceiveKind::TryByTask), Nothing),
         ],
         calls: &[],
     },
@@ -206,12 +206,12 @@ pub const ROWS: &[Row<Made, Call, Answer>] = &[
         made: BoundedAsync(0),
         ready: &[
             (BeginReceive, Waits),
-            (Receive(Take::LateByView), Timeout),
+            (Receive(ReceiveKind::LateByView), Timeout),
             (ReceiveBeside, Waits),
             (StreamBeside, Waits),
-            (Send(Form::TryByTask, 7), Yes),
+            (Send(SendKind::TryByTask, 7), Yes),
             (FirstPollsReceive, Got(7)),
-            (Send(Form::TryByTask, 8), No),
+            (Send(SendKind::TryByTask, 8), No),
         ],
         calls: &[],
     },
@@ -225,14 +225,17 @@ pub const ROWS: &[Row<Made, Call, Answer>] = &[
     Row {
         made: BoundedAsync(0),
         ready: &[(BeginSend(3), Waits)],
-        calls: &[(Receive(Take::TryByTask), Got(3)), (FirstPollsSend, Done)],
+        calls: &[
+            (Receive(ReceiveKind::TryByTask), Got(3)),
+            (FirstPollsSend, Done),
+        ],
     },
     Row {
         made: BoundedAsync(0),
         ready: &[(BeginSend(3), Waits)],
         calls: &[
             (LeaveSend, Done),
-            (Receive(Take::TryByTask), Nothing),
+            (Receive(ReceiveKind::TryByTask), Nothing),
             (Alive, Number(0)),
         ],
     },
@@ -242,15 +245,18 @@ pub const ROWS: &[Row<Made, Call, Answer>] = &[
         ready: &[(BeginReceive, Waits)],
         calls: &[
             (FirstPollsReceive, Waits),
-            (Send(Form::TryByTask, 3), Yes),
+            (Send(SendKind::TryByTask, 3), Yes),
             (FirstPollsReceive, Got(3)),
-            (Send(Form::TryByTask, 1), No),
+            (Send(SendKind::TryByTask, 1), No),
         ],
     },
     Row {
         made: BoundedAsync(0),
         ready: &[(BeginStream, Waits)],
-        calls: &[(Send(Form::TryByTask, 3), Yes), (FirstPollsStream, Got(3))],
+        calls: &[
+            (Send(SendKind::TryByTask, 3), Yes),
+            (FirstPollsStream, Got(3)),
+        ],
     },
     // Polls by another task, which is then the one that is woken.
     Row {
@@ -258,7 +264,7 @@ pub const ROWS: &[Row<Made, Call, Answer>] = &[
         ready: &[
             (BeginSend(3), Waits),
             (SecondPollsSend, Waits),
-            (Receive(Take::TryByTask), Got(3)),
+            (Receive(ReceiveKind::TryByTask), Got(3)),
             (SecondIsWoken, Flag(true)),
             (SecondPollsSend, Done),
         ],
@@ -269,7 +275,7 @@ pub const ROWS: &[Row<Made, Call, Answer>] = &[
         ready: &[
             (BeginReceive, Waits),
             (SecondPollsReceive, Waits),
-            (Send(Form::TryByTask, 3), Yes),
+            (Send(SendKind::TryByTask, 3), Yes),
             (SecondIsWoken, Flag(true)),
             (SecondPollsReceive, Got(3)),
         ],
@@ -279,15 +285,18 @@ pub const ROWS: &[Row<Made, Call, Answer>] = &[
 
 /// Calls that block beside a task that waits, until a thread serves both in these ways. It begins behind the first
 /// calls of a row.
-pub const SERVED: &[Row<(Way, Way), Call, Answer>] = &[
+pub const SERVED: &[Row<(ServedBy, ServedBy), HandleCall, AnyAnswer>] = &[
     Row {
-        made: (Way::Take, Way::Take),
+        made: (ServedBy::Take, ServedBy::Take),
         ready: &[(BeginSend(3), Waits)],
-        calls: &[(Send(Form::ByView, 4), Done), (FirstPollsSend, Done)],
+        calls: &[(Send(SendKind::ByView, 4), Done), (FirstPollsSend, Done)],
     },
     Row {
-        made: (Way::Give(7), Way::Give(8)),
+        made: (ServedBy::Give(7), ServedBy::Give(8)),
         ready: &[(BeginReceive, Waits)],
-        calls: &[(Receive(Take::ByView), Got(8)), (FirstPollsReceive, Got(7))],
+        calls: &[
+            (Receive(ReceiveKind::ByView), Got(8)),
+            (FirstPollsReceive, Got(7)),
+        ],
     },
 ];

@@ -1,8 +1,8 @@
 //! Calls that wait until another serves them: a clock, at one of the readings of a timed call that sleeps,
 //! or a thread. All that a wait needs is asked for before it, so from then on they are answered as with
 //! ample memory.
-use super::{Handles, Way};
-use crate::answer::{Answer, received_in_time, sent_in_time};
+use super::{HandleKit, ServedBy};
+use crate::answer::{AnyAnswer, received_in_time, sent_in_time};
 use crate::given::Message;
 use kanal::{Clock, Receiver, Sender};
 use std::alloc::AllocError;
@@ -30,7 +30,7 @@ const YIELDS: u32 = 1_000;
 /// A clock that stands still, and at one reading serves the call that reads it.
 #[derive(Drop)]
 struct Serving<'a> {
-    way: Way,
+    way: ServedBy,
     tx: &'a Sender<Message>,
     rx: &'a Receiver<Message>,
     readings: Cell<u64>,
@@ -45,11 +45,11 @@ impl Clock for Serving<'_> {
             return 0;
         }
         match self.way {
-            Way::Give(number) => {
+            ServedBy::Give(number) => {
                 let counted = None;
                 let _is_given = self.tx.try_send_realtime(Message { number, counted });
             },
-            Way::Take => {
+            ServedBy::Take => {
                 if let Ok(Some(message)) = self.rx.try_recv_realtime() {
                     self.taken.set(Some(message.number));
                 }
@@ -61,7 +61,7 @@ impl Clock for Serving<'_> {
 
 impl<'a> Serving<'a> {
     /// One that wasn't read.
-    fn new(way: Way, tx: &'a Sender<Message>, rx: &'a Receiver<Message>) -> Self {
+    fn new(way: ServedBy, tx: &'a Sender<Message>, rx: &'a Receiver<Message>) -> Self {
         Serving {
             way,
             tx,
@@ -72,25 +72,25 @@ impl<'a> Serving<'a> {
     }
 
     /// This answer, if the call was served and ended soon after that.
-    fn if_soon(&self, answer: Answer) -> Answer {
+    fn if_soon(&self, answer: AnyAnswer) -> AnyAnswer {
         let count = self.readings.get();
         if SERVED_AT <= count && count <= MOST {
             answer
         } else {
-            Answer::Other
+            AnyAnswer::Other
         }
     }
 }
 
 /// Tries to serve a call, and answers whether it did.
-fn serves<R: Wait>(rt: &R, way: Way, tx: &Sender<Message>, rx: &Receiver<Message>) -> bool {
+fn serves<R: Wait>(rt: &R, way: ServedBy, tx: &Sender<Message>, rx: &Receiver<Message>) -> bool {
     for _ in 0..TRIES {
         let is_served = match way {
-            Way::Give(number) => {
+            ServedBy::Give(number) => {
                 let counted = None;
                 tx.try_send(rt, Message { number, counted }) == Ok(true)
             },
-            Way::Take => matches!(rx.try_recv(rt), Ok(Some(_message))),
+            ServedBy::Take => matches!(rx.try_recv(rt), Ok(Some(_message))),
         };
         if is_served {
             return true;
@@ -103,7 +103,7 @@ fn serves<R: Wait>(rt: &R, way: Way, tx: &Sender<Message>, rx: &Receiver<Message
 /// Starts a thread that serves two calls.
 fn start_helper<R: Threads + Wait + Copy + Send + 'static>(
     rt: R,
-    ways: (Way, Way),
+    ways: (ServedBy, ServedBy),
     tx: Sender<Message>,
     rx: Receiver<Message>,
 ) -> Result<JoinHandle<bool>, AllocError> {
@@ -119,7 +119,7 @@ fn start_helper<R: Threads + Wait + Copy + Send + 'static>(
 /// A thread that serves two calls by clones of these ends, started again where it was refused.
 pub fn helper<R: Threads + Wait + Copy + Send + 'static>(
     rt: R,
-    ways: (Way, Way),
+    ways: (ServedBy, ServedBy),
     tx: &Sender<Message>,
     rx: &Receiver<Message>,
 ) -> Option<JoinHandle<bool>> {
@@ -133,31 +133,31 @@ pub fn helper<R: Threads + Wait + Copy + Send + 'static>(
     }
 }
 
-impl<R: Wait + time::Clock> Handles<'_, R> {
+impl<R: Wait + time::Clock> HandleKit<'_, R> {
     /// A receive that is given its message while it sleeps.
-    pub fn receive_asleep(&self, number: u64) -> Answer {
-        let clock = Serving::new(Way::Give(number), self.tx, self.rx);
+    pub fn receive_asleep(&self, number: u64) -> AnyAnswer {
+        let clock = Serving::new(ServedBy::Give(number), self.tx, self.rx);
         let answer = self
             .rx
             .recv_timeout(self.rt, Duration::from_secs(HOUR), &clock);
         match received_in_time(answer) {
-            Answer::Got(got) => clock.if_soon(Answer::Got(got)),
+            AnyAnswer::Got(got) => clock.if_soon(AnyAnswer::Got(got)),
             refused => refused,
         }
     }
 
     /// A send whose message is taken while it sleeps.
-    pub fn send_asleep(&self, number: u64) -> Answer {
+    pub fn send_asleep(&self, number: u64) -> AnyAnswer {
         let Some(message) = self.given.message(number) else {
-            return Answer::Other;
+            return AnyAnswer::Other;
         };
-        let clock = Serving::new(Way::Take, self.tx, self.rx);
+        let clock = Serving::new(ServedBy::Take, self.tx, self.rx);
         let answer = self
             .tx
             .send_timeout(self.rt, message, Duration::from_secs(HOUR), &clock);
         match (sent_in_time(answer), clock.taken.get()) {
-            (Answer::Done, Some(taken)) => clock.if_soon(Answer::Got(taken)),
-            (Answer::Done, None) => Answer::Other,
+            (AnyAnswer::Done, Some(taken)) => clock.if_soon(AnyAnswer::Got(taken)),
+            (AnyAnswer::Done, None) => AnyAnswer::Other,
             (refused, _) => refused,
         }
     }

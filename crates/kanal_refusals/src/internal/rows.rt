@@ -1,15 +1,15 @@
 //! The rows of the core.
-use super::Call::{
+use super::CoreCall::{
     self, AddReceiver, AddSender, Close, Drain, DropReceiver, DropSender, Offer, Questions, Room,
     Seal, Take, WaitRecv, WaitSend, Withdraw,
 };
-use crate::answer::Answer::{
+use crate::answer::AnyAnswer::{
     self, Done, Drained, Ended, Flag, Got, Handed, No, Nothing, Sealed, SendClosed, Waits,
 };
 use crate::driver::Row;
 
 /// Each row, made with this capacity.
-pub const ROWS: &[Row<Option<usize>, Call, Answer>] = &[
+pub const ROWS: &[Row<Option<usize>, CoreCall, AnyAnswer>] = &[
     // A message goes to a receive that waits, one enters, and one waits with its sender; a drain takes both.
     Row {
         made: Some(1),

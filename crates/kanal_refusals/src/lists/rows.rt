@@ -9,7 +9,7 @@ use kanal_journal::journal::{Ask as Asked, Side};
 /// A list of events on a channel of its own, and the reports that it may have: the replies; each settlement by
 /// its step, its ticket and the outcome; the messages that were drained, those that were cleared, and those that
 /// are left. None, where the channel is too large.
-pub struct Row {
+pub struct ReportRow {
     /// The channel's capacity.
     pub capacity: Option<usize>,
     /// The events.
@@ -19,9 +19,9 @@ pub struct Row {
 }
 
 /// Each list.
-pub const ROWS: &[Row] = &[
+pub const ROWS: &[ReportRow] = &[
     // A send that waits has its place by a receive.
-    Row {
+    ReportRow {
         capacity: Some(1),
         events: &[Send(1), Send(2), TryRecv, Ask(Side::Rx, Asked::Len)],
         told: &[
@@ -30,7 +30,7 @@ pub const ROWS: &[Row] = &[
         ],
     },
     // Sends that wait, of which one is withdrawn and one is taken.
-    Row {
+    ReportRow {
         capacity: Some(0),
         events: &[Send(1), Send(2), Withdraw(0), TryRecv, TryRecv],
         told: &[
@@ -40,7 +40,7 @@ pub const ROWS: &[Row] = &[
         ],
     },
     // A drain of the buffer and of a send that waits.
-    Row {
+    ReportRow {
         capacity: Some(2),
         events: &[
             Send(1),
@@ -59,7 +59,7 @@ pub const ROWS: &[Row] = &[
         ],
     },
     // Receives that wait, of which one is given a message and one is withdrawn.
-    Row {
+    ReportRow {
         capacity: Some(0),
         events: &[Recv, Recv, TrySend(7), Withdraw(0), Withdraw(1), TrySend(8)],
         told: &[
@@ -69,7 +69,7 @@ pub const ROWS: &[Row] = &[
         ],
     },
     // What is told after the last sender.
-    Row {
+    ReportRow {
         capacity: Some(1),
         events: &[Send(1), DropTx, Recv, Recv, Drain, RecvLate, Terminated],
         told: &[
@@ -77,14 +77,14 @@ pub const ROWS: &[Row] = &[
         ],
     },
     // What is told after a close.
-    Row {
+    ReportRow {
         capacity: Some(1),
         events: &[TrySend(1), Close, Close, Recv, Drain],
         told: &[
             "[Yes, Cleared(1), Refused(CloseError, None), Refused(Closed, None), Refused(Closed, None)] [] [1] []",
         ],
     },
-    Row {
+    ReportRow {
         capacity: Some(1),
         events: &[
             TrySend(1),
@@ -96,7 +96,7 @@ pub const ROWS: &[Row] = &[
         told: &["[Yes, Cleared(1), Refused(Closed, Some(2)), Done, Number(0)] [] [1] []"],
     },
     // The last sender ends a receive that waits, and a send that waits.
-    Row {
+    ReportRow {
         capacity: Some(1),
         events: &[Recv, DropTx],
         told: &[
@@ -104,7 +104,7 @@ pub const ROWS: &[Row] = &[
             "[Refused(NoMemory, None), Done] [] [] []",
         ],
     },
-    Row {
+    ReportRow {
         capacity: Some(0),
         events: &[Send(1), DropTx, TryRecv],
         told: &[
@@ -113,7 +113,7 @@ pub const ROWS: &[Row] = &[
         ],
     },
     // The last receiver ends a send that waits.
-    Row {
+    ReportRow {
         capacity: Some(0),
         events: &[Send(1), DropRx, Send(2), Recv],
         told: &[
@@ -122,12 +122,12 @@ pub const ROWS: &[Row] = &[
         ],
     },
     // Questions of a channel without places, and of one without limit.
-    Row {
+    ReportRow {
         capacity: Some(0),
         events: &[Ask(Side::Rx, Asked::IsFull), Ask(Side::Rx, Asked::IsEmpty)],
         told: &["[Flag(true), Flag(true)] [] [] []"],
     },
-    Row {
+    ReportRow {
         capacity: None,
         events: &[
             Ask(Side::Tx, Asked::IsFull),
@@ -137,18 +137,18 @@ pub const ROWS: &[Row] = &[
         told: &["[Flag(false), Flag(false), Number(18446744073709551615)] [] [] []"],
     },
     // A channel that is too large, and an empty list.
-    Row {
+    ReportRow {
         capacity: Some(usize::MAX),
         events: &[],
         told: &[],
     },
-    Row {
+    ReportRow {
         capacity: Some(3),
         events: &[],
         told: &["[] [] [] []"],
     },
     // The buffer after the last receiver and after a close.
-    Row {
+    ReportRow {
         capacity: Some(1),
         events: &[
             TrySend(1),
@@ -160,7 +160,7 @@ pub const ROWS: &[Row] = &[
         told: &["[Yes, Done, Number(1), Cleared(1), Number(0)] [] [1] []"],
     },
     // A buffer without limit.
-    Row {
+    ReportRow {
         capacity: None,
         events: &[
             Send(1),

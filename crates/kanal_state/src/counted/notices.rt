@@ -5,7 +5,7 @@
 ghost use Rattle.std.specs.Prelude.{◌≡◌, ◌+◌, false, true, IfNone, IfSome};
 ghost use Rattle.kanal_state.specs.Counts.{are_sought, gone_handles, has_channel, is_due};
 
-use super::{Counted, CountedWait, Stands, stands};
+use super::{CountedHandle, CountedWait, Stands, stands};
 use crate::side::OfSide;
 use kanal_events::event::Side;
 use std::marker::PhantomData;
@@ -31,7 +31,7 @@ impl<S> Drop for GoneHandles<S> {
 
 impl<S> GoneHandles<S> {
     /// The next of them, if there is one.
-    pub(crate) fn next(&mut self) -> Option<Counted<S>>
+    pub(crate) fn next(&mut self) -> Option<CountedHandle<S>>
         ensures none { IfNone result (gone_handles self.new ≡ 0) }
         ensures fewer { IfSome result (λ _. gone_handles self.new + 1 ≡ gone_handles self.old) }
     {
@@ -39,7 +39,7 @@ impl<S> GoneHandles<S> {
             return None;
         }
         self.count -= 1;
-        Some(Counted::new())
+        Some(CountedHandle::new())
     }
 
     /// How many there are.
@@ -129,7 +129,7 @@ fn emptied(counter: &AtomicU64) -> u64 {
 
 impl Notices {
     /// None, for a new channel.
-    /// Example: `Notices::new().is_quiet()` answers `true`.
+    /// Example: `Notices::new().is_empty()` answers `true`.
     pub fn new() -> Self {
         Notices {
             some: AtomicU64::new(0),
@@ -157,9 +157,9 @@ impl Notices {
     }
 
     /// Whether there are none.
-    /// Example: `notices.is_quiet()` answers `false` after a handle was added.
+    /// Example: `notices.is_empty()` answers `false` after a handle was added.
     #[inline]
-    pub fn is_quiet(&self) -> bool {
+    pub fn is_empty(&self) -> bool {
         self.some.load(SeqCst) == 0
     }
 
@@ -182,12 +182,12 @@ impl Notices {
     #[inline]
     pub fn has_some(&self, due: MustDrain) -> bool {
         due.end();
-        !self.is_quiet()
+        !self.is_empty()
     }
 
     /// Counts a handle out into the notices of its side.
     /// Example: `let due = notices.add_handle(counted)`.
-    pub fn add_handle<S: OfSide>(&self, counted: Counted<S>) -> MustDrain {
+    pub fn add_handle<S: OfSide>(&self, counted: CountedHandle<S>) -> MustDrain {
         counted.notice();
         self.counter(S::side()).fetch_add(1, SeqCst);
         self.some.fetch_add(1, SeqCst);

@@ -10,7 +10,7 @@ ghost use Rattle.kanal_state.specs.Counts.{one_less, one_more, whether_counted};
 use super::State;
 use crate::History;
 use crate::answers::counted_by;
-use crate::counted::Counted;
+use crate::counted::CountedHandle;
 use crate::side::OfSide;
 use kanal_core::error::TooMany;
 use kanal_events::event::{Event, Side};
@@ -57,13 +57,13 @@ impl<T: Drop, H: History<T>> State<T, H> {
         &mut self,
         log: &H::Log,
         pass: &mut H::Pass,
-    ) -> Result<Counted<S>, TooMany>
+    ) -> Result<CountedHandle<S>, TooMany>
         ensures counted { IsReplied H.relations pass.old pass.new (one_more S.side) counted_by
             (whether_counted result) }
         ensures rest { OnlyLineMoves self.old self.new }
     {
         let before = Snapshot::of(pass);
         self.count_in(log, pass, S::side())?;
-        Ok(Counted::count_in::<T, H>(&before, pass))
+        Ok(CountedHandle::count_in::<T, H>(&before, pass))
     }
 }

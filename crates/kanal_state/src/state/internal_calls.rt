@@ -17,9 +17,9 @@ ghost use Rattle.kanal_state.specs.WaiterHandles.{HaveLeft};
 
 use super::State;
 use super::handle_count::one_less;
-use super::recording::{Asked, OfCall, OfWithdrawal};
+use super::recording::{Asked, CallEntry, WithdrawalEntry};
 use crate::History;
-use crate::counted::{Counted, CountedWait, GoneHandles, GoneWaits};
+use crate::counted::{CountedHandle, CountedWait, GoneHandles, GoneWaits};
 use crate::released::{Deferred, Released};
 use crate::side::OfSide;
 use crate::waiter_handle::{Core, LeftWaits, ReservedNode, WaiterHandle};
@@ -94,7 +94,7 @@ impl<T: Drop, H: History<T>> State<T, H> {
         let asked = Snapshot::of(&event);
         let made = steps::make(&mut self.core, event);
         let history = &mut self.history;
-        history.append_internal::<Asked<T>, StepResult<T, WaiterHandle<T, H>>, OfCall>(
+        history.append_internal::<Asked<T>, StepResult<T, WaiterHandle<T, H>>, CallEntry>(
             log,
             &mut self.internal_pass,
             &asked,
@@ -122,7 +122,7 @@ impl<T: Drop, H: History<T>> State<T, H> {
     {
         let waiter = steps::withdraw(&mut self.core, ticket)?;
         let history = &mut self.history;
-        history.append_internal::<Ticket, Waiter<T, WaiterHandle<T, H>>, OfWithdrawal>(
+        history.append_internal::<Ticket, Waiter<T, WaiterHandle<T, H>>, WithdrawalEntry>(
             log,
             &mut self.internal_pass,
             &ticket,
@@ -157,7 +157,7 @@ impl<T: Drop, H: History<T>> State<T, H> {
     fn handle_out<S: OfSide>(
         &mut self,
         log: &H::Log,
-        counted: Counted<S>,
+        counted: CountedHandle<S>,
     ) -> (StepResult<T, WaiterHandle<T, H>>, H::Prefix)
         ensures told { Tells self.old.1 (one_less S.side) (told_of self.new.1 result.0) }
         ensures leave { Leave self.old.2 (gone_of result.0) self.new.2 }
@@ -171,7 +171,11 @@ impl<T: Drop, H: History<T>> State<T, H> {
 
     /// Makes the drop of this handle; what that ended, with what was seen of it.
     /// Example: `let gone = locked.state.drop_handle(log, counted)`.
-    pub fn drop_handle<S: OfSide>(&mut self, log: &H::Log, counted: Counted<S>) -> DropResult<T, H>
+    pub fn drop_handle<S: OfSide>(
+        &mut self,
+        log: &H::Log,
+        counted: CountedHandle<S>,
+    ) -> DropResult<T, H>
         ensures told { Tells self.old.1 (one_less S.side) (told_of self.new.1 result) }
         ensures leave { Leave self.old.2 (gone_of result) self.new.2 }
     {

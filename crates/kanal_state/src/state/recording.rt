@@ -19,18 +19,18 @@ use std::snapshot::Snapshot;
 pub(super) type Asked<T> = Snapshot<Event<T>>;
 
 /// The entry of a call: what was asked, and what the step told.
-pub(super) struct OfCall;
+pub(super) struct CallEntry;
 
-impl<T, W> EntryOf<Asked<T>, StepResult<T, W>, Call<T>> for OfCall {
+impl<T, W> EntryOf<Asked<T>, StepResult<T, W>, Call<T>> for CallEntry {
     ghost use Rattle.kanal_state.specs.Entries.{call_from};
 
     ghost entry = { λ event made. call_from event.value made };
 }
 
 /// The entry of a call that was answered at once.
-pub(super) struct OfAnswer;
+pub(super) struct AnswerEntry;
 
-impl<T, W> EntryOf<Asked<T>, FastResult<T, W>, Call<T>> for OfAnswer {
+impl<T, W> EntryOf<Asked<T>, FastResult<T, W>, Call<T>> for AnswerEntry {
     ghost use Rattle.kanal_events.specs.StepResult.{made_of};
     ghost use Rattle.kanal_state.specs.Entries.{call_from};
 
@@ -38,18 +38,18 @@ impl<T, W> EntryOf<Asked<T>, FastResult<T, W>, Call<T>> for OfAnswer {
 }
 
 /// The entry of a call that was replied so, and settled nobody.
-pub(super) struct OfReply;
+pub(super) struct ReplyEntry;
 
-impl<T> EntryOf<Asked<T>, Reply<T>, Call<T>> for OfReply {
+impl<T> EntryOf<Asked<T>, Reply<T>, Call<T>> for ReplyEntry {
     ghost use Rattle.kanal_state.specs.Entries.{replied};
 
     ghost entry = { λ event reply. replied event.value reply };
 }
 
 /// The entry of a send that entered and settled nobody, by its message.
-pub(super) struct OfSend;
+pub(super) struct SendEntry;
 
-impl<T> EntryOf<Snapshot<T>, (), Call<T>> for OfSend {
+impl<T> EntryOf<Snapshot<T>, (), Call<T>> for SendEntry {
     ghost use Rattle.kanal_events.specs.declared.event.Event.{Event};
     ghost use Rattle.kanal_events.specs.declared.event.Reply.{Reply};
     ghost use Rattle.kanal_state.specs.Entries.{replied};
@@ -58,9 +58,9 @@ impl<T> EntryOf<Snapshot<T>, (), Call<T>> for OfSend {
 }
 
 /// The entry of a receive that got a message and settled nobody, by the message.
-pub(super) struct OfRecv;
+pub(super) struct RecvEntry;
 
-impl<T> EntryOf<T, (), Call<T>> for OfRecv {
+impl<T> EntryOf<T, (), Call<T>> for RecvEntry {
     ghost use Rattle.kanal_events.specs.declared.event.Event.{Event};
     ghost use Rattle.kanal_events.specs.declared.event.Reply.{Reply};
     ghost use Rattle.kanal_state.specs.Entries.{replied};
@@ -69,9 +69,9 @@ impl<T> EntryOf<T, (), Call<T>> for OfRecv {
 }
 
 /// The entry of a send that doesn't wait, and that entered and settled nobody, by its message.
-pub(super) struct OfTrySend;
+pub(super) struct TrySendEntry;
 
-impl<T> EntryOf<Snapshot<T>, (), Call<T>> for OfTrySend {
+impl<T> EntryOf<Snapshot<T>, (), Call<T>> for TrySendEntry {
     ghost use Rattle.kanal_events.specs.declared.event.Event.{Event};
     ghost use Rattle.kanal_events.specs.declared.event.Reply.{Reply};
     ghost use Rattle.kanal_state.specs.Entries.{replied};
@@ -80,9 +80,9 @@ impl<T> EntryOf<Snapshot<T>, (), Call<T>> for OfTrySend {
 }
 
 /// The entry of a receive that doesn't wait, and that got a message and settled nobody, by the message.
-pub(super) struct OfTryRecv;
+pub(super) struct TryRecvEntry;
 
-impl<T> EntryOf<T, (), Call<T>> for OfTryRecv {
+impl<T> EntryOf<T, (), Call<T>> for TryRecvEntry {
     ghost use Rattle.kanal_events.specs.declared.event.Event.{Event};
     ghost use Rattle.kanal_events.specs.declared.event.Reply.{Reply};
     ghost use Rattle.kanal_state.specs.Entries.{replied};
@@ -91,9 +91,9 @@ impl<T> EntryOf<T, (), Call<T>> for OfTryRecv {
 }
 
 /// The entry of a withdrawal: the ticket that was asked for, and the wait that left.
-pub(super) struct OfWithdrawal;
+pub(super) struct WithdrawalEntry;
 
-impl<T, W> EntryOf<Ticket, Waiter<T, W>, Call<T>> for OfWithdrawal {
+impl<T, W> EntryOf<Ticket, Waiter<T, W>, Call<T>> for WithdrawalEntry {
     ghost use Rattle.kanal_core.specs.Tickets.{number_of};
     ghost use Rattle.kanal_state.specs.Entries.{withdrawal};
 
@@ -147,5 +147,5 @@ pub(super) fn note_made<T: Drop, W: Drop, H: History<T>>(
         → (l : Line _) → H.stands history.old l → H.relations.reaches pass.new l }
 {
     let lacks = made.lacks_memory();
-    note::<T, StepResult<T, W>, OfCall, H>(history, log, pass, asked, made, lacks);
+    note::<T, StepResult<T, W>, CallEntry, H>(history, log, pass, asked, made, lacks);
 }

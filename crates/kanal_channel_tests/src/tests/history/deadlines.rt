@@ -3,10 +3,10 @@
 //! Each message is tried with deadlines that have come at once, so that waits are taken back while the
 //! other thread settles, and then with one that no run reaches.
 use crate::tests::given::equal;
-use crate::tests::history::exchange::{Calls, MESSAGES};
+use crate::tests::history::exchange::{MESSAGES, Mode};
 use crate::tests::history::given::new_log;
 use kanal_core::error::{ReceiveErrorTimeout, SendErrorTimeout};
-use kanal_one_history::{Channel, LogId, Pass, SystemClock, TestClock};
+use kanal_one_history::{Channel, GhostPass, LogId, SystemClock, TestClock};
 use std::marker::Brand;
 use std::sync::Wait;
 use std::time;
@@ -19,7 +19,7 @@ const TRIES: u64 = 2;
 pub(super) fn send<J: LogId, R: Wait + time::Clock>(
     rt: &R,
     channel: &Channel<u64, J>,
-    pass: &mut Pass<u64, J>,
+    pass: &mut GhostPass<u64, J>,
     number: u64,
 ) -> bool {
     let none = Duration::from_nanos(0);
@@ -38,7 +38,7 @@ pub(super) fn send<J: LogId, R: Wait + time::Clock>(
 pub(super) fn recv<J: LogId, R: Wait + time::Clock>(
     rt: &R,
     channel: &Channel<u64, J>,
-    pass: &mut Pass<u64, J>,
+    pass: &mut GhostPass<u64, J>,
     number: u64,
 ) -> bool {
     let none = Duration::from_nanos(0);
@@ -57,10 +57,10 @@ pub(super) fn recv<J: LogId, R: Wait + time::Clock>(
 fn until_moments_at_each_capacity(rt: HostRuntime) {
     for capacity in [0, 1, 64] {
         let opened = new_log(&rt, rt.alloc());
-        let counts = Calls::Timed.exchange_bounded::<Brand, _>(&rt, rt.alloc(), capacity, opened);
+        let counts = Mode::Timed.exchange_bounded::<Brand, _>(&rt, rt.alloc(), capacity, opened);
         equal(&rt, counts, Ok((MESSAGES, MESSAGES)));
     }
     let opened = new_log(&rt, rt.alloc());
-    let counts = Calls::Timed.exchange_unbounded::<Brand, _>(&rt, rt.alloc(), opened);
+    let counts = Mode::Timed.exchange_unbounded::<Brand, _>(&rt, rt.alloc(), opened);
     equal(&rt, counts, (MESSAGES, MESSAGES));
 }

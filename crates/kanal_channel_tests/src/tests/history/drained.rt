@@ -5,7 +5,7 @@ ghost use Rattle.kanal_log.specs.Logs.{table_of};
 use crate::tests::given::equal;
 use crate::tests::history::given::new_log;
 use kanal_core::error::{NewError, ReceiveError};
-use kanal_one_history::{Call, Channel, LogId, NewLog, Pass};
+use kanal_one_history::{Call, Channel, GhostPass, LogId, NewLog};
 use std::alloc::Global;
 use std::marker::Brand;
 use std::process::Abort;
@@ -33,7 +33,11 @@ fn in_place(numbers: &Vec<u64>) -> u64 {
 }
 
 /// Sends all numbers.
-fn send_all<J: LogId, R: Wait>(rt: &R, channel: &Channel<u64, J>, mut pass: Pass<u64, J>) -> u64 {
+fn send_all<J: LogId, R: Wait>(
+    rt: &R,
+    channel: &Channel<u64, J>,
+    mut pass: GhostPass<u64, J>,
+) -> u64 {
     let mut sent = 0u64;
     for number in 0..MESSAGES {
         if channel.send(rt, &mut pass, number).is_ok() {
@@ -48,7 +52,7 @@ fn drain_all<J: LogId, R: Wait>(
     rt: &R,
     alloc: Global,
     channel: &Channel<u64, J>,
-    mut pass: Pass<u64, J>,
+    mut pass: GhostPass<u64, J>,
 ) -> u64 {
     let mut numbers = Vec::new(alloc);
     for _ in 0..MESSAGES {

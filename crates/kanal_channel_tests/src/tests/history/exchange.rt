@@ -4,7 +4,7 @@ ghost use Rattle.kanal_log.specs.Logs.{table_of};
 
 use crate::tests::history::deadlines;
 use kanal_core::error::NewError;
-use kanal_one_history::{Call, Channel, LogId, NewLog, Pass};
+use kanal_one_history::{Call, Channel, GhostPass, LogId, NewLog};
 use std::alloc::Global;
 use std::sync::Wait;
 use std::thread::Threads;
@@ -15,26 +15,26 @@ pub(super) const MESSAGES: u64 = 20_000;
 
 /// By what calls the messages go.
 #[derive(Clone, Copy)]
-pub(super) enum Calls {
+pub(super) enum Mode {
     /// By `send` and `recv`.
     Waiting,
     /// By `send_timeout` and `recv_timeout`.
     Timed,
 }
 
-impl Calls {
+impl Mode {
     /// Sends all numbers, and counts those that entered.
     fn send_all<J: LogId, R: Wait + time::Clock>(
         self,
         rt: &R,
         channel: &Channel<u64, J>,
-        mut pass: Pass<u64, J>,
+        mut pass: GhostPass<u64, J>,
     ) -> u64 {
         let mut sent = 0u64;
         for number in 0..MESSAGES {
             let entered = match self {
-                Calls::Waiting => channel.send(rt, &mut pass, number).is_ok(),
-                Calls::Timed => deadlines::send(rt, channel, &mut pass, number),
+                Mode::Waiting => channel.send(rt, &mut pass, number).is_ok(),
+                Mode::Timed => deadlines::send(rt, channel, &mut pass, number),
             };
             if entered {
                 sent = sent.wrapping_add(1);
@@ -48,13 +48,13 @@ impl Calls {
         self,
         rt: &R,
         channel: &Channel<u64, J>,
-        mut pass: Pass<u64, J>,
+        mut pass: GhostPass<u64, J>,
     ) -> u64 {
         let mut got = 0u64;
         for number in 0..MESSAGES {
             let came = match self {
-                Calls::Waiting => channel.recv(rt, &mut pass) == Ok(number),
-                Calls::Timed => deadlines::recv(rt, channel, &mut pass, number),
+                Mode::Waiting => channel.recv(rt, &mut pass) == Ok(number),
+                Mode::Timed => deadlines::recv(rt, channel, &mut pass, number),
             };
             if came {
                 got = got.wrapping_add(1);
@@ -68,7 +68,7 @@ impl Calls {
         self,
         rt: &R,
         channel: &Channel<u64, J>,
-        mut one: Pass<u64, J>,
+        mut one: GhostPass<u64, J>,
     ) -> (u64, u64) {
         let other = one.again(channel.log());
         thread::join(

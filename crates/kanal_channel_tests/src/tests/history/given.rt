@@ -5,7 +5,7 @@ ghost use Rattle.kanal_log.specs.Logs.{table_of};
 use kanal::{AsyncReceiver, AsyncSender};
 use kanal_core::error::NewError;
 use kanal_core::internal::ChannelInternal;
-use kanal_one_history::{Call, GhostHistory, LogId, NewLog, Pass};
+use kanal_one_history::{Call, GhostHistory, GhostPass, LogId, NewLog};
 use std::alloc::Global;
 use std::process::Abort;
 
@@ -18,10 +18,10 @@ pub fn new_log(rt: &impl Abort, alloc: Global) -> NewLog<Call<u64>> {
 }
 
 /// The first handles of a channel under a name, and a pass.
-pub type Handles<J> = (
+pub type HistoryHandles<J> = (
     AsyncSender<u64, GhostHistory<u64, J>>,
     AsyncReceiver<u64, GhostHistory<u64, J>>,
-    Pass<u64, J>,
+    GhostPass<u64, J>,
 );
 
 /// The first handles of a new channel with so many places, or without limit, and a pass.
@@ -29,7 +29,7 @@ pub fn new_handles<J: LogId>(
     alloc: Global,
     capacity: Option<usize>,
     opened: NewLog<Call<u64>>,
-) -> Result<Handles<J>, NewError>
+) -> Result<HistoryHandles<J>, NewError>
     requires name { table_of opened ≡ J.table }
     requires capacity { J.capacity ≡ capacity }
 {

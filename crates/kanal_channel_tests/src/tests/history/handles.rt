@@ -3,14 +3,14 @@ ghost use Rattle.std.specs.Prelude.{◌≡◌};
 ghost use Rattle.kanal_log.specs.Logs.{table_of};
 
 use crate::tests::given::{equal, new_task};
-use crate::tests::history::given::{Handles, new_handles, new_log};
+use crate::tests::history::given::{HistoryHandles, new_handles, new_log};
 use futures::stream::StreamExt;
 use futures::task::Poll;
 use futures::test::MockTask;
 use kanal_core::error::{NewError, ReceiveError};
 use kanal_events::event::{Ask, Side};
 use kanal_futures::{receive_stream, recv_in_task, send_in_task};
-use kanal_one_history::{Call, Channel, LogId, NewLog, Pass};
+use kanal_one_history::{Call, Channel, GhostPass, LogId, NewLog};
 use std::alloc::Global;
 use std::marker::Brand;
 use std::process::Abort;
@@ -21,7 +21,7 @@ fn receive_waits<J: LogId, R: Wait + Abort>(
     rt: &R,
     task: &MockTask,
     channel: &Channel<u64, J>,
-    pass: &mut Pass<u64, J>,
+    pass: &mut GhostPass<u64, J>,
 ) {
     let mut receiving = recv_in_task(channel, pass.again(channel.log()));
     equal(rt, task.poll(&mut receiving).is_pending(), true);
@@ -40,7 +40,7 @@ fn send_waits<J: LogId, R: Wait + Abort>(
     rt: &R,
     task: &MockTask,
     channel: &Channel<u64, J>,
-    pass: &mut Pass<u64, J>,
+    pass: &mut GhostPass<u64, J>,
 ) {
     equal(rt, channel.send(rt, pass, 1), Ok(()));
     let mut sending = send_in_task(channel, pass.again(channel.log()), 2);
@@ -56,7 +56,7 @@ fn send_waits<J: LogId, R: Wait + Abort>(
 }
 
 /// A stream answers what is there and the end, and gives its pass back.
-fn streamed<J: LogId, R: Abort>(rt: &R, task: &MockTask, handles: Handles<J>) {
+fn streamed<J: LogId, R: Abort>(rt: &R, task: &MockTask, handles: HistoryHandles<J>) {
     let (sender, receiver, pass) = handles;
     let mut stream = receive_stream(receiver.channel(), pass);
     equal(rt, task.poll(&mut stream.next()), Poll::Ready(Some(2)));

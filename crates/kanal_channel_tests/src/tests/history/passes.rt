@@ -5,7 +5,7 @@ ghost use Rattle.kanal_log.specs.Logs.{table_of};
 use crate::tests::given::equal;
 use crate::tests::history::given::new_log;
 use kanal_core::error::NewError;
-use kanal_one_history::{Call, Channel, LogId, NewLog, Pass};
+use kanal_one_history::{Call, Channel, GhostPass, LogId, NewLog};
 use std::alloc::Global;
 use std::marker::Brand;
 use std::mem::size_of;
@@ -13,8 +13,8 @@ use std::sync::Wait;
 
 #[test]
 fn a_pass_takes_no_bytes(rt: HostRuntime) {
-    equal(&rt, size_of::<Pass<u64, Brand>>(), 0);
-    equal(&rt, size_of::<Pass<String, Brand>>(), 0);
+    equal(&rt, size_of::<GhostPass<u64, Brand>>(), 0);
+    equal(&rt, size_of::<GhostPass<String, Brand>>(), 0);
 }
 
 /// Two passes make a call each, are compared, and one learns what the other has seen.

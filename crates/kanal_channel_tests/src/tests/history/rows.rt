@@ -3,7 +3,7 @@ ghost use Rattle.std.specs.Prelude.{◌≡◌};
 ghost use Rattle.kanal_log.specs.Logs.{table_of};
 
 use crate::tests::given::equal;
-use crate::tests::history::given::{Handles, new_handles, new_log};
+use crate::tests::history::given::{HistoryHandles, new_handles, new_log};
 use kanal_core::error::{CloseError, NewError, ReceiveError, SendError};
 use kanal_journal::journal::{Ask, Reply, Side};
 use kanal_one_history::{Call, LogId, NewLog};
@@ -13,7 +13,7 @@ use std::process::Abort;
 use std::sync::Wait;
 
 /// The last sender is dropped: what is there is received, and then nothing comes.
-fn dropped_sender<J: LogId, R: Wait + Abort>(rt: &R, handles: Handles<J>) {
+fn dropped_sender<J: LogId, R: Wait + Abort>(rt: &R, handles: HistoryHandles<J>) {
     let (sender, receiver, mut pass) = handles;
     let (channel, pass) = (receiver.channel(), &mut pass);
     equal(rt, channel.send(rt, pass, 1), Ok(()));
@@ -25,7 +25,7 @@ fn dropped_sender<J: LogId, R: Wait + Abort>(rt: &R, handles: Handles<J>) {
 }
 
 /// A close clears the buffer, and is refused after that; so are sends and receives.
-fn closed<J: LogId, R: Wait + Abort>(rt: &R, handles: Handles<J>) {
+fn closed<J: LogId, R: Wait + Abort>(rt: &R, handles: HistoryHandles<J>) {
     let (sender, receiver, mut pass) = handles;
     let (channel, pass) = (receiver.channel(), &mut pass);
     equal(rt, channel.try_send(rt, pass, 1), Ok(true));
@@ -40,7 +40,7 @@ fn closed<J: LogId, R: Wait + Abort>(rt: &R, handles: Handles<J>) {
 }
 
 /// The last receiver is dropped: the buffer stays until the close.
-fn dropped_receiver<J: LogId, R: Wait + Abort>(rt: &R, handles: Handles<J>) {
+fn dropped_receiver<J: LogId, R: Wait + Abort>(rt: &R, handles: HistoryHandles<J>) {
     let (sender, receiver, mut pass) = handles;
     let (channel, pass) = (sender.channel(), &mut pass);
     equal(rt, channel.try_send(rt, pass, 1), Ok(true));
@@ -59,7 +59,7 @@ fn dropped_receiver<J: LogId, R: Wait + Abort>(rt: &R, handles: Handles<J>) {
 }
 
 /// A seal: what is there is received, and nothing more enters.
-fn sealed<J: LogId, R: Wait + Abort>(rt: &R, handles: Handles<J>) {
+fn sealed<J: LogId, R: Wait + Abort>(rt: &R, handles: HistoryHandles<J>) {
     let (sender, _receiver, mut pass) = handles;
     let (channel, pass) = (sender.channel(), &mut pass);
     equal(rt, channel.try_send(rt, pass, 1), Ok(true));
@@ -72,7 +72,7 @@ fn sealed<J: LogId, R: Wait + Abort>(rt: &R, handles: Handles<J>) {
 }
 
 /// What is asked of a channel without limit.
-fn unlimited<J: LogId, R: Wait + Abort>(rt: &R, handles: Handles<J>) {
+fn unlimited<J: LogId, R: Wait + Abort>(rt: &R, handles: HistoryHandles<J>) {
     let (sender, receiver, mut pass) = handles;
     let (channel, pass) = (receiver.channel(), &mut pass);
     let flag = channel.ask(rt, pass, Side::Tx, Ask::IsFull);
@@ -90,7 +90,7 @@ fn unlimited<J: LogId, R: Wait + Abort>(rt: &R, handles: Handles<J>) {
 }
 
 /// At capacity 0 there is no place: an option keeps its message, also after a close.
-fn kept<J: LogId, R: Wait + Abort>(rt: &R, handles: Handles<J>) {
+fn kept<J: LogId, R: Wait + Abort>(rt: &R, handles: HistoryHandles<J>) {
     let (sender, _receiver, mut pass) = handles;
     let (channel, pass) = (sender.channel(), &mut pass);
     let flag = channel.ask(rt, pass, Side::Rx, Ask::IsFull);

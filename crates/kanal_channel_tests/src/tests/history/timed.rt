@@ -3,7 +3,7 @@ ghost use Rattle.std.specs.Prelude.{◌≡◌};
 ghost use Rattle.kanal_log.specs.Logs.{table_of};
 
 use crate::tests::given::equal;
-use crate::tests::history::given::{Handles, new_handles, new_log};
+use crate::tests::history::given::{HistoryHandles, new_handles, new_log};
 use kanal_core::error::{NewError, ReceiveErrorTimeout, SendErrorTimeout};
 use kanal_one_history::{Call, LogId, NewLog, TestClock};
 use std::alloc::Global;
@@ -14,7 +14,7 @@ use std::time;
 use std::time::Duration;
 
 /// A full channel: the send waits until its deadline, and its message is gone then.
-fn full<J: LogId, R: Wait + time::Clock + Abort>(rt: &R, handles: Handles<J>) {
+fn full<J: LogId, R: Wait + time::Clock + Abort>(rt: &R, handles: HistoryHandles<J>) {
     let (sender, _receiver, mut pass) = handles;
     let (channel, pass) = (sender.channel(), &mut pass);
     let none = Duration::from_nanos(0);
@@ -35,7 +35,7 @@ fn full<J: LogId, R: Wait + time::Clock + Abort>(rt: &R, handles: Handles<J>) {
 }
 
 /// An empty channel without senders: what a receive answers depends on whether its deadline passed.
-fn left<J: LogId, R: Wait + time::Clock + Abort>(rt: &R, handles: Handles<J>) {
+fn left<J: LogId, R: Wait + time::Clock + Abort>(rt: &R, handles: HistoryHandles<J>) {
     let (sender, receiver, mut pass) = handles;
     let (channel, pass) = (receiver.channel(), &mut pass);
     let none = Duration::from_nanos(0);
@@ -59,7 +59,7 @@ fn left<J: LogId, R: Wait + time::Clock + Abort>(rt: &R, handles: Handles<J>) {
 }
 
 /// The deadline is past the largest moment: the channel isn't looked at.
-fn too_late<J: LogId, R: Wait + time::Clock + Abort>(rt: &R, handles: Handles<J>) {
+fn too_late<J: LogId, R: Wait + time::Clock + Abort>(rt: &R, handles: HistoryHandles<J>) {
     let (sender, _receiver, mut pass) = handles;
     let (channel, pass) = (sender.channel(), &mut pass);
     let last = TestClock::still(u64::MAX);

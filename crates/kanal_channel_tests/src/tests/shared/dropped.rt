@@ -41,7 +41,7 @@ impl Look {
 
     /// Looks when it is asked to: a channel with a message in it, and one that is closed, answer
     /// nothing only while somebody holds the lock.
-    fn take(&self, shared: &Shared<Message, NoHistory>) {
+    fn take(&self, shared: &Shared<Asking, NoHistory>) {
         for _ in 0..LOOKS {
             if self.is_asked_for.load(SeqCst) {
                 let is_free = !matches!(shared.try_recv_realtime(&mut ()), Ok(None));
@@ -55,13 +55,13 @@ impl Look {
 }
 
 /// A message that asks for a look while it is dropped, if it has one.
-struct Message {
+struct Asking {
     look: Option<Arc<Look, Global>>,
 }
 
-impl Drop for Message {
+impl Drop for Asking {
     fn drop(self) {
-        let Message { look } = self;
+        let Asking { look } = self;
         if let Some(look) = look {
             look.ask();
         }
@@ -70,14 +70,14 @@ impl Drop for Message {
 
 /// A channel with one place, a look that nobody has asked for, a message that asks for it, and the thread that
 /// takes it.
-type Started = (
-    Arc<Shared<Message, NoHistory>>,
+type StartedLook = (
+    Arc<Shared<Asking, NoHistory>>,
     Arc<Look, Global>,
-    Message,
+    Asking,
     JoinHandle<()>,
 );
 
-fn start_look<R: Threads + Abort + AllocGlobal>(rt: &R) -> Started {
+fn start_look<R: Threads + Abort + AllocGlobal>(rt: &R) -> StartedLook {
     let (shared, other) = common(rt, 1);
     let look = Look {
         is_asked_for: AtomicBool::new(false),
@@ -86,7 +86,7 @@ fn start_look<R: Threads + Abort + AllocGlobal>(rt: &R) -> Started {
     };
     let look = Arc::new(rt.alloc(), look).expect(rt, "a look");
     let theirs = Arc::try_clone(&look).expect(rt, "one more");
-    let message = Message {
+    let message = Asking {
         look: Some(Arc::try_clone(&look).expect(rt, "one more")),
     };
     let thread = thread::spawn(rt, move || theirs.take(&other)).expect(rt, "a thread");
@@ -107,14 +107,14 @@ fn a_close_drops_its_messages_after_the_release(rt: HostRuntime) {
 fn leave<R: Threads + Wait + Abort + RandomSource + AllocGlobal>(rt: &R, by_notice: bool) {
     let (shared, look, message, thread) = start_look(rt);
     let task = new_task(rt);
-    let first = Message { look: None };
+    let first = Asking { look: None };
     equal(rt, shared.send(rt, &mut (), first), Ok(()));
     let mut sending = send_future(&shared, message);
     equal(rt, task.poll(&mut sending), Poll::Pending);
     if by_notice {
         let locked = shared.lock(rt);
         drop(sending);
-        locked.unlock_quiet();
+        locked.unlock_and_drain();
     } else {
         drop(sending);
     }

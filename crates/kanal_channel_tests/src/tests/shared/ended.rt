@@ -15,7 +15,7 @@ pub fn begins<T: Drop, R: Wait>(rt: &R, shared: &Shared<T, NoHistory>) -> bool {
     for _ in 0..LOOKS {
         let locked = shared.lock(rt);
         let waits = locked.state.somebody_waits();
-        locked.unlock_quiet();
+        locked.unlock_and_drain();
         if waits {
             return true;
         }

@@ -24,7 +24,7 @@ fn drop_held<R: Wait, T: Drop, D: Drop, F: Drop>(
     drop(futures);
     let (senders, receivers) = locked.state.counts();
     let held = (senders, receivers, shared.left_waits());
-    locked.unlock_quiet();
+    locked.unlock_and_drain();
     held
 }
 
@@ -83,7 +83,7 @@ fn notices_of_all_kinds_are_applied_in_their_order(rt: HostRuntime) {
     shared.drop_handle(sender);
     drop(leaves);
     let held = (locked.state.counts(), shared.left_waits());
-    locked.unlock_quiet();
+    locked.unlock_and_drain();
     equal(&rt, held, ((1, 1), 1));
     equal(&rt, shared.left_waits(), 0);
     equal(&rt, counts(&rt, &shared), (0, 0));
@@ -98,7 +98,7 @@ fn realtime_forms_while_the_lock_is_held(rt: HostRuntime) {
     let locked = shared.lock(&rt);
     let sent = shared.try_send_realtime(&mut (), 1);
     let got = shared.try_recv_realtime(&mut ());
-    locked.unlock_quiet();
+    locked.unlock_and_drain();
     equal(&rt, sent, Ok(false));
     equal(&rt, got, Ok(None));
 }

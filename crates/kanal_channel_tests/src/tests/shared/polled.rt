@@ -23,7 +23,7 @@ fn a_send_and_a_receive_are_polled_while_the_lock_is_held(rt: HostRuntime) {
     let mut sending = send_future(&shared, 7);
     let locked = shared.lock(&rt);
     let polled = task.poll(&mut sending);
-    locked.unlock_quiet();
+    locked.unlock_and_drain();
     let len = shared.ask_number(&rt, &mut (), Side::Tx, Ask::Len);
     equal(&rt, (polled, len), (Poll::Pending, 0));
     woken_once(&rt, &task);
@@ -35,7 +35,7 @@ fn a_send_and_a_receive_are_polled_while_the_lock_is_held(rt: HostRuntime) {
     let mut receiving = receive_future(&shared);
     let locked = shared.lock(&rt);
     let polled = task.poll(&mut receiving);
-    locked.unlock_quiet();
+    locked.unlock_and_drain();
     let len = shared.ask_number(&rt, &mut (), Side::Rx, Ask::Len);
     equal(&rt, (polled, len), (Poll::Pending, 1));
     woken_once(&rt, &task);
@@ -53,7 +53,7 @@ fn a_wait_is_polled_while_the_lock_is_held(rt: HostRuntime) {
     holds(&rt, !task.is_woken());
     let locked = shared.lock(&rt);
     let polled = task.poll(&mut receiving);
-    locked.unlock_quiet();
+    locked.unlock_and_drain();
     equal(&rt, polled, Poll::Pending);
     woken_once(&rt, &task);
     equal(&rt, shared.send(&rt, &mut (), 7), Ok(()));

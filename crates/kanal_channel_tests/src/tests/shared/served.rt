@@ -88,7 +88,7 @@ fn who_did_not_leave_waits_on(rt: HostRuntime) {
     let locked = shared.lock(&rt);
     drop(first);
     drop(second);
-    locked.unlock_quiet();
+    locked.unlock_and_drain();
     holds(&rt, shared.try_send(&rt, &mut (), 7) == Ok(true));
     equal(&rt, task.poll(&mut third), Poll::Ready(Ok(7)));
 }

@@ -11,13 +11,13 @@ use std::time::Duration;
 
 /// A clock that stands at 0, and sends 7 at the read with this number.
 #[derive(Drop)]
-struct Sending<'a> {
+struct SendingClock<'a> {
     reads: Cell<u64>,
     sends_at: u64,
     shared: &'a Shared<u64, NoHistory>,
 }
 
-impl Clock for Sending<'_> {
+impl Clock for SendingClock<'_> {
     fn now(&self) -> u64 {
         let reads = self.reads.get().wrapping_add(1);
         self.reads.set(reads);
@@ -30,12 +30,12 @@ impl Clock for Sending<'_> {
 
 /// A clock that stands at 0, and drops the last sender at its second read.
 #[derive(Drop)]
-struct Ending {
+struct DroppingClock {
     reads: Cell<u64>,
     sender: Cell<Option<AsyncSender<u64>>>,
 }
 
-impl Clock for Ending {
+impl Clock for DroppingClock {
     fn now(&self) -> u64 {
         let reads = self.reads.get().wrapping_add(1);
         self.reads.set(reads);
@@ -66,7 +66,7 @@ const SENDS_AT: [(u64, u64); 4] = [(3, 1), (200, 1), (3, u64::MAX), (40, u64::MA
 fn a_timed_receive_is_given_a_message_during_its_wait(rt: HostRuntime) {
     for (sends_at, nanos) in SENDS_AT {
         let shared = channel::<u64>(&rt, 0);
-        let clock = Sending {
+        let clock = SendingClock {
             reads: Cell::new(0),
             sends_at,
             shared: &shared,
@@ -81,7 +81,7 @@ fn a_timed_receive_is_given_a_message_during_its_wait(rt: HostRuntime) {
 fn a_message_whose_wait_is_ended_comes_back(rt: HostRuntime) {
     let (sender, receiver) = handles::<u64>(&rt, 0);
     let shared = receiver.channel();
-    let clock = Ending {
+    let clock = DroppingClock {
         reads: Cell::new(0),
         sender: Cell::new(Some(sender)),
     };

@@ -32,7 +32,7 @@ struct Fresh {
 }
 
 #[derive(Drop)]
-struct Waiting {
+struct WaitingItem {
     end: WaitEnd<Counted>,
     ghost unspent: { HasNotLeft (wait_view end) },
 }
@@ -44,7 +44,7 @@ struct Settling {
     ghost unspent: { HasNotSettled (settle_view end) },
 }
 
-impl Waiting {
+impl WaitingItem {
     fn poll(&mut self) -> bool {
         self.end.poll().is_some()
     }
@@ -71,7 +71,7 @@ fn wait_one<R: Wait + Abort>(rt: &R, parker: &Parker, fresh: Fresh) -> bool {
         }
         Way::Sleeps => {
             let had = end.sleep(unparker_of(rt, parker)).is_some();
-            had || Waiting { end }.park(rt, parker)
+            had || WaitingItem { end }.park(rt, parker)
         }
         Way::Leaves => end.leave().is_some(),
         Way::SleepsAndLeaves => {

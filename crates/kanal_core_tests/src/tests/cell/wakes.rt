@@ -22,8 +22,8 @@ use std::thread::Threads;
 use std::time::Duration;
 
 /// Settles, and sees the thread that waits go on.
-fn settle_and_see(entry: Entry, stage: &AtomicU64, waking: &Unparker) -> bool {
-    let Entry { mut end } = entry;
+fn settle_and_see(entry: SettleEntry, stage: &AtomicU64, waking: &Unparker) -> bool {
+    let SettleEntry { mut end } = entry;
     let back = end.settle(7);
     drop(end);
     goes_on(stage, waking) && back.is_none()
@@ -36,7 +36,7 @@ fn a_settle_wakes_the_parked_thread(rt: HostRuntime) {
         let parker = new_parker(&rt);
         let (sleeper, waking) = (unparker_of(&rt, &parker), unparker_of(&rt, &parker));
         let (mut wait, settle) = cell::<u64>(&rt);
-        let entry = Entry { end: settle };
+        let entry = SettleEntry { end: settle };
         let stage = counter(&rt);
         let theirs = shared(&rt, &stage);
         let other = thread::spawn(&rt, move || settle_and_see(entry, &theirs, &waking));
@@ -56,8 +56,8 @@ fn a_settle_wakes_the_parked_thread(rt: HostRuntime) {
 const TURNS: u32 = 100_000_000;
 
 /// Settles, and sees the thread that sleeps on the word go on.
-fn settle_the_sleeper(entry: Entry, stage: &AtomicU64) -> bool {
-    let Entry { mut end } = entry;
+fn settle_the_sleeper(entry: SettleEntry, stage: &AtomicU64) -> bool {
+    let SettleEntry { mut end } = entry;
     let back = end.settle(7);
     drop(end);
     for _ in 0..TURNS {
@@ -79,7 +79,7 @@ const PARKS_IN_A_ROW: u32 = 100;
 /// A settle in another thread wakes this one, should it sleep on the word before.
 fn wake_from_the_word<R: Threads + Wait + Abort + AllocGlobal>(rt: &R) {
     let (mut wait, settle) = cell::<u64>(rt);
-    let entry = Entry { end: settle };
+    let entry = SettleEntry { end: settle };
     let stage = counter(rt);
     let theirs = shared(rt, &stage);
     let other = thread::spawn(rt, move || settle_the_sleeper(entry, &theirs));
@@ -184,21 +184,21 @@ fn a_settle_wakes_the_task_of_a_waiter_that_left(rt: HostRuntime) {
 }
 
 #[derive(Drop)]
-struct Entry {
+struct SettleEntry {
     end: SettleEnd<u64>,
     ghost unspent: { HasNotSettled (settle_view end) },
 }
 
 #[derive(Drop)]
-struct Line {
+struct SourceLine {
     source: Source,
-    entry: Mutex<Option<Entry>>,
+    entry: Mutex<Option<SettleEntry>>,
 }
 
 /// A task that waits at a cell, whose other end lies under a lock until it is taken out.
 #[derive(Drop)]
 struct Receive {
-    line: Arc<Line>,
+    line: Arc<SourceLine>,
     spare: Option<Waker>,
     end: WaitEnd<u64>,
     ghost unspent: { HasNotLeft (wait_view end) },
@@ -229,14 +229,14 @@ impl Future for Receive {
     }
 }
 
-fn settle_later(line: &Line, x: u64) -> bool {
+fn settle_later(line: &SourceLine, x: u64) -> bool {
     let taken = match lock(&line.entry) {
         Some(mut guard) => (*guard).take(),
         None => None,
     };
     match taken {
         Some(entry) => {
-            let Entry { mut end } = entry;
+            let SettleEntry { mut end } = entry;
             end.settle(x).is_none()
         }
         None => false,
@@ -248,9 +248,9 @@ fn settle_later(line: &Line, x: u64) -> bool {
 fn a_settle_wakes_the_task(rt: HostRuntime) {
     for outcome in 0..100u64 {
         let (wait, settle) = cell(&rt);
-        let line = Line {
+        let line = SourceLine {
             source: Source::new(),
-            entry: Mutex::new(Some(Entry { end: settle })),
+            entry: Mutex::new(Some(SettleEntry { end: settle })),
         };
         let line = Arc::new(rt.alloc(), line).expect(&rt, "memory for a line");
         let theirs = Arc::try_clone(&line).expect(&rt, "a count of the line");

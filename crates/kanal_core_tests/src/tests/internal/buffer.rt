@@ -7,17 +7,17 @@ use std::alloc::AllocGlobal;
 use std::ops::Range;
 use std::process::Abort;
 
-type Core = ChannelInternal<u64, u8>;
+type NumberCore = ChannelInternal<u64, u8>;
 
 /// The numbers enter, in order.
-fn enter_numbers(rt: &impl Abort, core: &mut Core, numbers: Range<u64>) {
+fn enter_numbers(rt: &impl Abort, core: &mut NumberCore, numbers: Range<u64>) {
     for number in numbers {
         enter(rt, core, number);
     }
 }
 
 /// The numbers are taken, in order, and nobody is let in; then none is left.
-fn take_numbers(rt: &impl Abort, core: &mut Core, numbers: Range<u64>) {
+fn take_numbers(rt: &impl Abort, core: &mut NumberCore, numbers: Range<u64>) {
     for number in numbers {
         holds(
             rt,
@@ -29,10 +29,10 @@ fn take_numbers(rt: &impl Abort, core: &mut Core, numbers: Range<u64>) {
 
 #[test]
 fn hundreds_of_messages_and_a_large_capacity(rt: HostRuntime) {
-    let mut core = Core::unbounded(rt.alloc());
+    let mut core = NumberCore::unbounded(rt.alloc());
     enter_numbers(&rt, &mut core, 0..700);
     take_numbers(&rt, &mut core, 0..700);
-    let mut core: Core = core_of(&rt, 100_000);
+    let mut core: NumberCore = core_of(&rt, 100_000);
     enter_numbers(&rt, &mut core, 0..100_000);
     holds(&rt, matches!(core.offer(7), Offer::Full(7)));
     take_numbers(&rt, &mut core, 0..100_000);
@@ -41,7 +41,7 @@ fn hundreds_of_messages_and_a_large_capacity(rt: HostRuntime) {
 /// The numbers from 5 to 11 fill a core with 7 places.
 #[test]
 fn a_ring_that_has_gone_round(rt: HostRuntime) {
-    let mut core: Core = core_of(&rt, 7);
+    let mut core: NumberCore = core_of(&rt, 7);
     enter_numbers(&rt, &mut core, 0..5);
     take_numbers(&rt, &mut core, 0..5);
     enter_numbers(&rt, &mut core, 5..12);

@@ -12,7 +12,7 @@ use std::process::Abort;
 /// A core of texts, which are neither `Copy` nor `Clone`.
 type Texts = ChannelInternal<String, Box<u32>>;
 
-type Core = ChannelInternal<u64, u8>;
+type NumberCore = ChannelInternal<u64, u8>;
 
 /// The text as a message.
 fn text_of(rt: &(impl Abort + AllocGlobal), text: &str) -> String {
@@ -48,7 +48,7 @@ fn capacities_that_are_refused(rt: HostRuntime) {
 
 #[test]
 fn a_push_and_a_pop(rt: HostRuntime) {
-    let mut core: Core = core_of(&rt, 1);
+    let mut core: NumberCore = core_of(&rt, 1);
     equal(&rt, core.pop(), None);
     equal(&rt, [core.push(1), core.push(2)], [Ok(()), Err(2)]);
     equal(&rt, (core.len(), core.is_full()), (1, true));
@@ -59,7 +59,7 @@ fn a_push_and_a_pop(rt: HostRuntime) {
 
 #[test]
 fn counts_and_the_largest(rt: HostRuntime) {
-    let mut core: Core = core_of(&rt, 1);
+    let mut core: NumberCore = core_of(&rt, 1);
     equal(
         &rt,
         (core.add_sender(), core.add_receiver()),
@@ -69,7 +69,7 @@ fn counts_and_the_largest(rt: HostRuntime) {
     let gone = (core.send_side_gone(), core.receive_side_gone());
     equal(&rt, gone, (false, false));
     let most = u32::MAX;
-    let core = Core::starting_at(rt.alloc(), Some(1), 0, most, most);
+    let core = NumberCore::starting_at(rt.alloc(), Some(1), 0, most, most);
     let mut core = core.expect(&rt, "a core");
     let added = (core.add_sender(), core.add_receiver());
     equal(&rt, added, (Err(TooMany), Err(TooMany)));

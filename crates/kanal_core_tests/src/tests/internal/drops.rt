@@ -6,11 +6,11 @@ use kanal_given::{Counted, Drops};
 use std::alloc::AllocGlobal;
 use std::process::Abort;
 
-type Core = ChannelInternal<Counted, u8>;
+type CountedCore = ChannelInternal<Counted, u8>;
 
 /// A core with ten messages, whose ring went round: seven more had entered and were taken, and were dropped then.
-fn gone_round(rt: &(impl Abort + AllocGlobal), drops: &Drops) -> Core {
-    let mut core: Core = core_of(rt, 10);
+fn gone_round(rt: &(impl Abort + AllocGlobal), drops: &Drops) -> CountedCore {
+    let mut core: CountedCore = core_of(rt, 10);
     for number in 0..17u32 {
         enter(rt, &mut core, drops.message().expect(rt, "a message"));
         if number < 7 {

@@ -7,10 +7,10 @@ use kanal_core::internal::{ChannelInternal, Closing, Offer, Outcome, Reason, Ste
 use std::alloc::AllocGlobal;
 use std::marker::Brand;
 
-type Core = ChannelInternal<u64, Box<u32>>;
+type BoxCore = ChannelInternal<u64, Box<u32>>;
 
 /// The message of a take, and what the sender brought that it lets in.
-fn take(core: &mut Core) -> Option<(u64, Option<u32>)> {
+fn take(core: &mut BoxCore) -> Option<(u64, Option<u32>)> {
     match core.take() {
         Take::Got(message, Some(settled)) => Some((message, Some(*settled.w))),
         Take::Got(message, None) => Some((message, None)),
@@ -20,7 +20,7 @@ fn take(core: &mut Core) -> Option<(u64, Option<u32>)> {
 
 #[test]
 fn a_sender_is_let_in_and_a_receiver_is_handed(rt: HostRuntime) {
-    let mut core: Core = filled(&rt);
+    let mut core: BoxCore = filled(&rt);
     let ticket = send(&rt, &mut core, 2, boxed(&rt, 7));
     equal(&rt, ticket.number(), 0);
     equal(&rt, take(&mut core), Some((1, Some(7))));
@@ -35,7 +35,7 @@ fn a_sender_is_let_in_and_a_receiver_is_handed(rt: HostRuntime) {
 }
 
 /// The message of a wait that is withdrawn, and what it brought.
-fn withdraw(core: &mut Core, ticket: Ticket) -> Option<(Option<u64>, u32)> {
+fn withdraw(core: &mut BoxCore, ticket: Ticket) -> Option<(Option<u64>, u32)> {
     match core.withdraw(ticket, &mut Steps::<Brand>::idle()) {
         Some(waiter) => Some((waiter.message, *waiter.w)),
         None => None,
@@ -44,7 +44,7 @@ fn withdraw(core: &mut Core, ticket: Ticket) -> Option<(Option<u64>, u32)> {
 
 #[test]
 fn a_withdrawn_send(rt: HostRuntime) {
-    let mut core: Core = core_of(&rt, 0);
+    let mut core: BoxCore = core_of(&rt, 0);
     let ticket = send(&rt, &mut core, 5, boxed(&rt, 7));
     if let Some(w) = core.waiting(ticket) {
         **w = 8;
@@ -58,7 +58,7 @@ fn a_withdrawn_send(rt: HostRuntime) {
 /// The first and the second are withdrawn, and the third stands at the first's place.
 #[test]
 fn a_place_that_is_used_again(rt: HostRuntime) {
-    let mut core: Core = core_of(&rt, 0);
+    let mut core: BoxCore = core_of(&rt, 0);
     let oldest = send(&rt, &mut core, 1, boxed(&rt, 11));
     let second = send(&rt, &mut core, 2, boxed(&rt, 9));
     equal(&rt, withdraw(&mut core, oldest), Some((Some(1), 11)));
@@ -74,7 +74,7 @@ fn a_place_that_is_used_again(rt: HostRuntime) {
 
 #[test]
 fn a_close_ends_the_senders_that_wait(rt: HostRuntime) {
-    let mut core: Core = filled(&rt);
+    let mut core: BoxCore = filled(&rt);
     send(&rt, &mut core, 2, boxed(&rt, 7));
     let Closing {
         mut cleared,
@@ -90,20 +90,20 @@ fn a_close_ends_the_senders_that_wait(rt: HostRuntime) {
 
 #[test]
 fn the_end_of_one_side_ends_who_waits_on_the_other(rt: HostRuntime) {
-    let mut core: Core = core_of(&rt, 1);
+    let mut core: BoxCore = core_of(&rt, 1);
     receive(&rt, &mut core, boxed(&rt, 7));
     let mut ended = core.seal().ok().expect(&rt, "a seal");
     let outcome = Outcome::Ended(Reason::SendClosed, None);
     equal(&rt, next_end(&mut ended), Some((7, outcome)));
     holds(&rt, matches!(core.offer(2), Offer::Sealed(2)));
     // So does the drop of the last sender.
-    let mut core: Core = core_of(&rt, 1);
+    let mut core: BoxCore = core_of(&rt, 1);
     receive(&rt, &mut core, boxed(&rt, 7));
     let outcome = Outcome::Ended(Reason::SendClosed, None);
     let mut ended = core.drop_sender();
     equal(&rt, next_end(&mut ended), Some((7, outcome)));
     // And that of the last receiver ends the sends.
-    let mut core: Core = filled(&rt);
+    let mut core: BoxCore = filled(&rt);
     send(&rt, &mut core, 2, boxed(&rt, 8));
     let outcome = Outcome::Ended(Reason::ReceiveClosed, Some(2));
     let mut ended = core.drop_receiver();
@@ -112,7 +112,7 @@ fn the_end_of_one_side_ends_who_waits_on_the_other(rt: HostRuntime) {
 
 #[test]
 fn a_drain_takes_the_senders_that_wait(rt: HostRuntime) {
-    let mut core: Core = filled(&rt);
+    let mut core: BoxCore = filled(&rt);
     send(&rt, &mut core, 2, boxed(&rt, 7));
     send(&rt, &mut core, 3, boxed(&rt, 8));
     let mut messages = vec![in rt.alloc(); 9].expect(&rt, "memory for a vector");
@@ -128,14 +128,14 @@ fn a_drain_takes_the_senders_that_wait(rt: HostRuntime) {
 /// refused, and its message comes back, too.
 #[test]
 fn the_last_ticket_and_none(rt: HostRuntime) {
-    let core = Core::starting_at(rt.alloc(), Some(0), u64::MAX - 1, 1, 1);
+    let core = BoxCore::starting_at(rt.alloc(), Some(0), u64::MAX - 1, 1, 1);
     let mut core = core.expect(&rt, "a core");
     let ticket = receive(&rt, &mut core, boxed(&rt, 7));
     equal(&rt, ticket.number(), u64::MAX - 1);
     let answer = received(&mut core, boxed(&rt, 8)).expect(&rt, "it finds no message");
     let (reason, w) = answer.err().expect(&rt, "a refusal");
     equal(&rt, (reason, *w), (WaitError::TooMany, 8));
-    let core = Core::starting_at(rt.alloc(), Some(0), u64::MAX, 1, 1);
+    let core = BoxCore::starting_at(rt.alloc(), Some(0), u64::MAX, 1, 1);
     let mut core = core.expect(&rt, "a core");
     let answer = sent(&mut core, 6, boxed(&rt, 9)).expect(&rt, "it finds no place");
     let (reason, back, w) = answer.err().expect(&rt, "a refusal");

@@ -1,8 +1,8 @@
 use Rattle.std.proofs.Common.{◌≡◌, [], length}
-use Rattle.kanal_exchange.specs.Tales.{Tells}
+use Rattle.kanal_exchange.specs.Tales.{HasExchanged}
 use Rattle.kanal_exchange.proofs.exchange.receive_all.Given as goal
 
 -- so many messages were received so far, and the share stays
 abbrev pub invariant-loop-number : goal.invariant-loop-number
 invariant-loop-number g l =
-    record { received : Tells [] l.got.items l.pass; share : l.pass.share ≡ l.fn.pass.share; count : length l.got.items ≡ l._number }
+    record { received : HasExchanged [] l.got.items l.pass; share : l.pass.share ≡ l.fn.pass.share; count : length l.got.items ≡ l._number }

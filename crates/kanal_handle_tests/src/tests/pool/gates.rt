@@ -15,7 +15,7 @@ const FEW_TURNS: u32 = 20_000;
 
 /// Where jobs meet: how many are inside, how many are to be, and how many gave up waiting for the others.
 #[derive(Drop)]
-struct Meeting {
+struct MeetingJobs {
     inside: AtomicU64,
     wanted: u64,
     turns: u32,
@@ -23,10 +23,10 @@ struct Meeting {
     missed: AtomicU64,
 }
 
-impl Meeting {
+impl MeetingJobs {
     /// So many jobs are to be inside at once; each looks for the others so often.
     fn of(wanted: u64, turns: u32) -> Self {
-        Meeting {
+        MeetingJobs {
             inside: AtomicU64::new(0),
             wanted,
             turns,
@@ -36,7 +36,7 @@ impl Meeting {
     }
 }
 
-impl Gate for Meeting {
+impl Gate for MeetingJobs {
     fn enter(&self, _job: usize) {
         self.inside.fetch_add(1, SeqCst);
         for _ in 0..self.turns {
@@ -59,7 +59,7 @@ impl Gate for Meeting {
 fn two_jobs_meet_and_four(rt: HostRuntime) {
     for workers in [2, 4] {
         let jobs = squares(&rt, workers);
-        let meeting = Meeting::of(u64::from(workers), TURNS);
+        let meeting = MeetingJobs::of(u64::from(workers), TURNS);
         let answer = map_jobs(&rt, rt.alloc(), jobs.as_slice(), workers as usize, &meeting);
         let expected: &[u64] = if workers == 2 { &[0, 1] } else { &[0, 1, 4, 9] };
         gives(&rt, answer, expected);
@@ -71,7 +71,7 @@ fn two_jobs_meet_and_four(rt: HostRuntime) {
 #[test]
 fn no_more_jobs_at_once_than_workers(rt: HostRuntime) {
     let jobs = squares(&rt, 6);
-    let meeting = Meeting::of(3, FEW_TURNS);
+    let meeting = MeetingJobs::of(3, FEW_TURNS);
     let answer = map_jobs(&rt, rt.alloc(), jobs.as_slice(), 2, &meeting);
     gives(&rt, answer, &[0, 1, 4, 9, 16, 25]);
     equal(&rt, meeting.met.load(SeqCst), 0);

@@ -12,12 +12,12 @@ const TURNS: u32 = 1000;
 
 /// How many jobs were entered, and how many were left.
 #[derive(Drop)]
-struct Counts {
+struct EnterCounts {
     entered: AtomicU64,
     left: AtomicU64,
 }
 
-impl Gate for Counts {
+impl Gate for EnterCounts {
     fn enter(&self, _job: usize) {
         self.entered.fetch_add(1, SeqCst);
         thread::yield_now();
@@ -32,7 +32,7 @@ impl Gate for Counts {
 #[test]
 fn no_worker_goes_on_after_a_refusal(rt: HostRuntime) {
     let jobs = [Starved; 20];
-    let counts = Counts {
+    let counts = EnterCounts {
         entered: AtomicU64::new(0),
         left: AtomicU64::new(0),
     };

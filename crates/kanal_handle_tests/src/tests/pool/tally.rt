@@ -5,23 +5,23 @@ use std::sync::atomic::Ordering::SeqCst;
 
 /// How often a job was entered, was worked on between enter and leave, was worked on otherwise, and was left.
 #[derive(Drop)]
-pub struct Tally {
+pub struct GateTally {
     pub entered: AtomicU64,
     worked: AtomicU64,
     worked_outside: AtomicU64,
     pub left: AtomicU64,
 }
 
-impl Model for Tally {
+impl Model for GateTally {
     ghost Value = { Unit {0} };
 
     ghost view = { λ _. tt };
 }
 
-impl Tally {
+impl GateTally {
     /// Nothing happened.
     pub fn new() -> Self {
-        Tally {
+        GateTally {
             entered: AtomicU64::new(0),
             worked: AtomicU64::new(0),
             worked_outside: AtomicU64::new(0),

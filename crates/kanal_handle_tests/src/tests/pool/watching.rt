@@ -4,7 +4,7 @@ ghost use Rattle.std.proofs.Common.{rules};
 ghost use Rattle.std.proofs.lemmas.Bool.{eqb-true};
 ghost use Rattle.std.specs.Cmp.Rules.{comparing};
 
-use super::tally::Tally;
+use super::tally::GateTally;
 use crate::tests::given::{equal, holds};
 use kanal_pool::{Gate, Job, NoMemory, map_jobs};
 use std::alloc::AllocGlobal;
@@ -14,16 +14,16 @@ use std::sync::atomic::Ordering::SeqCst;
 #[derive(Drop)]
 struct Watched {
     number: u32,
-    tally: Tally,
+    tally: GateTally,
 }
 
 /// A gate that counts who passes it.
 #[derive(Drop)]
-struct Counter<'a> {
+struct Passers<'a> {
     jobs: &'a [Watched],
 }
 
-impl Gate for Counter<'_> {
+impl Gate for Passers<'_> {
     fn enter(&self, job: usize) {
         let jobs = self.jobs;
         if let Some(watched) = jobs.get(job) {
@@ -70,7 +70,7 @@ impl Job for Watched {
 fn fresh(number: u32) -> Watched {
     Watched {
         number,
-        tally: Tally::new(),
+        tally: GateTally::new(),
     }
 }
 
@@ -81,7 +81,7 @@ const ONCE: [u64; 4] = [1, 1, 0, 1];
 fn each_job_is_entered_worked_on_and_left_once(rt: HostRuntime) {
     for workers in [1, 2] {
         let jobs = [fresh(0), fresh(1), fresh(2)];
-        let done = map_jobs(&rt, rt.alloc(), &jobs, workers, &Counter { jobs: &jobs });
+        let done = map_jobs(&rt, rt.alloc(), &jobs, workers, &Passers { jobs: &jobs });
         holds(&rt, done.is_ok());
         let [first, second, third] = &jobs;
         equal(&rt, first.tally.counts(), ONCE);

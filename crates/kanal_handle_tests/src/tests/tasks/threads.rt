@@ -1,7 +1,7 @@
 //! One channel between threads that block and tasks that are run in threads.
 use super::given::{ends, receive_in_task, send_in_task};
 use crate::tests::given::{ends as sync_ends, equal, holds};
-use crate::tests::threads::starts::{Sent, start_numbers};
+use crate::tests::threads::starts::{SendResult, start_numbers};
 use kanal::{AsyncReceiver, AsyncSender};
 use std::alloc::AllocGlobal;
 use std::process::Abort;
@@ -14,7 +14,7 @@ fn send_in_tasks<R: Wait + Abort + RandomSource + AllocGlobal>(
     rt: &R,
     sender: &AsyncSender<u64>,
     end: u64,
-) -> Sent {
+) -> SendResult {
     for number in 0..end {
         send_in_task(rt, sender, number)?;
     }

@@ -1,6 +1,6 @@
 //! Four threads that send, and two that receive by short waits again and again, so that messages and
 //! deadlines meet: all that was sent arrives, once.
-use super::starts::{Sent, start_numbers};
+use super::starts::{SendResult, start_numbers};
 use crate::tests::given::{ends, equal};
 use kanal::error::ReceiveErrorTimeout;
 use kanal::{Receiver, SystemClock};
@@ -12,7 +12,7 @@ use std::{thread, time};
 
 /// How many messages came, and their sum.
 #[derive(Drop)]
-struct Tally {
+struct CountAndSum {
     count: u64,
     sum: u64,
 }
@@ -24,9 +24,9 @@ const LOOKS: u32 = 1_000_000;
 const TURN: u64 = 50;
 
 /// Receives by calls that wait for so short a time each, until the channel ends.
-fn receive_in_turns<R: Wait + time::Clock>(rt: &R, receiver: &Receiver<u64>) -> Tally {
+fn receive_in_turns<R: Wait + time::Clock>(rt: &R, receiver: &Receiver<u64>) -> CountAndSum {
     let clock = SystemClock::new(rt);
-    let mut tally = Tally { count: 0, sum: 0 };
+    let mut tally = CountAndSum { count: 0, sum: 0 };
     for _ in 0..LOOKS {
         match receiver.recv_timeout(rt, Duration::from_micros(TURN), &clock) {
             Ok(number) => {
@@ -47,7 +47,7 @@ const EACH: u64 = 100;
 const SUM: u64 = 4950;
 
 /// Ends the test unless all their sends went through.
-fn join_senders<R: Threads + Abort>(rt: &R, sending: Vec<JoinHandle<Sent>>) {
+fn join_senders<R: Threads + Abort>(rt: &R, sending: Vec<JoinHandle<SendResult>>) {
     for thread in sending {
         equal(rt, thread.join(rt), Ok(()));
     }

@@ -1,5 +1,5 @@
 //! One handle that several threads use at once, through a reference.
-use super::starts::{Sent, start_numbers};
+use super::starts::{SendResult, start_numbers};
 use crate::tests::given::{ends, equal};
 use kanal::{Receiver, Sender};
 use std::sync::Wait;
@@ -7,15 +7,15 @@ use std::thread;
 
 /// Who sent a message.
 #[derive(Drop, Clone, Copy)]
-enum Party {
+enum Author {
     Left,
     Right,
 }
 
 /// A message with its sender's name and its place among those of that sender.
 #[derive(Drop, Clone, Copy)]
-struct Note {
-    from: Party,
+struct Letter {
+    from: Author,
     number: u64,
 }
 
@@ -23,21 +23,21 @@ struct Note {
 const NOTES: u64 = 200;
 
 /// Sends the notes of one party.
-fn send_notes<R: Wait>(rt: &R, sender: &Sender<Note>, from: Party) -> Sent {
+fn send_notes<R: Wait>(rt: &R, sender: &Sender<Letter>, from: Author) -> SendResult {
     for number in 0..NOTES {
-        sender.send(rt, Note { from, number })?;
+        sender.send(rt, Letter { from, number })?;
     }
     Ok(())
 }
 
 /// Receives all notes; how many came from each party, and `None` where one is missing or comes too early.
-fn receive_notes<R: Wait>(rt: &R, receiver: &Receiver<Note>) -> Option<(u64, u64)> {
+fn receive_notes<R: Wait>(rt: &R, receiver: &Receiver<Letter>) -> Option<(u64, u64)> {
     let (mut left, mut right) = (0u64, 0u64);
     for _ in 0..2 * NOTES {
         let note = receiver.recv(rt).ok()?;
         let next = match note.from {
-            Party::Left => &mut left,
-            Party::Right => &mut right,
+            Author::Left => &mut left,
+            Author::Right => &mut right,
         };
         if *next != note.number {
             return None;
@@ -51,14 +51,14 @@ fn receive_notes<R: Wait>(rt: &R, receiver: &Receiver<Note>) -> Option<(u64, u64
 #[test]
 fn two_threads_share_a_sender(rt: HostRuntime) {
     for capacity in [0, 2] {
-        let (sender, receiver) = ends::<Note>(&rt, capacity);
+        let (sender, receiver) = ends::<Letter>(&rt, capacity);
         let (sent, counts) = thread::join(
             &rt,
             || {
                 thread::join(
                     &rt,
-                    || send_notes(&rt, &sender, Party::Left),
-                    || send_notes(&rt, &sender, Party::Right),
+                    || send_notes(&rt, &sender, Author::Left),
+                    || send_notes(&rt, &sender, Author::Right),
                 )
             },
             || receive_notes(&rt, &receiver),

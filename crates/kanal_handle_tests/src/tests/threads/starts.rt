@@ -7,7 +7,7 @@ use std::thread;
 use std::thread::{JoinHandle, Threads};
 
 /// What a thread that sends answers.
-pub type Sent = Result<(), SendError>;
+pub type SendResult = Result<(), SendError>;
 
 /// Sends in a thread the numbers from the first up to the one before the end, or until a send is refused.
 pub fn start_numbers<R: Threads + Wait + Abort + Copy + Send + 'static>(
@@ -15,7 +15,7 @@ pub fn start_numbers<R: Threads + Wait + Abort + Copy + Send + 'static>(
     sender: Sender<u64>,
     first: u64,
     end: u64,
-) -> JoinHandle<Sent> {
+) -> JoinHandle<SendResult> {
     let sending = thread::spawn(&rt, move || {
         for number in first..end {
             sender.send(&rt, number)?;

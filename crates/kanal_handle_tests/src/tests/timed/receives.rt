@@ -12,7 +12,7 @@ use std::time::Duration;
 
 /// What became of a channel with one place before the receive.
 #[derive(Drop, Clone, Copy)]
-enum Channel {
+enum Before {
     /// It is empty, and has a sender.
     Empty,
     /// It holds the message 4, and its sender is gone.
@@ -25,8 +25,8 @@ enum Channel {
 
 /// For how many nanoseconds a receive waits, by a clock that stands at a moment for so many reads and at
 /// another then, and its answer.
-type Row = (
-    Channel,
+type TimedCase = (
+    Before,
     u64,
     (u64, u64, u64),
     Result<u64, ReceiveErrorTimeout>,
@@ -36,40 +36,40 @@ const LAST: u64 = u64::MAX;
 
 const HOUR: u64 = 3_600_000_000_000;
 
-const ROWS: &[Row] = &[
+const ROWS: &[TimedCase] = &[
     // The last moment is a deadline.
-    (Channel::Empty, 1, (LAST - 1, 1, LAST), Err(Timeout)),
+    (Before::Empty, 1, (LAST - 1, 1, LAST), Err(Timeout)),
     // A missing sender is told at the deadline.
-    (Channel::Alone, 1, (LAST - 1, 1, LAST), Err(SendClosed)),
+    (Before::Alone, 1, (LAST - 1, 1, LAST), Err(SendClosed)),
     // A late receive takes what is there, and doesn't look at the senders.
-    (Channel::Last, 0, (0, 1, 1), Ok(4)),
-    (Channel::Alone, 0, (0, 1, 1), Err(Timeout)),
-    (Channel::Shut, 0, (0, 1, 1), Err(Closed)),
+    (Before::Last, 0, (0, 1, 1), Ok(4)),
+    (Before::Alone, 0, (0, 1, 1), Err(Timeout)),
+    (Before::Shut, 0, (0, 1, 1), Err(Closed)),
     // A clock that stands at the deadline is not late.
-    (Channel::Alone, 0, (0, 1, 0), Err(SendClosed)),
-    (Channel::Empty, 0, (0, 1, 0), Err(Timeout)),
+    (Before::Alone, 0, (0, 1, 0), Err(SendClosed)),
+    (Before::Empty, 0, (0, 1, 0), Err(Timeout)),
     // A deadline out of range comes before the channel.
-    (Channel::Shut, 1, (LAST, 1, LAST), Err(DeadlineOutOfRange)),
+    (Before::Shut, 1, (LAST, 1, LAST), Err(DeadlineOutOfRange)),
     // A wait looks at its clock again.
-    (Channel::Empty, HOUR, (0, 100, HOUR), Err(Timeout)),
+    (Before::Empty, HOUR, (0, 100, HOUR), Err(Timeout)),
 ];
 
 /// What a receive answers on such a channel for so many nanoseconds by this clock.
 fn answer<R: Abort + Wait + time::Clock + AllocGlobal>(
     rt: &R,
-    channel: Channel,
+    channel: Before,
     nanoseconds: u64,
     clock: &Turning,
 ) -> Result<u64, ReceiveErrorTimeout> {
     let (sender, receiver) = ends(rt, 1);
     match channel {
-        Channel::Empty | Channel::Alone => {},
-        Channel::Last => equal(rt, sender.send(rt, 4), Ok(())),
-        Channel::Shut => equal(rt, sender.close(rt), Ok(())),
+        Before::Empty | Before::Alone => {},
+        Before::Last => equal(rt, sender.send(rt, 4), Ok(())),
+        Before::Shut => equal(rt, sender.close(rt), Ok(())),
     }
     let _kept = match channel {
-        Channel::Empty => Some(sender),
-        Channel::Alone | Channel::Last | Channel::Shut => {
+        Before::Empty => Some(sender),
+        Before::Alone | Before::Last | Before::Shut => {
             drop(sender);
             None
         },

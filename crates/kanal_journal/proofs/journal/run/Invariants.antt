@@ -1,5 +1,5 @@
 use Rattle.std.proofs.Common.{◌≡◌, length, vec_len, vec_capacity}
-use Rattle.kanal_journal.specs.Runs.{Leads, opening}
+use Rattle.kanal_journal.specs.Runs.{Leads, opening_account}
 use Rattle.kanal_journal.specs.Running.{IsWithinEvents, HasRoom, account_of}
 use Rattle.kanal_journal.proofs.journal.run.Given as goal
 
@@ -7,7 +7,7 @@ use Rattle.kanal_journal.proofs.journal.run.Given as goal
 abbrev pub invariant-loop-event : goal.invariant-loop-event
 invariant-loop-event g l =
     record {
-      leads : Leads (opening l.fn.capacity) l.yielded (account_of l.replies.items l.running);
+      leads : Leads (opening_account l.fn.capacity) l.yielded (account_of l.replies.items l.running);
       within : IsWithinEvents (length l.yielded) l.running;
       count : vec_len l.replies ≡ length l.yielded;
       room : HasRoom l.steps l.running;

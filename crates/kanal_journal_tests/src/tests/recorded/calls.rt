@@ -1,7 +1,7 @@
 //! Each call of a pass with ample memory, what a pass keeps of its calls, and how passes are numbered.
 use crate::tests::given::{equal, holds};
 use crate::tests::recorded::parties::{channel, pass};
-use crate::tests::recorded::rows::{Row, ends_with, played};
+use crate::tests::recorded::rows::{CallRow, ends_with, played};
 use kanal_journal::journal::Event::*;
 use kanal_journal::journal::{Ask, Refusal, Reply, Side};
 
@@ -15,7 +15,7 @@ fn nine_parties(rt: HostRuntime) {
 }
 
 /// A message that the second party finds at its second try.
-const FOUND: &[Row] = &[
+const FOUND: &[CallRow] = &[
     (1, TryRecv, Reply::Nothing),
     (0, TrySend(7), Reply::Yes),
     (1, TryRecv, Reply::Got(7)),
@@ -33,7 +33,7 @@ fn what_a_pass_keeps(rt: HostRuntime) {
 }
 
 /// Lists of calls, each with the capacity of its channel.
-const LISTS: &[(Option<usize>, &[Row])] = &[
+const LISTS: &[(Option<usize>, &[CallRow])] = &[
     (Some(1), FOUND),
     // A message of another party.
     (

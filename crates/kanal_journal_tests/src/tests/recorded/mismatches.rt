@@ -1,7 +1,7 @@
 //! Lists that don't agree with the journal.
 use crate::tests::given::{equal, holds};
 use crate::tests::recorded::parties::{Parties, add, both, channel, finish, pass};
-use crate::tests::recorded::rows::{Row, played};
+use crate::tests::recorded::rows::{CallRow, played};
 use kanal_journal::journal::{Ask, Event, Reply, Side};
 use kanal_recorded::{Mismatch, Pass, Recorded};
 use std::alloc::AllocGlobal;
@@ -22,7 +22,7 @@ fn told_of(rt: &impl Abort, channel: Recorded<u64>, passes: Vec<Pass<u64>>) -> M
 }
 
 /// The first party sends, and the second receives.
-const HAND_OVER: &[Row] = &[
+const HAND_OVER: &[CallRow] = &[
     (0, Event::TrySend(7), Reply::Yes),
     (1, Event::TryRecv, Reply::Got(7)),
 ];

@@ -8,7 +8,7 @@ use std::process::Abort;
 use std::sync::Wait;
 
 /// A call of party 0 or 1, with its answer.
-pub type Row = (u32, Event<u64>, Reply<u64>);
+pub type CallRow = (u32, Event<u64>, Reply<u64>);
 
 /// Makes the pass's call of this event.
 fn call<R: Wait>(
@@ -40,7 +40,7 @@ fn call<R: Wait>(
 pub fn played<R: Abort + Wait + AllocGlobal>(
     rt: &R,
     capacity: Option<usize>,
-    rows: &[Row],
+    rows: &[CallRow],
 ) -> Parties {
     let Parties {
         channel,
@@ -58,7 +58,7 @@ pub fn played<R: Abort + Wait + AllocGlobal>(
 }
 
 /// Plays the calls; their passes agree with the journal, which has them in their order, and the capacity.
-pub fn ends_with<R: Abort + Wait + AllocGlobal>(rt: &R, capacity: Option<usize>, rows: &[Row]) {
+pub fn ends_with<R: Abort + Wait + AllocGlobal>(rt: &R, capacity: Option<usize>, rows: &[CallRow]) {
     let journal = end(rt, played(rt, capacity, rows));
     equal(rt, journal.capacity, capacity);
     equal(rt, journal.entries.len(), rows.len());

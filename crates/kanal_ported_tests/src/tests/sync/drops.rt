@@ -12,7 +12,7 @@ use std::sync::{Arc, Wait};
 use std::thread;
 
 /// The counter that the messages share.
-type Drops = Arc<AtomicU64, Global>;
+type DropCount = Arc<AtomicU64, Global>;
 
 /// How many messages each thread sends, and receives.
 const EACH: u64 = MESSAGES / THREADS;
@@ -21,7 +21,7 @@ const EACH: u64 = MESSAGES / THREADS;
 fn send_testers<R: Wait + Abort>(
     rt: &R,
     tx: &Sender<DropTester>,
-    drops: &Drops,
+    drops: &DropCount,
     count: u64,
     expected: Result<(), SendError>,
 ) {

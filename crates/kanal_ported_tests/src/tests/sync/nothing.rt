@@ -2,7 +2,7 @@
 use super::given::new;
 use super::ring::round_the_end;
 use crate::tests::given::{counter, holds, wait_until};
-use crate::tests::messages::Nothing;
+use crate::tests::messages::NoBytes;
 use kanal::{Receiver, Sender};
 use std::process::Abort;
 use std::sync::Wait;
@@ -14,7 +14,7 @@ use std::thread;
 const FEW: u64 = 10;
 
 /// Sends each message once its receive has begun.
-fn send_late<R: Wait + Abort>(rt: &R, tx: &Sender<Nothing>, begun: &AtomicU64) {
+fn send_late<R: Wait + Abort>(rt: &R, tx: &Sender<NoBytes>, begun: &AtomicU64) {
     for number in 0..FEW {
         wait_until(rt, begun, number + 1);
         holds(rt, tx.send(rt, []).is_ok());
@@ -22,7 +22,7 @@ fn send_late<R: Wait + Abort>(rt: &R, tx: &Sender<Nothing>, begun: &AtomicU64) {
 }
 
 /// Receives the messages, and counts each receive as it begins.
-fn receive_and_tell<R: Wait + Abort>(rt: &R, rx: &Receiver<Nothing>, begun: &AtomicU64) {
+fn receive_and_tell<R: Wait + Abort>(rt: &R, rx: &Receiver<NoBytes>, begun: &AtomicU64) {
     for _ in 0..FEW {
         begun.fetch_add(1, SeqCst);
         holds(rt, rx.recv(rt).is_ok());
@@ -31,7 +31,7 @@ fn receive_and_tell<R: Wait + Abort>(rt: &R, rx: &Receiver<Nothing>, begun: &Ato
 
 #[test]
 fn spsc_overaligned_zst(rt: HostRuntime) {
-    let (tx, rx) = new::<Nothing>(&rt, Some(0));
+    let (tx, rx) = new::<NoBytes>(&rt, Some(0));
     let begun = counter(&rt);
     thread::join(
         &rt,
@@ -42,5 +42,5 @@ fn spsc_overaligned_zst(rt: HostRuntime) {
 
 #[test]
 fn nothing_through_a_buffer(rt: HostRuntime) {
-    round_the_end::<Nothing, _>(&rt, [], [], []);
+    round_the_end::<NoBytes, _>(&rt, [], [], []);
 }

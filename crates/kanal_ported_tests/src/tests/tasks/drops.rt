@@ -13,7 +13,7 @@ use std::thread;
 use std::thread::Threads;
 
 /// The counter that the messages share.
-type Drops = Arc<AtomicU64, Global>;
+type DropCount = Arc<AtomicU64, Global>;
 
 /// How many messages each task sends, and receives.
 const EACH: u64 = MESSAGES / THREADS;
@@ -22,7 +22,7 @@ const EACH: u64 = MESSAGES / THREADS;
 fn send_testers<R: Wait + Abort + RandomSource + AllocGlobal>(
     rt: &R,
     tx: &AsyncSender<DropTester>,
-    drops: &Drops,
+    drops: &DropCount,
     count: u64,
     expected: Result<(), SendError>,
 ) {
@@ -119,7 +119,7 @@ fn drop_test_in_unused_signal(rt: HostRuntime) {
 }
 
 /// Ten tasks send one message each, which goes or is refused, each through a clone of its own.
-fn send_from_ten<R>(rt: &R, tx: &AsyncSender<DropTester>, drops: &Drops)
+fn send_from_ten<R>(rt: &R, tx: &AsyncSender<DropTester>, drops: &DropCount)
 where
     R: Threads + Wait + Abort + RandomSource + AllocGlobal + Sync,
 {

@@ -2,19 +2,19 @@
 use super::given::new;
 use super::integrity::pass_both;
 use crate::tests::given::{MESSAGES, equal, holds};
-use crate::tests::messages::Nothing;
+use crate::tests::messages::NoBytes;
 use futures::task::Poll;
 use futures::test::MockTask;
 
 #[test]
 fn spsc_overaligned_zst(rt: HostRuntime) {
-    pass_both::<Nothing, _>(&rt, ([], []), MESSAGES / 2);
+    pass_both::<NoBytes, _>(&rt, ([], []), MESSAGES / 2);
 }
 
 /// A send waits with its message, and a receive takes it from there.
 #[test]
 fn nothing_through_a_waiting_senders_slot(rt: HostRuntime) {
-    let (tx, rx) = new::<Nothing>(&rt, Some(0));
+    let (tx, rx) = new::<NoBytes>(&rt, Some(0));
     let task = MockTask::new(&rt).expect(&rt, "a task");
     let mut sending = tx.send([]);
     holds(&rt, task.poll(&mut sending).is_pending());
@@ -25,7 +25,7 @@ fn nothing_through_a_waiting_senders_slot(rt: HostRuntime) {
 /// A receive waits, and is handed the message through its cell.
 #[test]
 fn nothing_through_a_cell(rt: HostRuntime) {
-    let (tx, rx) = new::<Nothing>(&rt, Some(0));
+    let (tx, rx) = new::<NoBytes>(&rt, Some(0));
     let task = MockTask::new(&rt).expect(&rt, "a task");
     let mut receiving = rx.recv();
     holds(&rt, task.poll(&mut receiving).is_pending());

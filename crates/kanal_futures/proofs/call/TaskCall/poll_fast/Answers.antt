@@ -5,7 +5,7 @@ use Rattle.kanal_futures.proofs.call.TaskCall.poll_fast.Goals as goal
 pub new-requires : goal.new-requires
 new-requires g c =
     let w = g.H.History.relations in
-    let a = g.A.Asks in
+    let a = g.A.Operation in
     let pass = c.make_fast.new.pass in
     let answer = c.in-Ok.answer in
     let opening = c.of-opening in

@@ -8,7 +8,7 @@ use std::thread;
 
 /// The forms of a send that doesn't wait for a receiver.
 #[derive(Clone, Copy)]
-enum Sending {
+enum TrySendBy {
     Try,
     TryRealtime,
     TryOption,
@@ -17,15 +17,15 @@ enum Sending {
 
 /// Sends the number by this form as soon as it is taken, from the option where the form takes one. The test
 /// ends unless the option holds it until then.
-fn send_by<R: Wait + Abort>(rt: &R, s: &Sender<u64>, form: Sending) {
+fn send_by<R: Wait + Abort>(rt: &R, s: &Sender<u64>, form: TrySendBy) {
     let mut option = Some(1);
     for _ in 0..TURNS {
         assert!(rt; option.is_some());
         let answer = match form {
-            Sending::Try => s.try_send(rt, 1),
-            Sending::TryRealtime => s.try_send_realtime(1),
-            Sending::TryOption => s.try_send_option(rt, &mut option),
-            Sending::TryOptionRealtime => s.try_send_option_realtime(&mut option),
+            TrySendBy::Try => s.try_send(rt, 1),
+            TrySendBy::TryRealtime => s.try_send_realtime(1),
+            TrySendBy::TryOption => s.try_send_option(rt, &mut option),
+            TrySendBy::TryOptionRealtime => s.try_send_option_realtime(&mut option),
         };
         if answer == Ok(true) {
             return;
@@ -39,10 +39,10 @@ fn send_by<R: Wait + Abort>(rt: &R, s: &Sender<u64>, form: Sending) {
 #[test]
 fn sends_that_do_not_wait(rt: HostRuntime) {
     let forms = [
-        Sending::Try,
-        Sending::TryRealtime,
-        Sending::TryOption,
-        Sending::TryOptionRealtime,
+        TrySendBy::Try,
+        TrySendBy::TryRealtime,
+        TrySendBy::TryOption,
+        TrySendBy::TryOptionRealtime,
     ];
     for form in forms {
         let (s, r) = new::<u64>(&rt, Some(0));
@@ -66,17 +66,17 @@ fn send(rt: HostRuntime) {
 
 /// The forms of a receive that doesn't wait for a sender.
 #[derive(Clone, Copy)]
-enum Receiving {
+enum TryRecvBy {
     Try,
     TryRealtime,
 }
 
 /// Receives the word by this form as soon as it is there.
-fn receive_by<R: Wait + Abort>(rt: &R, r: &Receiver<&'static str>, form: Receiving, word: &str) {
+fn receive_by<R: Wait + Abort>(rt: &R, r: &Receiver<&'static str>, form: TryRecvBy, word: &str) {
     for _ in 0..TURNS {
         let answer = match form {
-            Receiving::Try => r.try_recv(rt),
-            Receiving::TryRealtime => r.try_recv_realtime(),
+            TryRecvBy::Try => r.try_recv(rt),
+            TryRecvBy::TryRealtime => r.try_recv_realtime(),
         };
         if answer == Ok(Some(word)) {
             return;
@@ -89,7 +89,7 @@ fn receive_by<R: Wait + Abort>(rt: &R, r: &Receiver<&'static str>, form: Receivi
 /// A thread sends a word, and another receives it by each form.
 #[test]
 fn receives_that_do_not_wait(rt: HostRuntime) {
-    for form in [Receiving::Try, Receiving::TryRealtime] {
+    for form in [TryRecvBy::Try, TryRecvBy::TryRealtime] {
         let (s, r) = new::<&'static str>(&rt, Some(0));
         thread::join(
             &rt,

@@ -19,7 +19,7 @@ fn clones_for_threads(rt: HostRuntime) {
 
 /// How a handle for tasks serves a thread.
 #[derive(Clone, Copy)]
-enum Served {
+enum ServedThread {
     /// It becomes one for threads.
     Converted,
     /// It is lent as a view for threads.
@@ -30,13 +30,13 @@ enum Served {
 /// round.
 #[test]
 fn handles_that_serve_a_thread(rt: HostRuntime) {
-    for how in [Served::Converted, Served::Lent] {
+    for how in [ServedThread::Converted, ServedThread::Lent] {
         let (s, r) = new::<&'static str>(&rt, Some(0));
         thread::join(
             &rt,
             move || match how {
-                Served::Converted => send_blocking(&rt, &s.to_sync(), "World"),
-                Served::Lent => equal(&rt, s.as_sync().send(&rt, "World"), Ok(())),
+                ServedThread::Converted => send_blocking(&rt, &s.to_sync(), "World"),
+                ServedThread::Lent => equal(&rt, s.as_sync().send(&rt, "World"), Ok(())),
             },
             || receive_one(&rt, &r, "World"),
         );
@@ -44,8 +44,8 @@ fn handles_that_serve_a_thread(rt: HostRuntime) {
         thread::join(
             &rt,
             move || match how {
-                Served::Converted => receive_blocking(&rt, &r.to_sync(), "World"),
-                Served::Lent => equal(&rt, r.as_sync().recv(&rt), Ok("World")),
+                ServedThread::Converted => receive_blocking(&rt, &r.to_sync(), "World"),
+                ServedThread::Lent => equal(&rt, r.as_sync().recv(&rt), Ok("World")),
             },
             || send_one(&rt, &s, "World"),
         );

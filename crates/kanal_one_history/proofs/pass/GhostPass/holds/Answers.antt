@@ -4,7 +4,7 @@ use Rattle.kanal_one_history.proofs.Accounts.{leads_as_told}
 use Rattle.kanal_one_history.proofs.Firsts.{waits_come_first}
 use Rattle.kanal_one_history.proofs.Pairing.{legal_paired_at}
 use Rattle.kanal_one_history.proofs.Waits.{each_ends_once, waits_as_settled}
-use Rattle.kanal_one_history.proofs.pass.Pass.holds.Goals as goal
+use Rattle.kanal_one_history.proofs.pass.GhostPass.holds.Goals as goal
 
 pub returns-clause-paired : goal.returns-clause-paired
 returns-clause-paired g c n =

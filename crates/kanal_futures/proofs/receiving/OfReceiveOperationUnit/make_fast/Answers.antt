@@ -1,5 +1,5 @@
 use Rattle.kanal_state.proofs.Settling.{received_at_once}
-use Rattle.kanal_futures.proofs.receiving.OfReceiveAsksUnit.make_fast.Goals as goal
+use Rattle.kanal_futures.proofs.receiving.OfReceiveOperationUnit.make_fast.Goals as goal
 
 pub returns-clause-made : goal.returns-clause-made
 returns-clause-made g c =

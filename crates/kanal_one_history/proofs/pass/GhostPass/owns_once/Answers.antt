@@ -1,6 +1,6 @@
 use Rattle.std.proofs.Common.{subst}
 use Rattle.kanal_log.specs.Views.{AreDisjoint}
-use Rattle.kanal_one_history.proofs.pass.Pass.owns_once.Goals as goal
+use Rattle.kanal_one_history.proofs.pass.GhostPass.owns_once.Goals as goal
 
 pub returns-clause-apart : goal.returns-clause-apart
 returns-clause-apart g c =

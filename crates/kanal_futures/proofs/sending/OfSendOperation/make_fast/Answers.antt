@@ -1,5 +1,5 @@
 use Rattle.kanal_state.proofs.Settling.{sent_at_once}
-use Rattle.kanal_futures.proofs.sending.OfSendAsks.make_fast.Goals as goal
+use Rattle.kanal_futures.proofs.sending.OfSendOperation.make_fast.Goals as goal
 
 pub returns-clause-made : goal.returns-clause-made
 returns-clause-made g c =

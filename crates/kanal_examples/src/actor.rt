@@ -1,9 +1,7 @@
 //! An actor: a counter in a thread of its own, which only its messages reach.
 //!
-//! A request that wants an answer brings the sender of a channel for one message, and its caller waits
-//! on the other end. The mailbox ends by a seal: what was in it before is still answered, what comes
-//! later is refused (`kanal_core`, `ChannelInternal::seal`). No lock is seen here, and no count is lost:
-//! each request is received once (`offer` and `take`).
+//! A request that wants an answer brings the sender of a channel for one message. The mailbox ends by a seal: what
+//! was in it before is still answered, and what comes later is refused.
 mod counter;
 
 use anyhow::Result;

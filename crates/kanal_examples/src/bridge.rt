@@ -1,9 +1,6 @@
-//! A bridge from a thread to a task and back: a thread sends numbers, a task squares what comes to it,
-//! and the main thread prints the squares.
+//! A bridge from a thread to a task and back: a thread sends numbers, a task squares them, and `main` prints them.
 //!
-//! A channel has no kind: its handles have, and each is turned into the other without a cost. The
-//! squares come in the order of the numbers, since both channels are first in, first out, whoever sends
-//! and whoever receives (`kanal_core`, `ChannelInternal::offer` and `take`).
+//! A channel has no kind: its handles have, and each is turned into the other without a cost.
 use anyhow::Result;
 use futures::executor::block_on;
 use futures::{StreamExt, TryStreamExt};

@@ -1,8 +1,6 @@
-//! The examples, each a module that reads by itself, one after the other; below a heading with its name
-//! each prints what it finds.
+//! The examples, each a module that reads by itself; each prints what it finds below its name.
 //!
-//! `kanal_examples NAME` runs that one alone, and `kanal_examples primes COUNT WORKERS` counts the primes
-//! of so many ranges by so many workers.
+//! `kanal_examples NAME` runs one alone, `kanal_examples primes COUNT WORKERS` with other numbers.
 #![tactic(auto)]
 
 mod actor;

@@ -1,8 +1,6 @@
 //! Two threads on a recorded channel, whose history is checked at the end and printed.
 //!
-//! One thread sends 7 and hands on what it has seen; the other hears that, and only then receives. So
-//! its call stands behind the send in every history that can be checked, and the output is the same
-//! each time.
+//! The sender hands on what it has seen, and the receiver hears that first: so the history is the same each time.
 use anyhow::{Result, anyhow};
 use kanal_recorded::{Pass, Recorded, Seen};
 use std::alloc::AllocGlobal;

@@ -1,10 +1,7 @@
-//! Runs each exchange at the capacities 0 and 4 and without limit, and prints what came out; and then counts
-//! the words of standard input in a pipeline.
+//! Runs each exchange at the capacities 0 and 4 and without limit, prints what came out, and counts words.
 //!
-//! The contracts of `kanal_exchange` say what comes out. How the two lists of `gathered` are merged differs from run
-//! to run, so only their number is printed of them. Of a refused one it prints the error, and how many messages were
-//! dropped. With the word `few` it runs each with a few messages instead, and prints what was refused for want of
-//! memory.
+//! Of lists that are merged otherwise in each run it prints the number of messages. With the word `few` it prints
+//! what was refused for want of memory, and how many messages were dropped.
 #![tactic(auto)]
 
 mod calls;

@@ -1,10 +1,7 @@
-//! Counts lines and words of standard input in a pipeline of four threads: the first sends the lines, the
-//! second counts each line's words, the third is slow, and the fourth receives the counts.
+//! Counts lines and words of standard input in a pipeline of four threads, of which the third is slow.
 //!
-//! A stage that is slower than the one before it holds that one back: a bounded channel is full then, and a
-//! send waits. How many counts waited for the slow stage at most goes to standard error, since no two runs
-//! agree on it. That each line was counted once, in its order, is the contract of `mapped_by_two` of
-//! `kanal_exchange`.
+//! A bounded channel before a slow stage is full, and a send waits. How many counts waited at most goes to standard
+//! error, since no two runs agree on it.
 mod slow;
 mod words;
 

@@ -1,8 +1,6 @@
-//! Tests of the handles: for threads on one thread, between threads, by deadlines, and for tasks; and of the
-//! pool.
+//! Tests of the handles, for threads, by deadlines and for tasks, and of the pool.
 //!
-//! Threads are joined, tasks are polled by hand or run to their end, and each test has one output
-//! whatever the schedule.
+//! Threads are joined, tasks are polled to their end, and each test has one output whatever the schedule.
 #![tactic(auto)]
 
 #[cfg(test)]

@@ -1,7 +1,6 @@
 //! Compares the answers that `serve` gives with stored ones.
 //!
-//! A file holds scripts one after another: a line `script N`, the script's lines, a line `answers`,
-//! the lines of its answer, and a line `end`. It stands on `kanal_script::serve` alone.
+//! A file holds scripts, each between the lines `script N`, `answers` and `end`.
 use kanal_script::serve;
 use std::alloc::{AllocError, Global};
 use std::fmt;

@@ -1,13 +1,8 @@
-//! Calls in which any request for memory may be refused, and calls that take none: of the core, the cell,
-//! the handles, the futures and a pool, and lists of events and calls of passes.
+//! Calls in which any request for memory may be refused, and calls that take none.
 //!
-//! Each call answers as with ample memory, or with a want of memory that left things as they were;
-//! then it is made again. It prints how many were refused, and its status is 0 where that is so of
-//! every call, and else 1. `scripts/refuse-memory` runs it with one request after another refused. The
-//! thread that serves a blocked call asks for no memory, so the requests come in one order.
-//!
-//! `kanal_refusals setup` makes what the calls need that take no memory, and `kanal_refusals calls` makes it
-//! and then them: both runs ask for memory as often, which that script counts.
+//! Each answers as with ample memory, or with a want of memory that left things as they were; then it is made again.
+//! The status is 0 where that is so of each. `scripts/refuse-memory` runs it with one request after another refused;
+//! `setup` makes what the calls need that take no memory, and `calls` makes it and then them.
 #![tactic(auto)]
 
 mod answer;

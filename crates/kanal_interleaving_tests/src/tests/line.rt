@@ -1,8 +1,6 @@
-//! A channel as its rules tell it: one line of messages, the receivers that wait, and two counts.
+//! A channel as docs/RULES.md tells it: one line of messages, the receivers that wait, and two counts.
 //!
-//! It is written from docs/RULES.md, and has nothing of the core: no buffer, no tickets and no cells.
-//! Messages are numbers. A message that waits has the number of the send that waits with it, and a
-//! receiver that waits has a number, too.
+//! It has nothing of the core. Messages, and receivers that wait, are numbers.
 use kanal::error::{CloseError, ReceiveError, SendError};
 use std::alloc::{AllocGlobal, Global};
 use std::collections::VecDeque;

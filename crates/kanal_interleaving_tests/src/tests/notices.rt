@@ -1,8 +1,7 @@
 //! Races of notices: one thread drops handles while another has the lock for a call that doesn't wait.
 //!
-//! Whoever had the lock, or left the notice, applies it: a receive that the last drop ends is told before
-//! anybody makes a further call. The threads meet right before: a round in which they don't fails the test.
-//! Whether a drop finds the lock held is left to the schedule.
+//! Whoever had the lock, or left the notice, applies it: a receive that the last drop ends is told before any
+//! further call. Whether a drop finds the lock held is left to the schedule.
 use crate::tests::given::{equal, holds, new_task};
 use crate::tests::meeting::{Meeting, shared};
 use crate::tests::watch::Watchdog;

@@ -1,8 +1,6 @@
 //! Races: in each round one thread closes, drops or seals a channel while this one makes a call on it.
 //!
-//! Whoever comes first, the call has an answer that the rules have for one of the orders, and each message
-//! is dropped once. The two threads meet right before: a round in which they don't fails the test. Who is
-//! first after that is left to the schedule, and a round that doesn't end fails the test, too.
+//! The call has an answer that the rules have for one of the orders, and each message is dropped once.
 use crate::tests::counted::{DropCounts, Numbered};
 use crate::tests::given::{equal, holds, new_task};
 use crate::tests::meeting::{Meeting, shared};

@@ -1,10 +1,7 @@
-//! Races: in each round this thread drops a receive that waits, while another ends the channel, or sends to
-//! it, or does both.
+//! Races: in each round this thread drops a receive that waits, while another ends the channel or sends to it.
 //!
-//! Whoever comes first, each message is dropped or received once, and the counts and the length are right.
-//! In a tenth of the rounds the drop is surely first, in another tenth the other thread is, and what follows
-//! from that is asked. In the rest the two threads meet right before, and the schedule has the order. A round
-//! in which they don't meet fails the test, and so does one that doesn't end.
+//! Each message is dropped or received once. In a tenth of the rounds the drop is surely first, in another tenth the
+//! other thread is; in the rest the schedule has the order.
 use crate::tests::counted::{DropCounts, Numbered};
 use crate::tests::given::{equal, holds, new_task};
 use crate::tests::meeting::{Meeting, shared};

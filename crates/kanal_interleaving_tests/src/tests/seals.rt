@@ -1,9 +1,6 @@
-//! Races of a seal: in each round one thread seals a channel while this one sends a message to it, and then
-//! receives what is there.
+//! Races of a seal: in each round one thread seals a channel while this one sends to it, and then receives.
 //!
-//! A message that was sent is received behind the seal, and one that was refused isn't. The threads meet right
-//! before: a round in which they don't fails the test, and so does one that doesn't end. Who is first after
-//! that is left to the schedule.
+//! A message that was sent is received behind the seal, and one that was refused isn't.
 use crate::tests::counted::{DropCounts, Numbered};
 use crate::tests::given::{equal, holds};
 use crate::tests::meeting::{Meeting, shared};

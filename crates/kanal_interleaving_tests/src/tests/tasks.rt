@@ -1,8 +1,6 @@
-//! Two send futures and two receive futures, each of a handle of its own, through all lists of at most
-//! five of ten steps.
+//! Two send futures and two receive futures, through all lists of at most five of ten steps.
 //!
-//! Each poll's answer, the length and both counts are those of a plain line; at the end both messages
-//! were dropped once. A future may be polled after its answer, and a step of a dropped one does nothing.
+//! Each poll's answer, the length and both counts are those of a plain line, and both messages are dropped once.
 use crate::tests::counted::{DropCounts, Numbered};
 use crate::tests::given::{equal, new_task};
 use crate::tests::line::{ModelLine, ModelOffer, ModelTake, Told};

@@ -1,6 +1,6 @@
-//! Calls that wait until another serves them: a clock, at one of the readings of a timed call that sleeps,
-//! or a thread. All that a wait needs is asked for before it, so from then on they are answered as with
-//! ample memory.
+//! Calls that wait until another serves them: a clock, when a timed call reads it, or a thread.
+//!
+//! All that a wait needs is asked for before it, so from then on they are answered as with ample memory.
 use super::{HandleKit, ServedBy};
 use crate::answer::{AnyAnswer, received_in_time, sent_in_time};
 use crate::given::Message;

@@ -1,7 +1,6 @@
 //! Polls while the lock is held by the test: each makes no step and asks for another poll, once.
 //!
-//! Wakes that come before the next poll are one wake to a task. So each is used up before the next one is
-//! looked for.
+//! A wake is used up before the next one is looked for.
 use crate::tests::given::{channel, equal, holds, new_task};
 use futures::task::Poll;
 use futures::test::MockTask;

@@ -1,7 +1,6 @@
 //! Who is woken, and by what.
 //!
-//! The test task tells whether it was woken since its last poll began, not how often; a poll that
-//! looks at nothing forgets the wake, and then there is none left.
+//! The test task tells whether it was woken since its last poll began, and not how often.
 use super::given::{ends, ends_and_task, new_task, poll_next, waiting_receive, waiting_send};
 use crate::tests::given::{equal, holds};
 use futures::task::Poll;

@@ -110,7 +110,7 @@ fn receive_until<T: Drop, E: Drop, H: History<T>, R: Wait, F: FnMut(T) -> Result
     unreachable!()
 }
 
-/// The same as `for_each`, by this pass.
+/// What `for_each` does, by this pass.
 fn receive_all<T: Drop, H: History<T>, R: Wait, F: FnMut(T)>(
     rt: &R,
     receiver: &AsyncReceiver<T, H>,

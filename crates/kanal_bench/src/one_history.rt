@@ -24,7 +24,7 @@ fn add_up<J: LogId, R: Wait>(
     Ok(sum)
 }
 
-/// The same on a new channel for so many messages.
+/// Adds up by a new channel for so many messages.
 fn bounded<J: LogId, R: Wait>(
     rt: &R,
     alloc: Global,
@@ -39,7 +39,7 @@ fn bounded<J: LogId, R: Wait>(
     add_up(rt, &channel, &mut pass, count)
 }
 
-/// The same on a new channel without limit.
+/// Adds up by a new channel without limit.
 fn unbounded<J: LogId, R: Wait>(
     rt: &R,
     alloc: Global,

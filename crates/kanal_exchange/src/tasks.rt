@@ -122,8 +122,8 @@ fn send_all_in_task<T: Drop, J: LogId, R: Wait + RandomSource + AllocGlobal>(
     }
 }
 
-/// The same, and the channel is closed where a receive or the task is refused, or there is no memory for the
-/// list.
+/// Receives all in a task. The channel is closed where a receive or the task is refused, or there is no memory for
+/// the list.
 fn receive_all_in_task<T: Drop, J: LogId, R: Wait + RandomSource + AllocGlobal>(
     rt: &R,
     alloc: Global,

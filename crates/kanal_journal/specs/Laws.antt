@@ -88,7 +88,7 @@ module _ {T : Type 0} where
   abbrev pub EachAccount : Option ℕ → List (Event T) → (Account T → Type 0) → Type 0
   EachAccount capacity events IsSo = (a : Account T) → Leads (opening_account capacity) events a → IsSo a
 
-  -- the same of the line alone
+  -- whatever the events may lead to on a new channel of this capacity, the line is so
   abbrev pub EachLine : Option ℕ → List (Event T) → (Line T → Type 0) → Type 0
   EachLine capacity events IsSo = EachAccount capacity events (λ a. IsSo a.line)
 

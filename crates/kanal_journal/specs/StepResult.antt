@@ -14,7 +14,7 @@ module _ {T : Type 0} where
     pub drained : after ≡ before ++ drained_of made
     pub told : Tells old event (told_of new made)
 
-  -- the same, where the event's side may have no live handle
+  -- the event was made, or its side has no live handle; what it drained was put behind what was drained before
   pub record ServedPost (handles : Handles) (old : Line T) (event : Event T) (new : Line T) (before after : List T) (made : StepResult T (Unit {0})) : Type 0 where
     pub drained : after ≡ before ++ drained_of made
     pub told : TellsWith handles old event (told_of new made)

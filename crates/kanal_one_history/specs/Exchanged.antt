@@ -33,7 +33,7 @@ module _ {T : Type 0} where
     pub just-made : (call : Call T) → Appends capacity old new call → HasMade capacity old new call
     just-made call made = record { mid = new; made = made; extends = (pass_sound {T = T} capacity).extends_refl new }
 
-    -- the same of a call that was replied at once
+    -- what a call put and got that was replied at once
     replied-exchanges : {R : Type 0} (event : Event T) (read : Reply T → R) (answer : R) (reply : Reply T) (put got : List T)
         → (c : IsReplied (pass_relations capacity) old new event read answer) → c.call.reply ≡ reply
         → ArePut new.log (sent event reply) put → AreGot new.log (asked event reply) got → cleared_by reply ≡ 0 → Exchanges capacity old new put got

@@ -40,7 +40,7 @@ module _ {T : Type 0} where
       ((reply ≡ no_memory event) × (new ≡ old))
       ⊎ ((is_no_memory reply ≡ false) × ((place : ℕ) × (new ≡ noted old event reply place)))
 
-  -- the same, where the place is the end of this journal
+  -- the call found no memory and the pass is as it was; or it was noted, at the end of this journal
   abbrev pub NotesAt : Recording T → Calls T → Event T → Reply T → Calls T → Type 0
   NotesAt journal old event reply new =
       ((reply ≡ no_memory event) × (new ≡ old))

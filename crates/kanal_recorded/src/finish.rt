@@ -113,9 +113,9 @@ fn are_among<T: Copy + Eq>(entries: &[Entry<T>], passes: &[Pass<T>]) -> bool
     true
 }
 
-/// The same for a few passes, which take turns at so many entries, once those are known to be of no
-/// party after the last one, if that is told. The entries of one pass may lie far apart; that look goes
-/// through them side by side, so that the processor has them at hand for all turns.
+/// Whether each list of a few passes is of entries of its party. They take turns at so many entries, once those are
+/// known to be of no party after the last one, if that is told. The entries of one pass may lie far apart; that look
+/// goes through them side by side, so that the processor has them at hand for all turns.
 fn is_group_among<T: Copy + Eq>(
     entries: &[Entry<T>],
     group: &[Pass<T>],

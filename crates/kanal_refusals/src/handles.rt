@@ -198,7 +198,7 @@ fn open(alloc: Global, made: MadeBy) -> Result<(Sender<Message>, Receiver<Messag
     Ok((tx.to_sync(), rx.to_sync()))
 }
 
-/// The same, made again where it was refused.
+/// The ends of a new channel, made again where it was refused.
 fn opened(
     alloc: Global,
     tally: &mut Score,

@@ -17,7 +17,7 @@ plain_value word r n plain parses e =
     let read = OkIff-at_ok r _ _ n (parse_plain own 64 word r parses plain.0) e in
     rw read.1 (sym (decimal-digits_value own word read.0.0 read.0.1 plain.1 read.0.2))
 
--- the same of what is read at all
+-- a plain word that is read at all is what its number prints
 pub plain_read : {E : Type 0} (word : List ℕ) (r : Result ℕ E) (o : Option ℕ) → IsPlain word → ParsesUnsigned 64 10 word r → o ≡ result_ok r → IfSome o (λ n. word ≡ decimal n)
 plain_read {E} word (Ok n) o plain parses e = rw e (plain_value {E = E} word (Ok n) n plain parses refl)
 plain_read word (Err d) o plain parses e = rw e tt

@@ -26,7 +26,7 @@ pub messages_text-append : (xs ys : List ℕ) → messages_text (xs ++ ys) ≡ m
 messages_text-append [] ys = refl
 messages_text-append (x ∷ xs) ys = rw (messages_text-append xs ys) (sym (append_assoc (32 ∷ decimal x) (messages_text xs) (messages_text ys)))
 
--- the same of settlements
+-- a text of settlements in two parts
 pub settlements_text-append : (xs ys : List (Settlement ℕ)) → settlements_text (xs ++ ys) ≡ settlements_text xs ++ settlements_text ys
 settlements_text-append [] ys = refl
 settlements_text-append (x ∷ xs) ys = rw (settlements_text-append xs ys) (sym (append_assoc (line (settlement_words x)) (settlements_text xs) (settlements_text ys)))

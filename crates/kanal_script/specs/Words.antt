@@ -60,7 +60,7 @@ EventFits Close = Unit {0}
 EventFits (Asks side ask) = Unit {0}
 EventFits Terminated = Unit {0}
 
--- and so it is of all events
+-- each event's number, if it has one, is one that a word of the machine holds
 abbrev pub EventsFit : List (Event ℕ) → Type 0
 EventsFit [] = Unit {0}
 EventsFit (event ∷ events) = EventFits event × EventsFit events

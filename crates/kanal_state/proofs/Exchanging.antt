@@ -78,7 +78,7 @@ module _ {T : Type 0} where
     came-reply reply e = absurd (cc)
 
 module _ {T P : Type 0} (w : HistoryRelations T P) (exchanges : P → P → List T → List T → Type 0) (tells : TellsExchanges w exchanges) (old new : P) where
-  -- the same call, with its reply as the answer
+  -- a call with its reply as the answer
   with-reply : {R : Type 0} (event : Event T) (read : Reply T → R) (answer : R) (reply : Reply T) → (c : IsReplied w old new event read answer) → c.call.reply ≡ reply → Replies w old new event reply
   with-reply event read answer reply c r = record { call = c.call; made = c.made; asked = c.asked; reads = sym r; told = c.told }
 

@@ -84,7 +84,7 @@ module _ {T W : Type 0} where
       subst (λ e. (call_from e m ≡ call_of e (step l e)) × MovesNoMessage e) (sym was) (told, drop_moves_none event drops)
 
 module _ {T : Type 0} where
-  -- the same of a call that was kept and not refused
+  -- a call that was kept and not refused is told so on the line that it found
   pub kept-on : (l new : Line T) (event : Event T) (c : Call T) → c.event ≡ event → Tells l event (told_by new c) → is_no_memory c.reply ≡ false → IsToldOn l c
   kept-on l new event c asked tells clear =
       let here : Tells l c.event (told_by new c) = subst (λ e. Tells l e (told_by new c)) (sym asked) tells in

@@ -150,11 +150,11 @@ module _ {T P : Type 0} (w : HistoryRelations T P) where
   sent_from old mid new m back answer same stays f =
       subst (λ (k : P). Finishes w k new (Send m) sent_by sent_after (Err SendNoMemory) answer) stays (subst (λ x. Finishes w mid new (Send x) sent_by sent_after (Err SendNoMemory) answer) same f)
 
-  -- the same of a receive
+  -- a receive that goes on with the pass as it was
   pub received_from : (old mid new : P) (answer : Result T ReceiveError) → mid ≡ old → Finishes w mid new Recv received_by received_after (Err ReceiveNoMemory) answer → Finishes w old new Recv received_by received_after (Err ReceiveNoMemory) answer
   received_from old mid new answer stays f = subst (λ (k : P). Finishes w k new Recv received_by received_after (Err ReceiveNoMemory) answer) stays f
 
-  -- the same of a send and of a receive that don't wait
+  -- a send and a receive that don't wait, and were made at once
   pub tried_at_once : (old new : P) (m : T) → w.appends old new (replied (TrySend m) Yes) → IsTold (replied (TrySend m) Yes) → TriesToSend w old new m (Ok true)
   tried_at_once old new m made told = inl (record { call = replied (TrySend m) Yes; made = made; asked = refl; reads = refl; told = told })
 

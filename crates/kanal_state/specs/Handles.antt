@@ -29,7 +29,7 @@ module _ {T P : Type 0} (w : HistoryRelations T P) (old new : P) where
   abbrev pub TriesToSend : T → Result Bool SendError → Type 0
   TriesToSend message answer = Comes w old new (TrySend message) entered_by (Err SendNoMemory) answer
 
-  -- the same, where the lock may be held by another: no call is made then
+  -- a send that doesn't wait, nor for the lock: where another holds the lock no call is made
   abbrev pub TriesToSendNow : T → Result Bool SendError → Type 0
   TriesToSendNow message answer = TriesToSend message answer ⊎ ((new ≡ old) × (answer ≡ Ok false))
 
@@ -46,7 +46,7 @@ module _ {T P : Type 0} (w : HistoryRelations T P) (old new : P) where
   abbrev pub TriesToReceive : Result (Option T) ReceiveError → Type 0
   TriesToReceive answer = IsReplied w old new TryRecv asked_by answer
 
-  -- the same, where the lock may be held by another: no call is made then
+  -- a receive that doesn't wait, nor for the lock: where another holds the lock no call is made
   abbrev pub TriesToReceiveNow : Result (Option T) ReceiveError → Type 0
   TriesToReceiveNow answer = TriesToReceive answer ⊎ ((new ≡ old) × (answer ≡ Ok None))
 

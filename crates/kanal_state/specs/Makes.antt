@@ -39,7 +39,7 @@ module _ {T P : Type 0} where
     pub reads : answer ≡ read call.reply
     pub told : IsTold call
 
-  -- the same, and the call did not have to wait
+  -- the pass made a call of this event, which did not have to wait, and the answer is what its reply reads as
   pub record IsAtOnce {R : Type 0} (w : HistoryRelations T P) (old new : P) (event : Event T) (read : Reply T → R) (answer : R) : Type 0 where
     pub replied : IsReplied w old new event read answer
     pub clear : IsWait replied.call.reply → ⊥
@@ -65,7 +65,7 @@ module _ {T P : Type 0} where
   Comes w old new event read refused answer =
       IsReplied w old new event read answer ⊎ (Lacks w old new event × (answer ≡ refused))
 
-  -- the same, where the reply itself is the answer
+  -- a call that never waits, with its reply as the answer
   abbrev pub IsAnswered : HistoryRelations T P → P → P → Event T → Reply T → Type 0
   IsAnswered w old new event reply = Comes w old new event (λ reply. reply) (no_memory event) reply
 
@@ -101,11 +101,11 @@ module _ {T P : Type 0} where
     pub lacks : is_no_memory call.reply ≡ true → Lacks w old new event × (call.reply ≡ no_memory event) × (call.settled ≡ [])
 
 module _ {T P W : Type 0} where
-  -- the same of the call that a step told
+  -- the call that a step told is kept; or there was no memory, and it is not
   abbrev pub StepAppendPost : HistoryRelations T P → P → P → Event T → StepResult T W → Type 0
   StepAppendPost w old new event made = AppendPost w old new event (call_from event made)
 
-  -- the same of a call that waits where it must, and didn't have to; one that must comes back, and the pass has seen that it must
+  -- a call that waits where it must is kept if it didn't have to; one that must comes back, and the pass has seen that it must
   abbrev pub StartPost : HistoryRelations T P → P → P → Event T → Result (FastResult T W) (Event T) → Type 0
   StartPost w old new event (Ok answered) = StepAppendPost w old new event (made_of answered) × (IsWait (reply_of (made_of answered)) → ⊥)
   StartPost w old new event (Err back) = (back ≡ event) × w.extends old new × SeesWait w new event

@@ -15,7 +15,7 @@ fn senders_answer(rt: &(impl Wait + Abort), sender: &Sender<u64>, expected: AllA
     equal(rt, answers!(rt, view), expected);
 }
 
-/// The same of receivers, which tell too whether no message will come any more.
+/// Asks a receiver, and its views, which also tell whether no message will come any more.
 fn receivers_answer(
     rt: &(impl Wait + Abort),
     receiver: &Receiver<u64>,
@@ -74,7 +74,7 @@ const NO_SENDER: AllAnswers = AllAnswers {
     ..TWO_SENDERS
 };
 
-/// The same after the message was received.
+/// No sender is left, and the message was received.
 const NO_SENDER_NO_MESSAGE: AllAnswers = AllAnswers {
     len: 0,
     is_empty: true,

@@ -78,7 +78,7 @@ impl Mode {
         )
     }
 
-    /// The same on a new channel of this capacity.
+    /// The exchange on a new channel of this capacity.
     pub(super) fn exchange_bounded<J: LogId + Send + Sync, R: Threads + Wait + time::Clock + Sync>(
         self,
         rt: &R,
@@ -93,7 +93,7 @@ impl Mode {
         Ok(self.exchange(rt, &channel, pass))
     }
 
-    /// The same on a new channel without limit.
+    /// The exchange on a new channel without limit.
     pub(super) fn exchange_unbounded<
         J: LogId + Send + Sync,
         R: Threads + Wait + time::Clock + Sync,

@@ -186,7 +186,7 @@ fn differing(alloc: Global, script: &[u8], answer: &[u8], wanted: u8) -> &'stati
     }
 }
 
-/// The same of a row, with the last line feed or without it.
+/// What differs in a row, with the last line feed or without it.
 fn differing_row(
     alloc: Global,
     row: (&str, &str, u8),

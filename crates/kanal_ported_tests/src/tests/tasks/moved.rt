@@ -32,7 +32,7 @@ fn send_there<R: Threads + Wait + Abort + RandomSource + AllocGlobal + Sync>(
     })
 }
 
-/// The same of a receive.
+/// Polls the receive once, in a scoped thread of its own.
 fn receive_there<R: Threads + Wait + Abort + RandomSource + AllocGlobal + Sync>(
     rt: &R,
     future: ReceiveFuture<'_, u64>,
@@ -46,7 +46,7 @@ fn receive_there<R: Threads + Wait + Abort + RandomSource + AllocGlobal + Sync>(
     })
 }
 
-/// The same of a stream.
+/// Polls the stream once, in a scoped thread of its own.
 fn next_there<R: Threads + Wait + Abort + RandomSource + AllocGlobal + Sync>(
     rt: &R,
     stream: ReceiveStream<'_, u64>,

@@ -1,2 +1,1 @@
 mod Dividing
-mod Reading

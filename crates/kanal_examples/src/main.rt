@@ -4,10 +4,12 @@
 #![tactic(auto)]
 
 mod actor;
-mod bridge;
 mod first_of;
-mod pieces;
+mod jobs;
+mod logs;
 mod primes;
+mod tasks;
+mod tries;
 mod two_threads;
 mod uses;
 
@@ -21,13 +23,15 @@ use std::thread::Threads;
 use std::time::Clock;
 
 /// The examples, in the order in which they run.
-const NAMES: [&str; 7] = [
+const NAMES: [&str; 9] = [
     "uses",
-    "bridge",
+    "tries",
+    "logs",
+    "tasks",
     "actor",
     "first_of",
     "primes",
-    "pieces",
+    "jobs",
     "two_threads",
 ];
 
@@ -39,11 +43,13 @@ where
 {
     match name {
         "uses" => uses::show(rt),
-        "bridge" => bridge::show(rt),
+        "tries" => tries::show(rt),
+        "logs" => logs::show(rt),
+        "tasks" => tasks::show(rt),
         "actor" => actor::show(rt),
         "first_of" => first_of::show(rt),
         "primes" => primes::show(&rt, ranges),
-        "pieces" => pieces::show(&rt),
+        "jobs" => jobs::show(&rt),
         "two_threads" => two_threads::show(&rt),
         _ => bail!("no example has the name {name}"),
     }

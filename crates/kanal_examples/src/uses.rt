@@ -5,17 +5,15 @@ mod callers;
 mod ends;
 mod facts;
 mod faults;
-mod handles;
 mod loops;
 mod many;
 mod polls;
-mod several;
 mod tasks;
 mod threads;
 mod timed;
 
 use anyhow::Result;
-use callers::{Half, SquareJob};
+use callers::SquareJob;
 use kanal::Sender;
 use kanal::error::SendError;
 use std::alloc::AllocGlobal;
@@ -51,10 +49,6 @@ fn call_each<R: Threads + Wait + AllocGlobal + Print + Sync>(rt: &R) -> Result<(
     for value in callers::by_two(rt, rt.alloc(), jobs.as_slice())? {
         println!(rt; "{value}")?;
     }
-    let halves = [Half(8), Half(9)];
-    for value in callers::by_two(rt, rt.alloc(), halves.as_slice())? {
-        println!(rt; "{value:?}")?;
-    }
     Ok(())
 }
 
@@ -69,7 +63,6 @@ where
     tasks::within_one_task(&rt)?;
     tasks::a_sender_lent_to_a_task(rt)?;
     tasks::a_receiver_for_a_task_and_one_for_a_thread(rt)?;
-    handles::tries_and_questions(rt)?;
     timed::nothing_came(&rt)?;
     timed::no_place_came(&rt)?;
     timed::by_a_clock_that_moves(&rt)?;
@@ -82,13 +75,9 @@ where
     ends::last_receiver_dropped(&rt)?;
     many::a_clone_for_each_thread(rt)?;
     many::a_seal_and_then_a_join(rt)?;
-    many::a_sender_shared_in_a_scope(&rt)?;
     many::one_of_several(rt)?;
     polls::before_the_message_and_after_it(&rt)?;
-    polls::two_channels_in_one_task(&rt)?;
     polls::many_channels_in_one_task(&rt)?;
-    several::two_channels_in_one_thread(&rt)?;
-    several::an_answer_of_a_scoped_thread(&rt)?;
     println!(rt; "{}", faults::each_by_a_question_mark(&rt)?)?;
     faults::a_sealed_one(&rt)?;
     facts::through_a_channel(&rt)?;

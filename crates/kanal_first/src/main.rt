@@ -11,7 +11,7 @@ use std::thread::{self, JoinHandle, Threads};
 fn count<R: Threads + Wait + Copy + Send + 'static>(
     rt: R,
     sender: Sender<u64>,
-) -> Result<JoinHandle<std::result::Result<(), SendError>>> {
+) -> Result<JoinHandle<Result<(), SendError>>> {
     let thread = thread::spawn(&rt, move || {
         sender.send(&rt, 1)?;
         sender.send(&rt, 2)?;

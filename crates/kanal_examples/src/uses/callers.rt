@@ -1,6 +1,5 @@
 //! One caller of each crate that has a page for callers, with a contract of its own where one can be had.
-ghost use Rattle.std.specs.Prelude.{◌≡◌, ◌≢◌, ◌*◌, ◌/◌, ◌%◌, ◌==◌, ℕ, if◌then◌else◌};
-ghost use Rattle.std.specs.Prelude.{Ok, Err, Some, None, true, IfOk, IfSome};
+ghost use Rattle.std.specs.Prelude.{◌≡◌, ◌≢◌, ◌*◌, ℕ, Ok, Some, None, true, IfOk, IfSome};
 ghost use Rattle.std.proofs.Common.{rules};
 ghost use Rattle.kanal_journal.specs.Paired.{Paired, until};
 ghost use Rattle.kanal_pool.specs.Answers.{answers};
@@ -88,27 +87,6 @@ impl Job for SquareJob {
 
     fn work(&self) -> Result<u64, NoMemory> {
         Ok(u64::from(self.0) * u64::from(self.0))
-    }
-
-    ghost equal_values = { Prim.search rules };
-}
-
-/// A number to halve.
-#[derive(Clone, Copy, Debug, PartialEq, Eq)]
-pub struct Half(pub u32);
-
-impl Job for Half {
-    /// The half of an even number; an odd one comes back as the error.
-    type Answer = Result<u32, u32>;
-
-    ghost value = { λ half. if half.0 % 2 == 0 then Ok (half.0 / 2) else Err half.0 };
-
-    fn work(&self) -> Result<Result<u32, u32>, NoMemory> {
-        if self.0 % 2 == 0 {
-            Ok(Ok(self.0 / 2))
-        } else {
-            Ok(Err(self.0))
-        }
     }
 
     ghost equal_values = { Prim.search rules };

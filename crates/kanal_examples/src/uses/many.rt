@@ -57,25 +57,6 @@ where
     Ok(())
 }
 
-/// A sender that three threads of a scope share by a reference.
-pub fn a_sender_shared_in_a_scope<R>(rt: &R) -> Result<()>
-where
-    R: Threads + Wait + AllocGlobal + Print + Sync,
-{
-    let (sender, receiver) = kanal::bounded::<u64>(rt.alloc(), 3)?;
-    let shared = &sender;
-    thread::scope(thread::scope_env(), rt, |scope| {
-        for number in 1..=3 {
-            if scope.spawn(move || shared.send(rt, number)).is_err() {
-                break;
-            }
-        }
-    });
-    drop(sender);
-    println!(rt; "{}", sum_of(rt, &receiver)?)?;
-    Ok(())
-}
-
 /// What comes from two kinds of threads by one channel.
 #[derive(Clone, Copy, Debug, PartialEq, Eq)]
 enum Item {

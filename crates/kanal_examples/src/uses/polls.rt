@@ -25,24 +25,6 @@ where
     Ok(())
 }
 
-/// Two channels in one task, whose messages come as they are there.
-pub fn two_channels_in_one_task<R>(rt: &R) -> Result<()>
-where
-    R: Wait + RandomSource + AllocGlobal + Print,
-{
-    let (to_a, a) = kanal::bounded_async::<u64>(rt.alloc(), 2)?;
-    let (to_b, b) = kanal::bounded_async::<u64>(rt.alloc(), 2)?;
-    block_on(rt, to_a.send(1))??;
-    block_on(rt, to_b.send(20))??;
-    block_on(rt, to_a.send(300))??;
-    drop(to_a);
-    drop(to_b);
-    let both = stream::select(a.stream(), b.stream());
-    let sum = both.fold(0, |sum: u64, n| ready(sum.wrapping_add(n)));
-    println!(rt; "{}", block_on(rt, sum)?)?;
-    Ok(())
-}
-
 /// As many channels in one task as there are, each of which brings one number.
 pub fn many_channels_in_one_task<R>(rt: &R) -> Result<()>
 where

@@ -1,7 +1,5 @@
 -- Facts about Bools, by trying all values, and about the bits of a word.
-use Rattle.std.proofs.Common.{◌≡◌, Bool, true, false, not, ◌&&◌, ◌||◌, cond, true≢false, refl, sym, ap, subst}
-use Rattle.kanal_cell.specs.declared.signal.rule.Bits.{Bits}
-use Rattle.kanal_cell.specs.CellRule.{implies, is_within}
+use Rattle.kanal_cell.proofs.Common.{◌≡◌, Bool, true, false, not, ◌&&◌, ◌||◌, cond, true≢false, refl, sym, ap, subst, Bits, implies, is_within}
 
 abbrev pub iff : Bool → Bool → Bool
 iff a b = cond a b (not b)
@@ -59,6 +57,14 @@ or_left a b e = subst (λ v. v || b ≡ true) (sym e) refl
 pub or_right : (a b : Bool) → b ≡ true → a || b ≡ true
 or_right true b e = refl
 or_right false b e = e
+
+pub or_off_left : (a b : Bool) → a || b ≡ false → a ≡ false
+or_off_left true b e = e
+or_off_left false b e = refl
+
+pub or_off_right : (a b : Bool) → a || b ≡ false → b ≡ false
+or_off_right true b e = absurd (true≢false e)
+or_off_right false b e = e
 
 pub iff_same : (b c : Bool) → b ≡ c → iff b c ≡ true
 iff_same true true e = refl

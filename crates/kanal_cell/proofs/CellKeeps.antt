@@ -1,16 +1,6 @@
 -- Each step keeps the rule.
-use Rattle.std.proofs.Common.{◌≡◌, ℕ, zero, suc, Bool, true, false, not, ◌&&◌, ◌||◌, cond, true≢false, ◌⊎◌, inl, inr, ⊎_elim, List, [], ◌∷◌, ◌++◌, refl, sym, ap, ◌∙◌, subst, Some, None, bit_or, bit_and, arith}
-use Rattle.std.specs.Prelude.{slice_index}
-use mathlib.Core.Option.{some, none, some-injective, some-ne-none}
+use Rattle.kanal_cell.proofs.Common.{◌≡◌, ℕ, zero, suc, Bool, true, false, not, ◌&&◌, ◌||◌, cond, true≢false, ◌⊎◌, inl, inr, ⊎_elim, List, [], ◌∷◌, ◌++◌, refl, sym, ap, ◌∙◌, subst, Some, None, bit_or, bit_and, arith, slice_index, some, none, some-injective, some-ne-none, get_elem?, State, step, Act, keeps, takes, gives, chain, Valid, carried_after, stepped, Allows, rest, turned, Bits, Role, Maker, WaiterToBe, SettlerToBe, Waiter, Settler, CellView, Held, CellSlot, Seated, bits, number, fresh, stepped_to, after_settle, after_sleep, implies, is_within, word_bits, agreement, agree, Recalls, outcome_is_home, is_asleep, LiesIf, IsOutcome, IsSleeper, OutcomeLies, cell_state, FollowsRule, TookIf, waiter_began, settler_began, settled, slept, polled, quit, Carries}
 use mathlib.Core.Option as maybe
-use lib.ListN.{get_elem?}
-use Rattle.atomic_table.specs.Table.{State, step, Act, keeps, takes, gives, chain, Valid, carried_after, stepped, Allows, rest, turned}
-use Rattle.kanal_cell.specs.declared.signal.rule.Bits.{Bits}
-use Rattle.kanal_cell.specs.declared.signal.rule.Role.{Role}
-use Rattle.kanal_cell.specs.declared.signal.rule.Role.TheVariants.{Maker, WaiterToBe, SettlerToBe, Waiter, Settler}
-use Rattle.kanal_cell.specs.declared.signal.rule.CellView.{CellView}
-use Rattle.kanal_cell.specs.declared.signal.rule.Held.{Held}
-use Rattle.kanal_cell.specs.CellRule.{CellSlot, Seated, bits, number, fresh, stepped_to, after_settle, after_sleep, implies, is_within, word_bits, agreement, agree, Recalls, outcome_is_home, is_asleep, LiesIf, IsOutcome, IsSleeper, OutcomeLies, cell_state, FollowsRule, TookIf, waiter_began, settler_began, settled, slept, polled, quit, Carries}
 use Rattle.kanal_cell.proofs.CellWord.{ended_set, or_left, or_ended, or_sleeping, left_of, set_of, sleeping_unset}
 use Rattle.kanal_cell.proofs.CellBools.{and_left, and_right, both, follows, implied, bool_case, not_true, and_false, false_not, same_bool, within_all, within_trans}
 
@@ -233,7 +223,7 @@ sleep_agrees = follows (λ a b c d e f. agreement a b c d e f && (not a && not b
 settle_agrees : (a b c d e f : Bool) → agreement a b c d e f && not d ≡ true → agreement a b c true b a ≡ true
 settle_agrees = follows (λ a b c d e f. agreement a b c d e f && not d) (λ a b c d e f. agreement a b c true b a) refl
 
-not_had : (a b c d e f : Bool) → agreement a b c d e f && not d ≡ true → not c ≡ true
+pub not_had : (a b c d e f : Bool) → agreement a b c d e f && not d ≡ true → not c ≡ true
 not_had = follows (λ a b c d e f. agreement a b c d e f && not d) (λ a b c d e f. not c) refl
 
 module _ {P : Type 0} where

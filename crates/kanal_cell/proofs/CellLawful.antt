@@ -1,21 +1,9 @@
 -- The law of a cell, from the first places of its steps.
-use Rattle.std.proofs.Common.{◌≡◌, ℕ, zero, suc, ◌+◌, ◌<◌, ◌≤◌, Bool, true, false, not, ◌&&◌, ◌||◌, cond, true≢false, ltb, eqb, ◌⊎◌, inl, inr, ⊎_elim, List, [], ◌∷◌, ◌++◌, length, get_or, take, drop, refl, sym, ap, ◌∙◌, subst, Option, Some, None, arith, lt-ltb, le-ltb, ltb-true, ltb-false, eq-eqb, eqb-true}
-use Rattle.std.specs.Prelude.{slice_get}
-use mathlib.Core.Logic.{dite}
-use native.Mathlib.Decide.{dec_lt}
+use Rattle.kanal_cell.proofs.Common.{◌≡◌, ℕ, zero, suc, ◌+◌, ◌<◌, ◌≤◌, Bool, true, false, not, ◌&&◌, ◌||◌, cond, true≢false, ltb, eqb, ◌⊎◌, inl, inr, ⊎_elim, List, [], ◌∷◌, ◌++◌, length, get_or, take, drop, refl, sym, ap, ◌∙◌, subst, Option, Some, None, arith, lt-ltb, le-ltb, ltb-true, ltb-false, eq-eqb, eqb-true, slice_get, dite, dec_lt, take_all, take-take, take_more, CellCore, CellStep, Sleep, Settle, Poll, Leave, IsLeft, CellReply, Slept, Outcome, Pending, Settled, Left, Flag, Spent, Owner, Nowhere, Home, empty, cell_reply, cell_after, is_sleep, is_settle, is_leave, looks, first, first_sleep, first_settle, first_leave, takes_at, taker, settle_outcome, outcome, is_late, told_at, told_there, cell_reply_at, owner_after}
 use Rattle.std.proofs.Math.ListN.{take-append-drop}
-use Rattle.std.proofs.lemmas.List.{take_all, take-take, take_more}
-use Rattle.kanal_cell.specs.declared.signal.steps.CellCore.{CellCore}
-use Rattle.kanal_cell.specs.declared.signal.steps.CellStep.{CellStep}
-use Rattle.kanal_cell.specs.declared.signal.steps.CellStep.TheVariants.{Sleep, Settle, Poll, Leave, IsLeft}
-use Rattle.kanal_cell.specs.declared.signal.steps.CellReply.{CellReply}
-use Rattle.kanal_cell.specs.declared.signal.steps.CellReply.TheVariants.{Slept, Outcome, Pending, Settled, Left, Flag, Spent}
-use Rattle.kanal_cell.specs.declared.signal.steps.Owner.{Owner}
-use Rattle.kanal_cell.specs.declared.signal.steps.Owner.TheVariants.{Nowhere, Home, Waiter, Settler}
-use Rattle.kanal_cell.specs.CellMoves.{empty, cell_reply, cell_after}
-use Rattle.kanal_cell.specs.CellHistory.{is_sleep, is_settle, is_leave, looks, first, first_sleep, first_settle, first_leave, takes_at, taker, settle_outcome, outcome, is_late, told_at, told_there, cell_reply_at, owner_after}
+use Rattle.kanal_cell.specs.declared.signal.steps.Owner.TheVariants.{Waiter, Settler}
 use Rattle.kanal_cell.specs.CellLaw.{Makes, Brings, to_waiter, to_settler, gives, OwnedAsTold, IsLawful, CellLaw}
-use Rattle.kanal_cell.proofs.CellBools.{and_left, and_right, both, bool_case}
+use Rattle.kanal_cell.proofs.CellBools.{and_left, and_right, both, bool_case, or_off_left, or_off_right, not_true}
 use Rattle.kanal_cell.proofs.CellPlaces.{found, up, down, get_length, StateAt, starts, state_kept, answers, leave_taken, sleep_takes}
 
 -- The cell after a list of steps.
@@ -188,21 +176,9 @@ owner_case X true true c f g h k = g refl refl
 owner_case X true false true f g h k = h refl refl refl
 owner_case X true false false f g h k = k refl refl refl
 
-or_off_left : (a b : Bool) → a || b ≡ false → a ≡ false
-or_off_left true b e = e
-or_off_left false b e = refl
-
-or_off_right : (a b : Bool) → a || b ≡ false → b ≡ false
-or_off_right true b e = absurd (true≢false e)
-or_off_right false b e = e
-
 or_off : (a b : Bool) → a ≡ false → b ≡ false → a || b ≡ false
 or_off true b e f = absurd (true≢false e)
 or_off false b e f = f
-
-not_false : (b : Bool) → not b ≡ true → b ≡ false
-not_false true e = absurd (true≢false (sym e))
-not_false false e = refl
 
 off_not : (b : Bool) → not b ≡ false → b ≡ true
 off_not true e = refl
@@ -247,7 +223,7 @@ module _ (steps : List CellStep) where
   -- what can take the outcome does so after the settle, with no leave before the settle
   taker_there : t < n → (x : CellStep) × (slice_get steps t ≡ Some x) × (ltb l s ≡ false) × (s < t) × (looks x || eqb t z ≡ true)
   taker_there h = let w = there (takes_at s l z) h in let c = and_left (not (ltb l s) && ltb s t) (looks w.0 || eqb t z) w.2 in
-      (w.0, w.1, not_false (ltb l s) (and_left (not (ltb l s)) (ltb s t) c), ltb-true s t (and_right (not (ltb l s)) (ltb s t) c), and_right (not (ltb l s) && ltb s t) (looks w.0 || eqb t z) w.2)
+      (w.0, w.1, not_true (ltb l s) (and_left (not (ltb l s)) (ltb s t) c), ltb-true s t (and_right (not (ltb l s)) (ltb s t) c), and_right (not (ltb l s) && ltb s t) (looks w.0 || eqb t z) w.2)
 
   -- no leave comes before the taker
   taker_first : t < n → ltb l t ≡ false
@@ -378,7 +354,7 @@ module _ (steps : List CellStep) where
   lawful_ = record {
     settles_once = λ j k p q h e f. let low = up steps j (Settle p) e (λ _ y. is_settle y) refl in reply_of steps k (Settle q) f ∙ spent_if (ltb s k) _ (lt-ltb s k (omega (arith, low, h)));
     leaves_once = λ j k h e f. let low = up steps j Leave e (λ _ y. is_leave y) refl in reply_of steps k Leave f ∙ spent_if (ltb l k) _ (lt-ltb l k (omega (arith, low, h)));
-    slept_by = λ e. let near = ltb-true z n (and_left (ltb z n) (not (is_late z l t)) e) in let on = not_false (is_late z l t) (and_right (ltb z n) (not (is_late z l t)) e) in let at_ = sleep_there near in
+    slept_by = λ e. let near = ltb-true z n (and_left (ltb z n) (not (is_late z l t)) e) in let on = not_true (is_late z l t) (and_right (ltb z n) (not (is_late z l t)) e) in let at_ = sleep_there near in
         (z, (at_, λ d. sleep_unspent (not (eqb z z) || is_late z l t) (eqb z t) (outcome steps) (or_off (not (eqb z z)) (is_late z l t) (ap not (eq-eqb z z refl)) on) (sym (reply_of steps z Sleep at_) ∙ d)));
     ended_by = λ e. let w = settle_there (ltb-true s n e) in
         (s, w.0, (w.1, λ d. settle_unspent (ltb s s) (ltb z s && not (is_late z l t)) (cond (ltb l s) (Some w.0) None) (never s) (sym (reply_of steps s (Settle w.0) w.1) ∙ d)));

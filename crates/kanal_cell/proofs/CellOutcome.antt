@@ -1,27 +1,13 @@
 -- What becomes of the outcome's slot: the settle fills it once, and the waiter's next step takes what it holds.
-use Rattle.std.proofs.Common.{◌≡◌, ℕ, ◌+◌, Bool, true, false, not, ◌&&◌, ◌||◌, cond, true≢false, ◌⊎◌, inl, inr, ⊎_elim, List, [], ◌∷◌, ◌++◌, refl, sym, ap, ◌∙◌, subst, Some, None, arith}
-use Rattle.std.specs.Prelude.{slice_index, slice_set}
-use mathlib.Core.Option.{some, none, some-injective, some-ne-none}
-use mathlib.Core.Option as maybe
-use lib.ListN.{get_elem?}
-use Rattle.atomic_table.specs.Table.{State, Step, step, carried_after, stepped, rest}
-use Rattle.kanal_cell.specs.declared.signal.rule.Bits.{Bits}
-use Rattle.kanal_cell.specs.declared.signal.rule.Role.{Role}
-use Rattle.kanal_cell.specs.declared.signal.rule.Role.TheVariants.{Maker, WaiterToBe, SettlerToBe, Waiter, Settler}
-use Rattle.kanal_cell.specs.declared.signal.rule.CellView.{CellView}
-use Rattle.kanal_cell.specs.declared.signal.rule.Held.{Held}
-use Rattle.kanal_cell.specs.CellRule.{CellSlot, Seated, bits, no_bits, number, fresh, word_bits, agreement, outcome_is_home, LiesIf, IsOutcome, IsSleeper, OutcomeLies, cell_state, HasBothEnds, FollowsRule, HasNotSettled, TookIf, settled, Carries}
-use Rattle.kanal_cell.specs.CellSlots.{IsNotLent, IsLentWith, LiesAtHome, IsOut}
+use Rattle.kanal_cell.proofs.Common.{◌≡◌, ℕ, ◌+◌, Bool, true, false, not, ◌&&◌, ◌||◌, cond, true≢false, ◌⊎◌, inl, inr, ⊎_elim, List, [], ◌∷◌, ◌++◌, refl, sym, ap, ◌∙◌, subst, Some, None, arith, slice_index, slice_set, some, none, some-injective, some-ne-none, get_elem?, State, Step, step, carried_after, stepped, rest, Bits, Role, Maker, WaiterToBe, SettlerToBe, Waiter, Settler, CellView, Held, CellSlot, Seated, bits, no_bits, number, fresh, word_bits, outcome_is_home, LiesIf, IsOutcome, IsSleeper, OutcomeLies, cell_state, HasBothEnds, FollowsRule, HasNotSettled, TookIf, settled, Carries, IsNotLent, IsLentWith, LiesAtHome, IsOut}
 use Rattle.kanal_cell.specs.CellOutcome.{waited, EndStep, MaySettle, OutcomeSlot}
-use Rattle.kanal_cell.proofs.CellBools.{follows, bool_case, both, false_not, not_true}
+use mathlib.Core.Option as maybe
+use Rattle.kanal_cell.proofs.CellBools.{bool_case, both, false_not, not_true, or_right}
 use Rattle.kanal_cell.proofs.CellWord.{ended_same, ended_found, left_none}
 use Rattle.kanal_cell.proofs.CellValues.{lent_values, values_of, ends_in, at_home, first_same, first_given}
-use Rattle.kanal_cell.proofs.CellKeeps.{first_or_second}
+use Rattle.kanal_cell.proofs.CellKeeps.{first_or_second, not_had}
 
 -- the facts about Bools, in agreement's order: slept, left, had, ended, back, found SLEEPING
-not_had : (a b c d e f : Bool) → agreement a b c d e f && not d ≡ true → not c ≡ true
-not_had = follows (λ a b c d e f. agreement a b c d e f && not d) (λ a b c d e f. not c) refl
-
 home_parts : (d e c : Bool) → d && not e && not c ≡ true → (d ≡ true) × (c ≡ false)
 home_parts true true c h = absurd (true≢false (sym h))
 home_parts true false true h = absurd (true≢false (sym h))
@@ -39,10 +25,6 @@ had_gone true true c h = refl
 had_gone true false true h = refl
 had_gone true false false h = absurd (true≢false (sym h))
 had_gone false e c h = refl
-
-or_true : (a b : Bool) → b ≡ true → a || b ≡ true
-or_true true b e = refl
-or_true false b e = e
 
 not_one : ◌≡◌ {A = ℕ} 1 0 → ⊥
 not_one e = omega (arith, e)
@@ -327,7 +309,7 @@ module _ {P : Type 0} where
       let parts = home_parts q.set.ended q.had w.had home in
       let over = ended_found told.0 (word_bits w q) (sym told.1 ∙ word_at s e.before) parts.0 in
       let took = told.5 over (ap (λ (v : CellView). v.had) (sym p.0) ∙ parts.1) in
-      let had : e.after.waiter.had ≡ true = ap (λ (v : CellView). v.had) (sym p.1) ∙ told.4 ∙ or_true m.0.had told.0.ended over in
+      let had : e.after.waiter.had ≡ true = ap (λ (v : CellView). v.had) (sym p.1) ∙ told.4 ∙ or_right m.0.had told.0.ended over in
       let gone = out_of _ e.after.outcome (lies_of t e.after (ap (λ (v : CellView). v.role) (sym p.2) ∙ is)) (had_gone e.after.settler.set.ended e.after.settler.had e.after.waiter.had had) in
       let kept = values_kept e in
       let before_ = at_home s.homes (some (Some x)) (lent_values m.1) lies in

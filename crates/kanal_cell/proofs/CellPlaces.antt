@@ -1,19 +1,7 @@
 -- The state of a plain cell, told by first places.
-use Rattle.std.proofs.Common.{◌≡◌, ◌≢◌, ℕ, zero, suc, ◌+◌, ◌<◌, ◌≤◌, Bool, true, false, not, ◌&&◌, ◌||◌, cond, true≢false, ltb, eqb, List, [], ◌∷◌, ◌++◌, length, get_or, refl, sym, ap, ◌∙◌, subst, Option, Some, None, arith, lt-ltb, le-ltb, ltb-true, ltb-false, eq-eqb, ne_eqb, eqb-true}
-use Rattle.std.specs.Prelude.{slice_get}
-use mathlib.Core.Logic.{dite}
-use native.Mathlib.Decide.{dec_lt}
-use Rattle.kanal_cell.specs.declared.signal.steps.CellCore.{CellCore}
-use Rattle.kanal_cell.specs.declared.signal.steps.CellStep.{CellStep}
-use Rattle.kanal_cell.specs.declared.signal.steps.CellStep.TheVariants.{Sleep, Settle, Poll, Leave, IsLeft}
-use Rattle.kanal_cell.specs.declared.signal.steps.CellReply.{CellReply}
-use Rattle.kanal_cell.specs.declared.signal.steps.CellReply.TheVariants.{Slept, Outcome, Pending, Settled, Left, Flag, Spent}
-use Rattle.kanal_cell.specs.declared.signal.steps.Owner.{Owner}
-use Rattle.kanal_cell.specs.declared.signal.steps.Owner.TheVariants.{Nowhere, Home, Waiter, Settler}
-use Rattle.kanal_cell.specs.CellRule.{implies}
-use Rattle.kanal_cell.specs.CellMoves.{cell, empty, is_home, cell_reply, cell_after, cell_word, owner_of}
-use Rattle.kanal_cell.specs.CellHistory.{is_sleep, is_settle, is_leave, looks, first_from, first, first_sleep, first_settle, first_leave, takes_at, taker, settle_outcome, is_late, outcome, told_at, told_there, cell_reply_at, word_after, owner_after}
-use Rattle.kanal_cell.proofs.CellBools.{iff, all, and_left, and_right, both, iff_eq, implied, follows, bool_case, false_not, either, or_left, or_right, iff_same}
+use Rattle.kanal_cell.proofs.Common.{◌≡◌, ◌≢◌, ℕ, zero, suc, ◌+◌, ◌<◌, ◌≤◌, Bool, true, false, not, ◌&&◌, ◌||◌, cond, true≢false, ltb, eqb, List, [], ◌∷◌, ◌++◌, length, get_or, refl, sym, ap, ◌∙◌, subst, Option, Some, None, arith, lt-ltb, le-ltb, ltb-true, ltb-false, eq-eqb, ne_eqb, eqb-true, slice_get, dite, dec_lt, CellCore, CellStep, Sleep, Settle, Poll, Leave, IsLeft, CellReply, Slept, Outcome, Pending, Settled, Left, Flag, Spent, Owner, Nowhere, Home, implies, cell, empty, is_home, cell_reply, cell_after, cell_word, owner_of, is_sleep, is_settle, is_leave, looks, first_from, first, first_sleep, first_settle, first_leave, takes_at, taker, settle_outcome, is_late, outcome, told_at, told_there, cell_reply_at, word_after, owner_after}
+use Rattle.kanal_cell.specs.declared.signal.steps.Owner.TheVariants.{Waiter, Settler}
+use Rattle.kanal_cell.proofs.CellBools.{iff, all, and_left, and_right, both, iff_eq, implied, follows, bool_case, false_not, either, or_left, or_right, iff_same, and_false, or_off_left, or_off_right}
 
 -- First places.
 -- the first place lies at or after the start
@@ -172,10 +160,6 @@ starts steps = let z = first_sleep steps in let s = first_settle steps in let l 
   sym (ap (λ b. ltb l s && b) (le-ltb s 0 (omega arith)) ∙ and_false (ltb l s)),
   λ e. absurd (true≢false (sym e)),
 )
-  where
-    and_false : (b : Bool) → b && false ≡ false
-    and_false true = refl
-    and_false false = refl
 
 module _ (steps : List CellStep) (k : ℕ) (x : CellStep) (e : slice_get steps k ≡ Some x) where
   abbrev z : ℕ
@@ -372,14 +356,6 @@ sleep_takes steps n long slept_ early_ second =
     let m : r.0 ≡ 0 + r.0 = omega arith in
     let early = hit (takes_at s l z) 0 steps r.0 r.1 r.2 (subst (λ i. takes_at s l z i r.1 ≡ true) m takes) in
     omega (arith, early, no_taker, at_z)
-  where
-    or_off_left : (a b : Bool) → a || b ≡ false → a ≡ false
-    or_off_left true b e = e
-    or_off_left false b e = refl
-
-    or_off_right : (a b : Bool) → a || b ≡ false → b ≡ false
-    or_off_right true b e = absurd (true≢false e)
-    or_off_right false b e = e
 
 -- Where each step was told its reply, and there are as many replies as steps, the replies are the history's
 told_beyond : (steps all : List CellStep) (rs : List CellReply) (from : ℕ) → length rs ≡ length steps

@@ -1,9 +1,5 @@
 -- What the second comer holds right after its step.
-use Rattle.std.proofs.Common.{◌≡◌, ℕ, Bool, true, false, not, ◌&&◌, cond, ◌⊎◌, inl, inr, List, [], ◌∷◌, sym, ap, ◌∙◌, subst, Some}
-use Rattle.atomic_table.specs.Table.{rest}
-use Rattle.kanal_cell.specs.declared.signal.rule.CellView.{CellView}
-use Rattle.kanal_cell.specs.declared.signal.rule.Held.{Held}
-use Rattle.kanal_cell.specs.CellRule.{CellSlot, IsOutcome, IsSleeper, TookIf}
+use Rattle.kanal_cell.proofs.Common.{◌≡◌, ℕ, Bool, true, false, not, ◌&&◌, cond, ◌⊎◌, inl, inr, List, [], ◌∷◌, sym, ap, ◌∙◌, subst, Some, rest, CellView, Held, CellSlot, IsOutcome, IsSleeper, TookIf}
 use Rattle.kanal_cell.specs.CellRunningLaw.{SecondHolds}
 use Rattle.kanal_cell.proofs.CellBools.{both, bool_case, false_not}
 use Rattle.kanal_cell.proofs.CellKeeps.{took_outcome}

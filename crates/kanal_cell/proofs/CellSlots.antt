@@ -1,12 +1,7 @@
 -- No step changes what a slot holds.
-use Rattle.std.proofs.Common.{◌≡◌, ℕ, zero, suc, ◌<◌, ◌⊎◌, inl, inr, List, [], ◌∷◌, length, sym, ◌∙◌, subst, arith}
-use mathlib.Core.Option.{some, none, some-injective, some-ne-none}
-use mathlib.Core.Option as maybe
-use native.Mathlib.Decide.{ℕ_discrete}
-use lib.ListN.{get_elem?}
+use Rattle.kanal_cell.proofs.Common.{◌≡◌, ℕ, zero, suc, ◌<◌, ◌⊎◌, inl, inr, List, [], ◌∷◌, length, sym, ◌∙◌, subst, arith, some, none, some-injective, some-ne-none, ℕ_discrete, get_elem?, Act, keeps, takes, gives, chain, Valid, homes_after, carried_after, IsNotLent, IsLentWith, LiesAtHome, IsOut, SlotLaw}
 use Rattle.atomic_table.proofs.Lists.{set_here, set_else}
-use Rattle.atomic_table.specs.Table.{Act, keeps, takes, gives, chain, Valid, homes_after, carried_after}
-use Rattle.kanal_cell.specs.CellSlots.{IsNotLent, IsLentWith, LiesAtHome, IsOut, SlotLaw}
+use mathlib.Core.Option as maybe
 
 -- what is there has a place
 within : {A : Type 0} (xs : List A) (k : ℕ) (x : A) → get_elem? xs k ≡ some x → k < length xs

@@ -1,11 +1,6 @@
 -- What slot 0 holds: the value at home comes first, then each that an end is lent, the last one taken first. A step only drops values from the front.
-use Rattle.std.proofs.Common.{◌≡◌, ℕ, zero, suc, ◌≤◌, List, [], ◌∷◌, ◌++◌, length, refl, sym, ap, ◌∙◌, append_assoc, arith}
-use Rattle.std.specs.Prelude.{slice_set}
-use Rattle.std.proofs.lemmas.List.{length-append}
-use mathlib.Core.Option.{some, none, some-injective, some-ne-none}
+use Rattle.kanal_cell.proofs.Common.{◌≡◌, ℕ, zero, suc, ◌≤◌, List, [], ◌∷◌, ◌++◌, length, refl, sym, ap, ◌∙◌, append_assoc, arith, slice_set, length-append, some, none, some-injective, some-ne-none, get_elem?, Act, keeps, takes, gives, chain, Valid, homes_after, carried_after, rest}
 use mathlib.Core.Option as maybe
-use lib.ListN.{get_elem?}
-use Rattle.atomic_table.specs.Table.{Act, keeps, takes, gives, chain, Valid, homes_after, carried_after, rest}
 
 module _ {S : Type 0} where
   abbrev of_slot : ℕ → S → List S → List S

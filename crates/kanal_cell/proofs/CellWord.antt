@@ -1,7 +1,5 @@
 -- What the word tells of its bits, and what an operation makes of them.
-use Rattle.std.proofs.Common.{◌≡◌, ℕ, Bool, true, false, true≢false, refl, sym, ap, ◌∙◌, subst, bit_or, bit_and, arith}
-use Rattle.kanal_cell.specs.declared.signal.rule.Bits.{Bits}
-use Rattle.kanal_cell.specs.CellRule.{bits, number}
+use Rattle.kanal_cell.proofs.Common.{◌≡◌, ℕ, Bool, true, false, true≢false, refl, sym, ap, ◌∙◌, subst, bit_or, bit_and, arith, Bits, bits, number}
 use Rattle.kanal_cell.proofs.CellBools.{bool_case}
 
 -- what a bit of the word that was found shows

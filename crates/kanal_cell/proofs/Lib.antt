@@ -1,3 +1,4 @@
+pub mod Common
 pub mod CellBools
 pub mod CellPlaces
 pub mod CellLawful

@@ -1,20 +1,7 @@
 -- A send that doesn't wait gives its message back, or the message entered.
-use Rattle.std.proofs.Common.{◌≡◌, ◌≢◌, ◌==◌, true, Some, None, Ok, Result, Bool, refl, sym, ap, ◌∙◌, inl, inr, subst}
-use Rattle.std.proofs.lemmas.Bool.{cases_Bool}
-use Rattle.kanal_core.specs.Line.{Line, has_place}
-use Rattle.kanal_events.specs.declared.event.Event.{Event}
-use Rattle.kanal_events.specs.declared.event.Event.TheVariants.{TrySend}
+use Rattle.kanal_channel.proofs.Common.{◌≡◌, ◌≢◌, ◌==◌, true, Some, None, Ok, Result, Bool, refl, sym, ap, ◌∙◌, inl, inr, subst, cases_Bool, Line, has_place, Event, TrySend, Reply, Yes, No, Refused, step, Call, TriesToSend, IsAnswered, back_by, entered_by, HistoryRelations, comes_replied}
 use Rattle.kanal_events.specs.declared.event.Refusal.TheVariants.{Sealed, NoMemory}
-use Rattle.kanal_events.specs.declared.event.Reply.{Reply}
-use Rattle.kanal_events.specs.declared.event.Reply.TheVariants.{Yes, No, Refused}
-use Rattle.kanal_events.specs.Steps.{step}
-use Rattle.kanal_state.specs.declared.call.Call.{Call}
 use Rattle.kanal_core.specs.declared.error.SendError.{SendError}
-use Rattle.kanal_state.specs.Handles.{TriesToSend}
-use Rattle.kanal_state.specs.Makes.{IsAnswered}
-use Rattle.kanal_state.specs.Results.{back_by, entered_by}
-use Rattle.kanal_state.specs.HistoryRelations.{HistoryRelations}
-use Rattle.kanal_state.proofs.Settling.{comes_replied}
 
 module _ {T : Type 0} where
   -- the message entered and nothing comes back, or it comes back

@@ -1,20 +1,10 @@
 -- A drain: what it tells, and what it adds to a vector.
-use Rattle.std.proofs.Common.{◌≡◌, ℕ, ◌==◌, true, true≢false, List, [], ◌++◌, length, Result, Ok, Err, IfOk, IfErr, OnErr, false, refl, ap, sym, ◌∙◌, inl, inr, subst}
-use Rattle.std.proofs.lemmas.Bool.{cases_Bool}
+use Rattle.kanal_channel.proofs.Common.{◌≡◌, ℕ, ◌==◌, true, true≢false, List, [], ◌++◌, length, Result, Ok, Err, IfOk, IfErr, OnErr, false, refl, ap, sym, ◌∙◌, inl, inr, subst, cases_Bool, Line, Drain, is_no_memory, take_line, Call, drained_of, drained_of_left, is_drained, is_drained_left, reply_of, reply_of_left, Drains, StepAppendPost, drained_by, HistoryRelations}
 use Rattle.std.proofs.lemmas.List.{append-nil, length-map}
-use Rattle.kanal_core.specs.Line.{Line}
-use Rattle.kanal_events.specs.declared.event.Event.TheVariants.{Drain}
-use Rattle.kanal_events.specs.Steps.{is_no_memory, take_line}
-use Rattle.kanal_state.specs.declared.call.Call.{Call}
 use Rattle.kanal_events.specs.declared.step_result.StepResult.{StepResult}
 use Rattle.kanal_events.specs.declared.step_result.Leaving.{Leaving}
 use Rattle.kanal_events.specs.declared.step_result.Leaving.TheVariants.{One, All, Shut, Drained as WasDrained}
-use Rattle.kanal_events.specs.StepResult.{drained_of, drained_of_left, is_drained, is_drained_left, reply_of, reply_of_left}
 use Rattle.kanal_state.specs.Entries.{call_from}
-use Rattle.kanal_state.specs.Handles.{Drains}
-use Rattle.kanal_state.specs.Makes.{StepAppendPost}
-use Rattle.kanal_state.specs.Results.{drained_by}
-use Rattle.kanal_state.specs.HistoryRelations.{HistoryRelations}
 
 if-err : {A E : Type 0} (P : Type 0) (r : Result A E) → P → IfErr r (λ _. P)
 if-err P (Ok a) p = tt

@@ -1,17 +1,8 @@
 -- A call with a deadline: how its wait ends, and what it answers.
-use Rattle.std.proofs.Common.{◌≡◌, ℕ, refl, inl, inr}
-use Rattle.kanal_events.specs.declared.event.Event.{Event}
-use Rattle.kanal_events.specs.declared.event.Reply.TheVariants.{Waits}
-use Rattle.kanal_events.specs.Steps.{no_memory}
-use Rattle.kanal_state.specs.Makes.{IsReplied}
-use Rattle.kanal_state.specs.Results.{InTime}
-use Rattle.kanal_state.specs.Timed.{FinishesBy}
-use Rattle.kanal_state.specs.HistoryRelations.{HistoryRelations}
-use Rattle.kanal_cell.specs.Deadlines.{DeadlineReached as IsLate}
+use Rattle.kanal_channel.proofs.Common.{◌≡◌, ℕ, refl, inl, inr, Event, Waits, no_memory, IsReplied, InTime, FinishesBy, HistoryRelations, IsLate, finishes_replied, has_waited}
 use Rattle.kanal_channel.specs.declared.blocking.WaitOutcome.{WaitOutcome}
 use Rattle.kanal_channel.specs.declared.blocking.WaitOutcome.TheVariants.{Replied, Settled, Withdrawn}
 use Rattle.kanal_channel.specs.Deadlines.{WithdrawPost, TimedPost, answer_in_time}
-use Rattle.kanal_state.proofs.Settling.{finishes_replied, has_waited}
 
 module _ {T P : Type 0} (w : HistoryRelations T P) where
   -- a call whose wait was to be taken back, since the clock answered so late a moment

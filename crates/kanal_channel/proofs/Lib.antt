@@ -1,3 +1,4 @@
+pub mod Common
 pub mod Ending
 pub mod Backs
 pub mod Draining

@@ -1,12 +1,7 @@
 -- What the start of a wait came to that began where the pass had looked.
-use Rattle.std.proofs.Common.{◌≡◌, Result, Ok, Err, IfErr, IfOk}
-use Rattle.kanal_events.specs.declared.event.Event.{Event}
-use Rattle.kanal_events.specs.declared.event.Reply.{Reply}
+use Rattle.kanal_channel.proofs.Common.{◌≡◌, Result, Ok, Err, IfErr, IfOk, Event, Reply, HasReplied, HistoryRelations, AreSound, replied_on, waiting_on}
 use Rattle.kanal_state.specs.declared.counted.CountedWait.{CountedWait}
-use Rattle.kanal_state.specs.Makes.{HasReplied}
 use Rattle.kanal_state.specs.Waits.{IsWaiting}
-use Rattle.kanal_state.specs.HistoryRelations.{HistoryRelations, AreSound}
-use Rattle.kanal_state.proofs.Settling.{replied_on, waiting_on}
 
 module _ {T P E : Type 0} (w : HistoryRelations T P) (sound : AreSound w) (old mid new : P) (event back : Event T) (extends : w.extends old mid) (same : back ≡ event) where
   pub begun_on : (begun : Result (CountedWait × E) (Reply T)) → IfOk begun (λ b. IsWaiting w mid new back b.0) → IfOk begun (λ b. IsWaiting w old new event b.0)

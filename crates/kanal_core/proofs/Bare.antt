@@ -1,8 +1,5 @@
 -- Entries that wait for nothing.
-use Rattle.std.proofs.Common.{◌≡◌, ℕ, zero, suc, List, [], ◌∷◌, ◌++◌, map, take, Option, Some, None, refl, ap, append-nil}
-use Rattle.std.proofs.lemmas.List.{take-append-drop}
-use Rattle.kanal_core.specs.Line.{LineEntry, Line, bare, messages, tickets, under}
-use Rattle.kanal_core.specs.Moves.{seated, taken, leave}
+use Rattle.kanal_core.proofs.Common.{◌≡◌, ℕ, zero, suc, List, [], ◌∷◌, ◌++◌, map, take, Option, Some, None, refl, ap, append-nil, take-append-drop, LineEntry, Line, bare, messages, tickets, under, seated, taken, leave}
 
 module _ {T : Type 0} where
   -- their messages are what they were made of

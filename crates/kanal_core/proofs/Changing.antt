@@ -1,15 +1,7 @@
 -- One waiter in linked slots is changed, and stays at its place.
-use Rattle.std.proofs.Common.{◌≡◌, ◌≢◌, ℕ, true, false, List, [], ◌∷◌, ◌++◌, Option, Some, None, IsSome, inl, inr, refl, sym, ap, ◌∙◌, arith, subst, length-append}
-use Rattle.std.specs.Option.{option_map}
+use Rattle.kanal_core.proofs.Common.{◌≡◌, ◌≢◌, ℕ, true, false, List, [], ◌∷◌, ◌++◌, Option, Some, None, IsSome, inl, inr, refl, sym, ap, ◌∙◌, arith, subst, length-append, option_map, cases_eq, Slab, get, slab_len, with_value, Ticket, Waiter, Slot, first_place, last_place, slot_for, IsFree, AreApart, IsLinked, TakesMessageAt, has_ticket, put_w, with_waiter, emptied, waiter_of, with_w}
 use Rattle.std.proofs.lemmas.Grind.{common_steps}
-use Rattle.std.proofs.lemmas.Bool.{cases_eq}
-use Rattle.slab.specs.Slab.{Slab, get, slab_len, with_value}
 use Rattle.slab.proofs.SlabLemmas.{Updates-with_value}
-use Rattle.kanal_core.specs.declared.internal.outcome.Ticket.{Ticket}
-use Rattle.kanal_core.specs.declared.internal.outcome.Waiter.{Waiter}
-use Rattle.kanal_core.specs.declared.internal.slots.Slot.{Slot}
-use Rattle.kanal_core.specs.Links.{first_place, last_place, slot_for, IsFree, AreApart, IsLinked, TakesMessageAt, has_ticket, put_w, with_waiter}
-use Rattle.kanal_core.specs.Waiters.{emptied, waiter_of, with_w}
 use Rattle.kanal_core.proofs.Linking.{AreApart-out, IsFree-parts, slot_for-here, slot_for-on, stands}
 use Rattle.kanal_core.proofs.Finding.{IsNotThere, absent, found, replaced}
 

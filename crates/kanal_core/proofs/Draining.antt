@@ -1,16 +1,5 @@
 -- A drain, as a step of the line.
-use Rattle.std.proofs.Common.{◌≡◌, ℕ, ◌+◌, suc, false, cond, List, [], ◌∷◌, ◌++◌, length, map, Option, Some, None, refl, sym, ap, ◌∙◌, inl, inr, arith, append-nil, length-append}
-use Rattle.std.proofs.lemmas.Bool.{cases_Bool, false≢true}
-use Rattle.std.proofs.Math.ListN.{length-map}
-use mathlib.Core.List.{map-append}
-use Rattle.kanal_core.specs.declared.internal.outcome.Outcome.TheVariants.{Taken}
-use Rattle.kanal_core.specs.declared.internal.outcome.Waiter.{Waiter}
-use Rattle.kanal_core.specs.Line.{LineEntry, bare, messages, tickets, IsWithin}
-use Rattle.kanal_core.specs.Moves.{drain, taken}
-use Rattle.kanal_core.specs.Channel.{after_drain, line_of, settlement, taken_by}
-use Rattle.kanal_core.specs.Waiters.{brought, sender_first}
-use Rattle.kanal_core.specs.Calls.{MovesTo}
-use Rattle.kanal_core.specs.Sided.{AllSend, IsOneSided, Rises}
+use Rattle.kanal_core.proofs.Common.{◌≡◌, ℕ, ◌+◌, suc, false, cond, List, [], ◌∷◌, ◌++◌, length, map, Option, Some, None, refl, sym, ap, ◌∙◌, inl, inr, arith, append-nil, length-append, cases_Bool, false≢true, length-map, map-append, Taken, Waiter, LineEntry, bare, messages, tickets, IsWithin, drain, taken, after_drain, line_of, settlement, taken_by, brought, sender_first, MovesTo, AllSend, IsOneSided, Rises}
 use Rattle.kanal_core.proofs.Bare.{messages-bare}
 use Rattle.kanal_core.proofs.Sides.{entries, send-demands, brought-entries}
 use Rattle.kanal_core.proofs.Sided.{no-entry, sender-side}

@@ -1,14 +1,5 @@
 -- Dropped handles, as steps of the line.
-use Rattle.std.proofs.Common.{ℕ, ◌==◌, cond, List, [], length, map, Option, refl, sym, subst, inl, inr, append-nil}
-use Rattle.std.proofs.lemmas.Bool.{cases_Bool, eqb-true}
-use Rattle.kanal_core.specs.declared.internal.outcome.Reason.{Reason}
-use Rattle.kanal_core.specs.declared.internal.outcome.Reason.TheVariants.{SendClosed, ReceiveClosed}
-use Rattle.kanal_core.specs.declared.internal.outcome.Waiter.{Waiter}
-use Rattle.kanal_core.specs.Line.{IsWithin}
-use Rattle.kanal_core.specs.Moves.{drop_receiver, drop_sender, end_all}
-use Rattle.kanal_core.specs.Channel.{ended_by, line_of, receiver_dropped, sender_dropped, settlement}
-use Rattle.kanal_core.specs.Calls.{MovesTo}
-use Rattle.kanal_core.specs.Sided.{IsOneSided}
+use Rattle.kanal_core.proofs.Common.{ℕ, ◌==◌, cond, List, [], length, map, Option, refl, sym, subst, inl, inr, append-nil, cases_Bool, eqb-true, Reason, SendClosed, ReceiveClosed, Waiter, IsWithin, drop_receiver, drop_sender, end_all, ended_by, line_of, receiver_dropped, sender_dropped, settlement, MovesTo, IsOneSided}
 use Rattle.kanal_core.proofs.Sided.{under-line, ends-line}
 use Rattle.kanal_core.proofs.Stepping.{row}
 

@@ -1,10 +1,5 @@
 -- Messages that are taken out of waiters, one after another.
-use Rattle.std.proofs.Common.{◌≡◌, ℕ, ◌≤◌, zero, suc, List, [], ◌∷◌, ◌++◌, length, map, drop, Option, Some, None, refl, ap, sym, ◌∙◌, arith, append_assoc}
-use Rattle.std.specs.List.{cons_option}
-use Rattle.kanal_core.specs.declared.internal.outcome.Waiter.{Waiter}
-use Rattle.kanal_core.specs.Channel.{taken_by}
-use Rattle.kanal_core.specs.Waiters.{brought, emptied}
-use Rattle.kanal_core.specs.Sided.{AllReceive}
+use Rattle.kanal_core.proofs.Common.{◌≡◌, ℕ, ◌≤◌, zero, suc, List, [], ◌∷◌, ◌++◌, length, map, drop, Option, Some, None, refl, ap, sym, ◌∙◌, arith, append_assoc, cons_option, Waiter, taken_by, brought, emptied, AllReceive}
 
 module _ {T W : Type 0} where
   -- the first n of them without a message

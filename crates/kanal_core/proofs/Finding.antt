@@ -1,13 +1,6 @@
 -- Who has a ticket, where a waiter stands between others in linked slots.
-use Rattle.std.proofs.Common.{◌≡◌, ◌≢◌, ◌⊎◌, ℕ, Bool, true, false, not, List, [], ◌∷◌, ◌++◌, Option, Some, None, IfSome, IfNone, inl, inr, refl, sym, ap, ◌∙◌, arith, subst}
-use Rattle.kanal_core.specs.declared.internal.outcome.Ticket.{Ticket}
-use Rattle.kanal_core.specs.declared.internal.outcome.Waiter.{Waiter}
-use Rattle.kanal_core.specs.declared.internal.slots.Slot.{Slot}
-use Rattle.kanal_core.specs.Links.{first_place, IsFree, AreApart, IsLinked, IsOneOut}
-use Rattle.slab.specs.Slab.{Slab, get}
+use Rattle.kanal_core.proofs.Common.{◌≡◌, ◌≢◌, ◌⊎◌, ℕ, Bool, true, false, not, List, [], ◌∷◌, ◌++◌, Option, Some, None, IfSome, IfNone, inl, inr, refl, sym, ap, ◌∙◌, arith, subst, Ticket, Waiter, Slot, first_place, IsFree, AreApart, IsLinked, IsOneOut, Slab, get, TakesFirst, same_ticket, waiter_of, without, with_w}
 use Rattle.kanal_core.proofs.Linking.{stands, free_if_empty, AreApart-out, IsFree-parts}
-use Rattle.kanal_core.specs.Calls.{TakesFirst}
-use Rattle.kanal_core.specs.Waiters.{same_ticket, waiter_of, without, with_w}
 
 pub same_ticket-same : (t : Ticket) → same_ticket t t ≡ true
 same_ticket-same t = grind arith

@@ -1,14 +1,8 @@
 -- A take from the buffer, with the waiting sender that it lets in.
-use Rattle.std.proofs.Common.{◌≡◌, ℕ, true, List, [], ◌∷◌, ◌++◌, length, Option, Some, None, refl, ap, ◌∙◌, subst, inl, arith, length-append}
+use Rattle.kanal_core.proofs.Common.{◌≡◌, ℕ, true, List, [], ◌∷◌, ◌++◌, length, Option, Some, None, refl, ap, ◌∙◌, subst, inl, arith, length-append, Waiter, IsWithin, line_of, settlements, sender_first, TakesFront, OldestLeft, AllSend, Rises, IsOneSided}
 use Rattle.kanal_core.specs.declared.internal.outcome.Settled.{Settled}
-use Rattle.kanal_core.specs.declared.internal.outcome.Waiter.{Waiter}
-use Rattle.kanal_core.specs.Line.{IsWithin}
 use Rattle.kanal_core.specs.BufferViews.{BufferView}
-use Rattle.kanal_core.specs.Channel.{line_of, settlements}
-use Rattle.kanal_core.specs.Waiters.{sender_first}
 use Rattle.kanal_core.specs.Handing.{LetsIn}
-use Rattle.kanal_core.specs.Calls.{TakesFront, OldestLeft}
-use Rattle.kanal_core.specs.Sided.{AllSend, Rises, IsOneSided}
 use Rattle.kanal_core.proofs.Sided.{sender-side, nobody-behind}
 use Rattle.kanal_core.proofs.Stepping.{row, takes-alone, takes-let-in}
 use Rattle.kanal_core.proofs.Sounding.{side-let-in, rises-tail}

@@ -1,3 +1,4 @@
+pub mod Common
 pub mod Bare
 pub mod Within
 pub mod Linking

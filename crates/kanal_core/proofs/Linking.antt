@@ -1,11 +1,9 @@
 -- Lists of waiters in linked slots, where one leaves or joins.
-use Rattle.std.proofs.Common.{eqb, ◌≡◌, ◌≢◌, ℕ, ◌+◌, List, [], ◌∷◌, ◌++◌, length, Option, Some, None, cond, refl, sym, ap, ◌∙◌, inl, inr, arith, subst, length-append}
-use Rattle.std.proofs.lemmas.Bool.{cases_eq}
+use Rattle.kanal_core.proofs.Common.{eqb, ◌≡◌, ◌≢◌, ℕ, ◌+◌, List, [], ◌∷◌, ◌++◌, length, Option, Some, None, cond, refl, sym, ap, ◌∙◌, inl, inr, arith, subst, length-append, cases_eq, Slab, get, slab_len, Updates, Waiter, Slot, first_place, last_place, slot_for, IsFree, AreApart, walk, IsLinked, link_after, link_before, IsOneOut, end_after, front_with}
 use Rattle.std.proofs.lemmas.List.{append-nil}
-use Rattle.slab.specs.Slab.{Slab, get, slab_len, Updates}
-use Rattle.kanal_core.specs.declared.internal.outcome.Waiter.{Waiter}
-use Rattle.kanal_core.specs.declared.internal.slots.Slot.{Slot}
-use Rattle.kanal_core.specs.Links.{first_place, last_place, slot_for, IsFree, AreApart, walk, IsLinked, link_after, link_before, IsOneOut, end_after, front_with}
+
+by_some : {m n : ℕ} → Some m ≡ Some n → m ≡ n
+by_some same = cc
 
 module _ {T W : Type 0} where
   -- a free place holds nothing
@@ -82,16 +80,10 @@ module _ {T W : Type 0} where
   last_place-free : (q : Option ℕ) (ws : List (Waiter T W)) (p : ℕ) → (Some p ≢ q) → IsFree p ws → Some p ≢ last_place q ws
   last_place-free q [] p off free = off
   last_place-free q (x ∷ xs) p off free = last_place-free (Some x.ticket.place) xs p (λ same. free.0 (by_some same)) free.1
-    where
-      by_some : {m n : ℕ} → Some m ≡ Some n → m ≡ n
-      by_some same = cc
 
   first_place-free : (ws : List (Waiter T W)) (p : ℕ) → IsFree p ws → Some p ≢ first_place ws
   first_place-free [] p free = λ same. absurd (cc)
   first_place-free (x ∷ xs) p free = λ same. free.0 (by_some same)
-    where
-      by_some : {m n : ℕ} → Some m ≡ Some n → m ≡ n
-      by_some same = cc
 
   -- what the place p holds once the slot at `gone` is empty
   abbrev pub vacated : ℕ → ℕ → Option (Slot T W) → Option (Slot T W)
@@ -120,9 +112,6 @@ module _ {T W : Type 0} where
   off_before : (q : Option ℕ) (p : ℕ) (ws : List (Waiter T W)) (x : Waiter T W) → p ≡ x.ticket.place → IsFreeBefore q (x ∷ ws) → Some p ≢ q
   off_before None p ws x is free = λ same. absurd (cc)
   off_before (Some n) p ws x is free = λ same. free.0 (by_some (sym same) ∙ is)
-    where
-      by_some : {m n : ℕ} → Some m ≡ Some n → m ≡ n
-      by_some same = cc
 
   pub slot_for-here : (q : Option ℕ) (x : Waiter T W) (xs : List (Waiter T W)) (p : ℕ) → p ≡ x.ticket.place → slot_for q (x ∷ xs) p ≡ Some (record { waiter = x; before = q; after = first_place xs })
   slot_for-here q x xs p same = grind arith
@@ -144,9 +133,6 @@ module _ {T W : Type 0} where
             rw none (closed_up-none (Some n) after gone p)
         | inr differs ↦ closed_up-off (Some n) after gone p _ (λ same. differs (by_some same)) off_after off
       ]
-    where
-      by_some : {m n : ℕ} → Some m ≡ Some n → m ≡ n
-      by_some same = cc
 
   -- a waiter out of the front
   unlinked_first : (q : Option ℕ) (x : Waiter T W) (b : List (Waiter T W)) (p : ℕ) → IsFreeBefore q (x ∷ b) → AreApart (x ∷ b) → closed_up q (first_place b) x.ticket.place p (slot_for q (x ∷ b) p) ≡ slot_for q b p
@@ -172,9 +158,6 @@ module _ {T W : Type 0} where
             ])
       ]
     where
-      by_some : {m n : ℕ} → Some m ≡ Some n → m ≡ n
-      by_some same = cc
-
       rest_free : (q : Option ℕ) → IsFreeBefore q (x ∷ z ∷ b) → IsFreeBefore q (z ∷ b)
       rest_free None free = tt
       rest_free (Some n) free = free.1
@@ -196,9 +179,6 @@ module _ {T W : Type 0} where
         | inr off ↦ rw (slot_for-on q y (a ++ x ∷ b) p off, slot_for-on q y (a ++ b) p off) (unlinked (Some y.ticket.place) a x b p apart.0 apart.1)
       ]
     where
-      by_some : {m n : ℕ} → Some m ≡ Some n → m ≡ n
-      by_some same = cc
-
       at_y : (a : List (Waiter T W)) → IsFree y.ticket.place a → p ≡ y.ticket.place → p ≢ x.ticket.place → Some p ≢ first_place b →
           closed_up (last_place (Some y.ticket.place) a) (first_place b) x.ticket.place p (Some (record { waiter = y; before = q; after = first_place (a ++ x ∷ b) }))
           ≡ Some (record { waiter = y; before = q; after = first_place (a ++ b) })
@@ -230,9 +210,6 @@ module _ {T W : Type 0} where
         | inr off ↦ rw (slot_for-on q y ys p off, slot_for-on q y (ys ++ x ∷ []) p off) (appended (Some y.ticket.place) ys x p apart.0 (λ is. free_x.0 (by_some is)) free_x.1 apart.1)
       ]
     where
-      by_some : {m n : ℕ} → Some m ≡ Some n → m ≡ n
-      by_some same = cc
-
       at_y : (ys : List (Waiter T W)) → IsFree y.ticket.place ys → p ≡ y.ticket.place → p ≢ x.ticket.place →
           link_after (last_place (Some y.ticket.place) ys) (Some x.ticket.place) p (stored x (last_place (Some y.ticket.place) ys) p (Some (record { waiter = y; before = q; after = first_place ys })))
           ≡ Some (record { waiter = y; before = q; after = first_place (ys ++ x ∷ []) })

@@ -1,14 +1,5 @@
 -- A seal, and the end of what can be received, as the line sees them.
-use Rattle.std.proofs.Common.{◌≡◌, ℕ, ◌==◌, ◌&&◌, suc, true, false, not, List, [], ◌∷◌, ◌++◌, length, map, Option, refl, sym, ap, ◌∙◌, inl, inr, arith}
-use Rattle.std.proofs.lemmas.Bool.{ne_eqb}
-use Rattle.kanal_core.specs.declared.internal.outcome.Reason.TheVariants.{SendClosed}
-use Rattle.kanal_core.specs.declared.internal.outcome.Waiter.{Waiter}
-use Rattle.kanal_core.specs.Line.{IsWithin, bare}
-use Rattle.kanal_core.specs.Moves.{seal}
-use Rattle.kanal_core.specs.Channel.{ended_by, line_of, settlement}
-use Rattle.kanal_core.specs.Calls.{MovesTo}
-use Rattle.kanal_core.specs.Sided.{IsOneSided}
-use Rattle.kanal_core.specs.Waiters.{receiver_first, sender_first}
+use Rattle.kanal_core.proofs.Common.{◌≡◌, ℕ, ◌==◌, ◌&&◌, suc, true, false, not, List, [], ◌∷◌, ◌++◌, length, map, Option, refl, sym, ap, ◌∙◌, inl, inr, arith, ne_eqb, SendClosed, Waiter, IsWithin, bare, seal, ended_by, line_of, settlement, MovesTo, IsOneSided, receiver_first, sender_first}
 use Rattle.kanal_core.proofs.Sided.{no-demand, receiver-side}
 use Rattle.kanal_core.proofs.Sides.{ends-receive, entries, receive-entries}
 use Rattle.kanal_core.proofs.Stepping.{row}

@@ -1,19 +1,5 @@
 -- The line of a channel in which one side waits at most.
-use Rattle.std.proofs.Common.{◌≡◌, ℕ, true, false, not, List, [], ◌∷◌, ◌++◌, length, map, filter, take, drop, Option, Some, None, refl, sym, ap, ◌∙◌, subst, inl, inr, arith, append-nil}
-use Rattle.std.specs.List.{filter_map}
-use Rattle.std.proofs.lemmas.List.Elements.{filter_map-append}
-use Rattle.std.proofs.lemmas.List.{take_at}
-use Rattle.std.proofs.lemmas.Bool.{false≢true, ltb-true}
-use Rattle.std.proofs.Math.ListN.{length-map}
-use Rattle.kanal_core.specs.declared.internal.outcome.Reason.{Reason}
-use Rattle.kanal_core.specs.declared.internal.outcome.Outcome.{Outcome}
-use Rattle.kanal_core.specs.declared.internal.outcome.Outcome.TheVariants.{Ended}
-use Rattle.kanal_core.specs.declared.internal.outcome.Waiter.{Waiter}
-use Rattle.kanal_core.specs.Line.{LineEntry, Line, bare, messages, under, is_below, holds_ticket, IsWithin}
-use Rattle.kanal_core.specs.Moves.{serve, ended_entry, none_settled}
-use Rattle.kanal_core.specs.Channel.{ended_by, settlement}
-use Rattle.kanal_core.specs.Waiters.{receiver_first, sender_first}
-use Rattle.kanal_core.specs.Sided.{AllSend, AllReceive, IsOneSided}
+use Rattle.kanal_core.proofs.Common.{◌≡◌, ℕ, true, false, not, List, [], ◌∷◌, ◌++◌, length, map, filter, take, drop, Option, Some, None, refl, sym, ap, ◌∙◌, subst, inl, inr, arith, append-nil, filter_map, filter_map-append, take_at, false≢true, ltb-true, length-map, Reason, Outcome, Ended, Waiter, LineEntry, Line, bare, messages, under, is_below, holds_ticket, IsWithin, serve, ended_entry, none_settled, ended_by, settlement, receiver_first, sender_first, AllSend, AllReceive, IsOneSided}
 use Rattle.kanal_core.proofs.Bare.{messages-bare, under-bare}
 use Rattle.kanal_core.proofs.Within.{under-within}
 use Rattle.kanal_core.proofs.Sides.{entries, demands, receive-entries, send-demands, ends-send, ends-receive}

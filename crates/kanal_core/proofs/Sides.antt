@@ -1,18 +1,5 @@
 -- The waiters of one side, as entries or as demands of the line.
-use Rattle.std.proofs.Common.{◌≡◌, ℕ, ◌+◌, ◌≤◌, ◌<◌, true, false, not, eqb, List, [], ◌∷◌, ◌++◌, map, filter, Option, Some, None, refl, sym, ap, ◌∙◌, inl, inr, arith}
-use Rattle.std.specs.List.{filter_map, cons_option}
-use Rattle.std.specs.Option.{option_map}
-use Rattle.std.proofs.lemmas.Bool.{cases_Bool, eq-eqb, ne_eqb}
-use Rattle.kanal_core.specs.declared.internal.outcome.Reason.{Reason}
-use Rattle.kanal_core.specs.declared.internal.outcome.Outcome.{Outcome}
-use Rattle.kanal_core.specs.declared.internal.outcome.Outcome.TheVariants.{Ended}
-use Rattle.kanal_core.specs.declared.internal.outcome.Ticket.{Ticket}
-use Rattle.kanal_core.specs.declared.internal.outcome.Waiter.{Waiter}
-use Rattle.kanal_core.specs.Line.{LineEntry, waiting, messages, has, holds_ticket, found}
-use Rattle.kanal_core.specs.Moves.{ended_entry}
-use Rattle.kanal_core.specs.Channel.{entry_of, demand_of, ended_by, settlement}
-use Rattle.kanal_core.specs.Waiters.{waiter_of, without, with_w, same_ticket, brought, IsPlaced}
-use Rattle.kanal_core.specs.Sided.{AllSend, AllReceive, Rises}
+use Rattle.kanal_core.proofs.Common.{◌≡◌, ℕ, ◌+◌, ◌≤◌, ◌<◌, true, false, not, eqb, List, [], ◌∷◌, ◌++◌, map, filter, Option, Some, None, refl, sym, ap, ◌∙◌, inl, inr, arith, filter_map, cons_option, option_map, cases_Bool, eq-eqb, ne_eqb, Reason, Outcome, Ended, Ticket, Waiter, LineEntry, waiting, messages, has, holds_ticket, found, ended_entry, entry_of, demand_of, ended_by, settlement, waiter_of, without, with_w, same_ticket, brought, IsPlaced, AllSend, AllReceive, Rises}
 
 brought-cons : {T : Type 0} (o : Option T) (n : ℕ) (rest : List (LineEntry T)) (ms : List T) → messages rest ≡ ms → messages (cons_option (option_map (λ m. waiting m n) o) rest) ≡ cons_option o ms
 brought-cons None n rest ms h = h

@@ -1,14 +1,5 @@
 -- One side waits at most after each call, too.
-use Rattle.std.proofs.Common.{◌≡◌, ℕ, ◌+◌, suc, false, List, [], ◌∷◌, ◌++◌, length, map, Option, Some, None, refl, sym, ap, ◌∙◌, subst, inl, inr, arith, append-nil, length-append}
-use Rattle.std.proofs.lemmas.Bool.{false≢true}
-use Rattle.std.proofs.lemmas.Bool.Decides.{nat_tests}
-use Rattle.std.proofs.Math.ListN.{length-map}
-use Rattle.kanal_core.specs.declared.internal.outcome.Ticket.{Ticket}
-use Rattle.kanal_core.specs.declared.internal.outcome.Waiter.{Waiter}
-use Rattle.kanal_core.specs.Line.{bare, is_below, has_place, IsWithin}
-use Rattle.kanal_core.specs.Channel.{line_of}
-use Rattle.kanal_core.specs.Waiters.{without, with_w}
-use Rattle.kanal_core.specs.Sided.{AllSend, AllReceive, Rises, IsOneSided}
+use Rattle.kanal_core.proofs.Common.{◌≡◌, ℕ, ◌+◌, suc, false, List, [], ◌∷◌, ◌++◌, length, map, Option, Some, None, refl, sym, ap, ◌∙◌, subst, inl, inr, arith, append-nil, length-append, false≢true, nat_tests, length-map, Ticket, Waiter, bare, is_below, has_place, IsWithin, line_of, without, with_w, AllSend, AllReceive, Rises, IsOneSided}
 use Rattle.kanal_core.proofs.Sides.{entries, sends-last, receives-last, rises-last, rises-less, sends-without, receives-without, sends-with, receives-with}
 use Rattle.kanal_core.proofs.Stepping.{row}
 

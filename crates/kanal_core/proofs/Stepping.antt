@@ -1,19 +1,5 @@
 -- Each call of the core, as a step of its line.
-use Rattle.std.proofs.Common.{◌≡◌, ℕ, ◌+◌, ◌≤◌, ◌⊎◌, suc, true, false, not, List, [], ◌∷◌, ◌++◌, length, map, filter, take, drop, Option, Some, None, IfSome, MatchOption, refl, ap, ◌∙◌, inl, inr, arith, append-nil, append_assoc, length-append}
-use Rattle.std.specs.Option.{option_map}
-use Rattle.std.proofs.lemmas.List.Elements.{filter_map-append}
-use Rattle.std.proofs.lemmas.Bool.{cases_Bool}
-use Rattle.std.proofs.lemmas.Bool.Decides.{nat_tests}
-use Rattle.std.proofs.Math.ListN.{length-map}
-use Rattle.kanal_core.specs.declared.internal.outcome.Outcome.TheVariants.{Taken, Given}
-use Rattle.kanal_core.specs.declared.internal.outcome.Ticket.{Ticket}
-use Rattle.kanal_core.specs.declared.internal.outcome.Waiter.{Waiter}
-use Rattle.kanal_core.specs.Line.{LineEntry, bare, waiting, tickets, is_below, has, has_place, holds_ticket, found, IsWithin}
-use Rattle.kanal_core.specs.Moves.{Moved, enter, leave, wait_send, wait_recv}
-use Rattle.kanal_core.specs.Channel.{ChannelView, line_of, entry_of, demand_of}
-use Rattle.kanal_core.specs.Waiters.{same_ticket, waiter_of, without, IsPlaced, receiver_first, sender_first}
-use Rattle.kanal_core.specs.Calls.{Enters, TakesFront, MovesTo, Withdraws}
-use Rattle.kanal_core.specs.Sided.{AllSend, AllReceive, Rises, IsOneSided}
+use Rattle.kanal_core.proofs.Common.{◌≡◌, ℕ, ◌+◌, ◌≤◌, ◌⊎◌, suc, true, false, not, List, [], ◌∷◌, ◌++◌, length, map, filter, take, drop, Option, Some, None, IfSome, MatchOption, refl, ap, ◌∙◌, inl, inr, arith, append-nil, append_assoc, length-append, option_map, filter_map-append, cases_Bool, nat_tests, length-map, Taken, Given, Ticket, Waiter, LineEntry, bare, waiting, tickets, is_below, has, has_place, holds_ticket, found, IsWithin, Moved, enter, leave, wait_send, wait_recv, ChannelView, line_of, entry_of, demand_of, same_ticket, waiter_of, without, IsPlaced, receiver_first, sender_first, Enters, TakesFront, MovesTo, Withdraws, AllSend, AllReceive, Rises, IsOneSided}
 use Rattle.kanal_core.proofs.Bare.{leave-bare}
 use Rattle.kanal_core.proofs.Sides.{entries, demands, receive-entries, send-demands, sends-without, receives-without, beyond-found, beyond-has, finds-send, finds-receive}
 use Rattle.kanal_core.proofs.Sided.{serve-nothing, no-demand, no-entry}

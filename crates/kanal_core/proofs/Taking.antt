@@ -1,9 +1,5 @@
 -- A walk that takes the waiters' messages out, one after another.
-use Rattle.std.proofs.Common.{◌≡◌, ℕ, ◌+◌, ◌<◌, zero, suc, List, [], ◌∷◌, ◌++◌, length, drop, Option, Some, None, refl, ap, sym, ◌∙◌, arith}
-use Rattle.std.specs.List.{cons_option}
-use Rattle.kanal_core.specs.declared.internal.outcome.Waiter.{Waiter}
-use Rattle.kanal_core.specs.Links.{first_place, IsFree, IsHeld, TakesMessageAt}
-use Rattle.kanal_core.specs.Waiters.{brought, emptied}
+use Rattle.kanal_core.proofs.Common.{◌≡◌, ℕ, ◌+◌, ◌<◌, zero, suc, List, [], ◌∷◌, ◌++◌, length, drop, Option, Some, None, refl, ap, sym, ◌∙◌, arith, cons_option, Waiter, first_place, IsFree, IsHeld, TakesMessageAt, brought, emptied}
 use Rattle.kanal_core.proofs.Emptying.{emptied_to}
 use Rattle.kanal_core.proofs.Walks.{cut_at}
 

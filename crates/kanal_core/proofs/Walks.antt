@@ -1,11 +1,5 @@
 -- A walk along the links from the oldest waiter.
-use Rattle.std.proofs.Common.{◌≡◌, ◌≢◌, ℕ, zero, suc, ◌+◌, ◌≤◌, Bool, true, false, List, [], ◌∷◌, ◌++◌, drop, length, Option, Some, None, refl, sym, ap, ◌∙◌, inl, inr, arith, subst}
-use Rattle.slab.specs.Slab.{Slab, get}
-use Rattle.kanal_core.specs.declared.internal.outcome.Waiter.{Waiter}
-use Rattle.kanal_core.specs.declared.internal.slots.Slot.{Slot}
-use Rattle.kanal_core.specs.declared.internal.outcome.Ticket.{Ticket}
-use Rattle.kanal_core.specs.Links.{first_place, slot_for, IsFree, AreApart, IsLinked}
-use Rattle.kanal_core.specs.Waiters.{IsFirstWhere, behind, same_ticket, waiter_of}
+use Rattle.kanal_core.proofs.Common.{◌≡◌, ◌≢◌, ℕ, zero, suc, ◌+◌, ◌≤◌, Bool, true, false, List, [], ◌∷◌, ◌++◌, drop, length, Option, Some, None, refl, sym, ap, ◌∙◌, inl, inr, arith, subst, Slab, get, Waiter, Slot, Ticket, first_place, slot_for, IsFree, AreApart, IsLinked, IsFirstWhere, behind, same_ticket, waiter_of}
 use Rattle.kanal_core.proofs.Finding.{IsNotThere, same_ticket-same, same_ticket-off, same_ticket-is, true_or_false}
 use Rattle.kanal_core.proofs.Linking.{slot_for-here, slot_for-on, stands}
 

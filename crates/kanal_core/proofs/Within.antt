@@ -1,7 +1,5 @@
 -- A list within a limit is all below it.
-use Rattle.std.proofs.Common.{◌≡◌, ℕ, zero, suc, List, [], length, Option, Some, None, refl}
-use Rattle.std.proofs.lemmas.List.{take_all}
-use Rattle.kanal_core.specs.Line.{under, IsWithin}
+use Rattle.kanal_core.proofs.Common.{◌≡◌, ℕ, zero, suc, List, [], length, Option, Some, None, refl, take_all, under, IsWithin}
 
 pub under-within : {X : Type 0} (c : Option ℕ) (xs : List X) → IsWithin (length xs) c → under c xs ≡ xs
 under-within None xs h = refl

@@ -1,13 +1,7 @@
 -- A drain of the core, as the event that it is.
-use Rattle.std.proofs.Common.{◌≡◌, ℕ, ◌==◌, List, [], ◌++◌, length, drop, sym, ap, inl, inr}
-use Rattle.std.proofs.lemmas.Bool.{cases_Bool, eqb-true}
+use Rattle.kanal_events.proofs.Common.{◌≡◌, ℕ, ◌==◌, List, [], ◌++◌, length, drop, sym, ap, inl, inr, cases_Bool, eqb-true, Line, messages, Moved, drain, MovesTo, Drained, StepSpec, take_line}
 use Rattle.std.proofs.Math.Seq.{drop-append_seam}
 use Rattle.kanal_core.specs.declared.internal.outcome.Outcome.{Outcome}
-use Rattle.kanal_core.specs.Line.{Line, messages}
-use Rattle.kanal_core.specs.Moves.{Moved, drain}
-use Rattle.kanal_core.specs.Calls.{MovesTo}
-use Rattle.kanal_events.specs.declared.event.Reply.TheVariants.{Drained}
-use Rattle.kanal_events.specs.Steps.{StepSpec, take_line}
 
 module _ {T : Type 0} where
   abbrev told : Line T → ℕ → List (ℕ × Outcome T) → List T → StepSpec T

@@ -1,11 +1,6 @@
 -- Who waits after a step, and which ticket it gave.
-use Rattle.std.proofs.Common.{◌≡◌, ℕ, ◌+◌, zero, suc, List, [], ◌∷◌, ◌++◌, length, Bool, true, false, cond, slice_get, Option, Some, refl, sym, ap, subst, ◌∙◌, arith, inl, inr}
-use Rattle.std.proofs.lemmas.Bool.{cases_Bool}
+use Rattle.kanal_events.proofs.Common.{◌≡◌, ℕ, ◌+◌, zero, suc, List, [], ◌∷◌, ◌++◌, length, Bool, true, false, cond, slice_get, Option, Some, refl, sym, ap, subst, ◌∙◌, arith, inl, inr, cases_Bool, Waiter, ChannelView, after_drain, same_ticket, sender_first, without, WaitsLast}
 use Rattle.kanal_core.specs.declared.internal.outcome.Ticket.{Ticket}
-use Rattle.kanal_core.specs.declared.internal.outcome.Waiter.{Waiter}
-use Rattle.kanal_core.specs.Channel.{ChannelView, after_drain}
-use Rattle.kanal_core.specs.Waiters.{same_ticket, sender_first, without}
-use Rattle.kanal_core.specs.Calls.{WaitsLast}
 use Rattle.kanal_events.specs.declared.step_result.Placement.{Placement}
 use Rattle.kanal_events.specs.declared.step_result.Placement.TheVariants.{Ticket as Waiting, Back}
 use Rattle.kanal_events.specs.Given.{AreKept, Gives, GivesNone, GivesOne}

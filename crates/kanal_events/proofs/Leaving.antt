@@ -1,18 +1,8 @@
 -- Who leaves the list of those that wait, by what the core says of each call.
-use Rattle.std.proofs.Common.{◌≡◌, ◌≢◌, arith, Bool, true, false, ◌==◌, List, [], ◌∷◌, map, Option, None, Some, cond, refl, ap, sym, subst, ◌∙◌, inl}
-use Rattle.kanal_core.specs.declared.internal.outcome.Reason.{Reason}
+use Rattle.kanal_events.proofs.Common.{◌≡◌, ◌≢◌, arith, Bool, true, false, ◌==◌, List, [], ◌∷◌, map, Option, None, Some, cond, refl, ap, sym, subst, ◌∙◌, inl, Reason, Waiter, MovesTo, OldestLeft, ChannelView, after_drain, closed, ended_by, line_of, receiver_dropped, sealed, sender_dropped, settlement, taken_by, drop_receiver, drop_sender, seal, receiver_first, sender_first, Event, DropRx, DropTx, Seal, Done, moving, step}
 use Rattle.kanal_core.specs.declared.internal.outcome.Settled.{Settled}
-use Rattle.kanal_core.specs.declared.internal.outcome.Waiter.{Waiter}
-use Rattle.kanal_core.specs.Calls.{MovesTo, OldestLeft}
-use Rattle.kanal_core.specs.Channel.{ChannelView, after_drain, closed, ended_by, line_of, receiver_dropped, sealed, sender_dropped, settlement, taken_by}
-use Rattle.kanal_core.specs.Moves.{drop_receiver, drop_sender, seal}
-use Rattle.kanal_core.specs.Waiters.{receiver_first, sender_first}
-use Rattle.kanal_events.specs.declared.event.Event.{Event}
-use Rattle.kanal_events.specs.declared.event.Event.TheVariants.{DropRx, DropTx, Seal}
-use Rattle.kanal_events.specs.declared.event.Reply.TheVariants.{Done}
 use Rattle.kanal_events.specs.declared.step_result.Leaving.TheVariants.{All}
 use Rattle.kanal_events.specs.Leaving.{IsStep, Leave, at_most_one}
-use Rattle.kanal_events.specs.Steps.{moving, step}
 use Rattle.kanal_events.proofs.Giving.{none-left}
 
 module _ {T W : Type 0} where

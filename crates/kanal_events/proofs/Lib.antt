@@ -1,3 +1,5 @@
+pub mod Common
 mod Giving
 mod Draining
 mod Leaving
+pub mod StepCases

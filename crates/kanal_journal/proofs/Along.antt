@@ -1,20 +1,11 @@
 -- What holds along every list of events, and at each cut of it.
-use Rattle.std.proofs.Common.{◌≡◌, ℕ, ◌+◌, ◌≤◌, ◌<◌, ◌⊎◌, zero, suc, ltb, List, [], ◌∷◌, ◌++◌, length, filter, take, drop, Option, Some, refl, sym, ap, ◌∙◌, subst, inl, inr, arith, length-append, append-nil, append_assoc}
-use Rattle.std.proofs.lemmas.Bool.{cases_lt, false≢true, lt-ltb}
-use Rattle.std.proofs.lemmas.List.{take_all, take-take}
-use Rattle.std.proofs.Math.ListN.{length-take}
+use Rattle.kanal_journal.proofs.Common.{◌≡◌, ℕ, ◌+◌, ◌≤◌, ◌<◌, ◌⊎◌, zero, suc, ltb, List, [], ◌∷◌, ◌++◌, length, filter, take, drop, Option, Some, refl, sym, ap, ◌∙◌, subst, inl, inr, arith, length-append, append-nil, append_assoc, cases_lt, false≢true, lt-ltb, take_all, take-take, length-take, Line, LineEntry, messages, Event, Reply, Settlement, Account, Leads, opening_account, opening_line, numbered, PairedHistory, Demand, AtOnce, Later, Next, Paired, demands, receipts, receipts_from, rest, until, given}
 use Rattle.std.proofs.Math.Seq.{take-append_seam, drop-append_seam}
-use Rattle.kanal_core.specs.Line.{Line, LineEntry, messages}
-use Rattle.kanal_events.specs.declared.event.Event.{Event}
-use Rattle.kanal_events.specs.declared.event.Reply.{Reply}
-use Rattle.kanal_journal.specs.declared.journal.report.Settlement.{Settlement}
-use Rattle.kanal_journal.specs.Runs.{Account, Leads, opening_account, opening_line, numbered}
-use Rattle.kanal_journal.specs.Paired.{PairedHistory, Demand, AtOnce, Later, Next, Paired, demands, receipts, receipts_from, rest, until, given}
 use Rattle.kanal_journal.proofs.Slots.{nexts}
 use Rattle.kanal_journal.proofs.Holding.{Holds, kept_is, demands_count, holds_paired}
 use Rattle.kanal_journal.proofs.Ending.{seats-none}
 use Rattle.kanal_journal.proofs.EachStep.{told-holds}
-use Rattle.kanal_journal.proofs.Cuts.{AllBefore, grows, settled_before}
+use Rattle.kanal_journal.proofs.Cuts.{AllBefore, grows, settled_before, before_more, before-append}
 
 module _ {T : Type 0} where
   -- the history that an account tells of these events
@@ -65,14 +56,6 @@ module _ {T : Type 0} where
       let long : length a.replies ≤ length l.0.replies = omega (arith, ap length is, length-append a.replies (l.1.0.reply ∷ [])) in
       sym (take-take (length a.replies) (length l.0.replies) b.replies long) ∙ rw (replies-grow l.0 b es l.2, is) (take-append_seam a.replies (l.1.0.reply ∷ []))
 
-  before-more : (n k : ℕ) (ss : List (Settlement T)) → n ≤ k → AllBefore n ss → AllBefore k ss
-  before-more n k [] h a = tt
-  before-more n k (s ∷ ss) h a = (omega (arith, a.0), before-more n k ss h a.1)
-
-  before-append : (n : ℕ) (xs ys : List (Settlement T)) → AllBefore n xs → AllBefore n ys → AllBefore n (xs ++ ys)
-  before-append n [] ys a b = b
-  before-append n (x ∷ xs) ys a b = (a.0, before-append n xs ys a.1 b)
-
   numbered-before : (n : ℕ) (ss : _) → AllBefore {T = T} (n + 1) (numbered n ss)
   numbered-before n [] = tt
   numbered-before n (s ∷ ss) = (omega arith, numbered-before n ss)
@@ -84,7 +67,7 @@ module _ {T : Type 0} where
       let told = l.1.0 in
       let P : Account T → Type 0 = λ x. AllBefore (length x.replies) x.settled in
       let k = length a.replies in
-      let old : AllBefore (k + 1) a.settled = before-more k (k + 1) a.settled (omega arith) h in
+      let old : AllBefore (k + 1) a.settled = before_more k (k + 1) a.settled (omega arith) h in
       let all : AllBefore (k + 1) (a.settled ++ numbered k told.settled) = before-append (k + 1) a.settled (numbered k told.settled) old (numbered-before k told.settled) in
       let Q : ℕ → Type 0 = λ m. AllBefore m (a.settled ++ numbered k told.settled) in
       settled-earlier l.0 b es l.2 (subst P (sym l.1.2) (subst Q (sym (one-longer a told.reply)) all))
@@ -154,7 +137,7 @@ module _ {T : Type 0} where
     mid-settled : filter (λ s. ltb s.step n) b.settled ≡ mid.settled
     mid-settled =
         elim (cases_lt (length events) n) [
-          | inl past ↦ ap (λ (x : Account T). filter (λ (s : Settlement T). ltb s.step n) x.settled) (long past) ∙ (filter-all n mid.settled (before-more (length mid.replies) n mid.settled (omega (arith, mid-count, length-take n events)) mid-earlier))
+          | inl past ↦ ap (λ (x : Account T). filter (λ (s : Settlement T). ltb s.step n) x.settled) (long past) ∙ (filter-all n mid.settled (before_more (length mid.replies) n mid.settled (omega (arith, mid-count, length-take n events)) mid-earlier))
           | inr within ↦ ap (λ k. filter (λ (s : Settlement T). ltb s.step k) b.settled) (sym (short within)) ∙ settled_before mid b (drop n events) at.others mid-earlier
         ]
 

@@ -1,15 +1,5 @@
 -- Each kind of step keeps what is known of tickets and places.
-use Rattle.std.proofs.Common.{◌≡◌, ℕ, ◌≤◌, ◌<◌, ◌⊎◌, Bool, true, false, not, ◌==◌, ◌||◌, List, [], ◌∷◌, ◌++◌, length, filter, Option, Some, None, refl, sym, ap, ◌∙◌, subst, inl, inr, arith, append-nil, append_assoc}
-use Rattle.std.proofs.lemmas.Bool.{cases_Bool, false≢true, eqb-true}
-use Rattle.kanal_core.specs.declared.internal.outcome.Outcome.TheVariants.{Given}
-use Rattle.kanal_core.specs.Line.{LineEntry, Line, bare, waiting, tickets, has, under, over, is_below, holds_ticket}
-use Rattle.kanal_core.specs.Moves.{seated, wait_send, wait_recv, without_entry, without_demand}
-use Rattle.kanal_events.specs.declared.event.Event.{Event}
-use Rattle.kanal_events.specs.declared.event.Event.TheVariants.{Withdraw}
-use Rattle.kanal_events.specs.declared.event.Reply.{Reply}
-use Rattle.kanal_events.specs.declared.event.Reply.TheVariants.{Withdrawn}
-use Rattle.kanal_journal.specs.Runs.{numbered}
-use Rattle.kanal_journal.specs.Paired.{asked, withdrawn_ticket, given}
+use Rattle.kanal_journal.proofs.Common.{◌≡◌, ℕ, ◌≤◌, ◌<◌, ◌⊎◌, Bool, true, false, not, ◌==◌, ◌||◌, List, [], ◌∷◌, ◌++◌, length, filter, Option, Some, None, refl, sym, ap, ◌∙◌, subst, inl, inr, arith, append-nil, append_assoc, cases_Bool, false≢true, eqb-true, Given, LineEntry, Line, bare, waiting, tickets, has, under, over, is_below, holds_ticket, seated, wait_send, wait_recv, without_entry, without_demand, Event, Withdraw, Reply, Withdrawn, numbered, asked, withdrawn_ticket, given}
 use Rattle.kanal_journal.proofs.Sends.{was_taken}
 use Rattle.kanal_journal.proofs.Slots.{nexts}
 use Rattle.kanal_journal.proofs.Settling.{AreApart, AllWait, IsSeated, takes, taken_has, none_ends, has_tail, or_off, or_true, under-over, apart_has}
@@ -27,7 +17,7 @@ module _ {T : Type 0} (n : ℕ) where
   none-given [] t = refl
   none-given (u ∷ ts) t = elim (cases_Bool (u == t)) [ inl e ↦ rw e (none-given ts t) | inr e ↦ rw e (none-given ts t) ]
 
-or-none : (b : Bool) → (b || false) ≡ b
+pub or-none : (b : Bool) → (b || false) ≡ b
 or-none true = refl
 or-none false = refl
 

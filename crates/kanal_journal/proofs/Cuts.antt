@@ -1,11 +1,5 @@
 -- A cut of a run is a run, and what the report says of the first steps is what that run tells.
-use Rattle.std.proofs.Common.{◌≡◌, ℕ, ◌≤◌, ◌<◌, suc, ltb, List, [], ◌∷◌, ◌++◌, length, filter, refl, sym, ap, ◌∙◌, arith, length-append, append-nil, append_assoc}
-use Rattle.std.proofs.lemmas.Bool.{lt-ltb, le-ltb}
-use Rattle.std.proofs.lemmas.List.Elements.{filter-append}
-use Rattle.kanal_events.specs.declared.event.Event.{Event}
-use Rattle.kanal_core.specs.declared.internal.outcome.Outcome.{Outcome}
-use Rattle.kanal_journal.specs.declared.journal.report.Settlement.{Settlement}
-use Rattle.kanal_journal.specs.Runs.{Account, Leads, numbered}
+use Rattle.kanal_journal.proofs.Common.{◌≡◌, ℕ, ◌≤◌, ◌<◌, suc, ltb, List, [], ◌∷◌, ◌++◌, length, filter, refl, sym, ap, ◌∙◌, arith, length-append, append-nil, append_assoc, lt-ltb, le-ltb, filter-append, Event, Outcome, Settlement, Account, Leads, numbered}
 
 module _ {T : Type 0} where
   abbrev pub AllBefore : ℕ → List (Settlement T) → Type 0
@@ -16,7 +10,7 @@ module _ {T : Type 0} where
   AllFrom n [] = Unit {0}
   AllFrom n (s ∷ ss) = (n ≤ s.step) × AllFrom n ss
 
-  before_more : (n k : ℕ) (ss : List (Settlement T)) → n ≤ k → AllBefore n ss → AllBefore k ss
+  pub before_more : (n k : ℕ) (ss : List (Settlement T)) → n ≤ k → AllBefore n ss → AllBefore k ss
   before_more n k [] h a = tt
   before_more n k (s ∷ ss) h a = (let x = a.0 in omega arith, before_more n k ss h a.1)
 
@@ -24,7 +18,7 @@ module _ {T : Type 0} where
   from_less n k [] h a = tt
   from_less n k (s ∷ ss) h a = (let x = a.0 in omega arith, from_less n k ss h a.1)
 
-  before-append : (n : ℕ) (xs ys : List (Settlement T)) → AllBefore n xs → AllBefore n ys → AllBefore n (xs ++ ys)
+  pub before-append : (n : ℕ) (xs ys : List (Settlement T)) → AllBefore n xs → AllBefore n ys → AllBefore n (xs ++ ys)
   before-append n [] ys a b = b
   before-append n (x ∷ xs) ys a b = (a.0, before-append n xs ys a.1 b)
 

@@ -1,13 +1,6 @@
 -- A drain: the whole line leaves.
-use Rattle.std.proofs.Common.{◌≡◌, ℕ, zero, suc, List, [], ◌∷◌, ◌++◌, length, map, filter, replicate, refl, sym, ap, ◌∙◌, inl, arith, append-nil}
-use Rattle.std.specs.List.{sum_by}
+use Rattle.kanal_journal.proofs.Common.{◌≡◌, ℕ, zero, suc, List, [], ◌∷◌, ◌++◌, length, map, filter, replicate, refl, sym, ap, ◌∙◌, inl, arith, append-nil, sum_by, LineEntry, Line, bare, messages, tickets, Drain, Reply, Drained, Settlement, PairedHistory, AtOnce, Next, cleared_by, demand_stays}
 use Rattle.std.proofs.Math.ListN.{length-map}
-use Rattle.kanal_core.specs.Line.{LineEntry, Line, bare, messages, tickets}
-use Rattle.kanal_events.specs.declared.event.Event.TheVariants.{Drain}
-use Rattle.kanal_events.specs.declared.event.Reply.{Reply}
-use Rattle.kanal_events.specs.declared.event.Reply.TheVariants.{Drained}
-use Rattle.kanal_journal.specs.declared.journal.report.Settlement.{Settlement}
-use Rattle.kanal_journal.specs.Paired.{PairedHistory, AtOnce, Next, cleared_by, demand_stays}
 use Rattle.kanal_journal.proofs.Sends.{longer, later, ticket_stays}
 use Rattle.kanal_journal.proofs.Slots.{resolve, nexts}
 use Rattle.kanal_journal.proofs.Settling.{AreApart, takes, none_ends, all_stay, later_taken, seated_all}

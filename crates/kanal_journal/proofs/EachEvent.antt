@@ -1,16 +1,5 @@
 -- Each event moves what the line moves.
-use Rattle.std.proofs.Common.{◌≡◌, ℕ, ◌+◌, true, false, not, eqb, ◌==◌, List, [], ◌∷◌, ◌++◌, length, map, filter, Option, None, refl, sym, ap, ◌∙◌, inl, inr, append-nil}
-use Rattle.std.proofs.lemmas.Bool.{cases_Bool, eq-eqb, eqb-true}
-use Rattle.kanal_events.specs.declared.event.Event.{Event}
-use Rattle.kanal_events.specs.declared.event.Event.TheVariants.{Send, Recv, Withdraw}
-use Rattle.kanal_core.specs.declared.internal.outcome.Outcome.TheVariants.{Given}
-use Rattle.kanal_events.specs.declared.event.Reply.{Reply}
-use Rattle.kanal_events.specs.declared.event.Reply.TheVariants.{Waits, Withdrawn}
-use Rattle.kanal_journal.specs.declared.journal.report.Settlement.{Settlement}
-use Rattle.kanal_core.specs.Line.{LineEntry, Line, bare, waiting, tickets, has, under, holds_ticket}
-use Rattle.kanal_core.specs.Moves.{seated, taken}
-use Rattle.kanal_journal.specs.Runs.{numbered}
-use Rattle.kanal_journal.specs.Paired.{PairedHistory, Demand, AtOnce, Later, sent, asked, withdrawn_ticket, given, is_gone}
+use Rattle.kanal_journal.proofs.Common.{◌≡◌, ℕ, ◌+◌, true, false, not, eqb, ◌==◌, List, [], ◌∷◌, ◌++◌, length, map, filter, Option, None, refl, sym, ap, ◌∙◌, inl, inr, append-nil, cases_Bool, eq-eqb, eqb-true, Event, Send, Recv, Withdraw, Given, Reply, Waits, Withdrawn, Settlement, LineEntry, Line, bare, waiting, tickets, has, under, holds_ticket, seated, taken, numbered, PairedHistory, Demand, AtOnce, Later, sent, asked, withdrawn_ticket, given, is_gone}
 use Rattle.kanal_journal.proofs.Sends.{goes, gone-last, was_taken}
 use Rattle.kanal_journal.proofs.Slots.{slot_stays, answered}
 use Rattle.kanal_journal.proofs.Settling.{AreApart, entries_still, demands_still, takes, taken_move, none_ends, given_other, withdrawn_move, and_false, or_off, eqb_swap}

@@ -1,25 +1,6 @@
 -- Ends: a close and a last drop. Steps that change nothing but a count.
-use Rattle.std.proofs.Common.{◌≡◌, ℕ, ◌-◌, zero, suc, Bool, true, false, ◌==◌, ◌||◌, List, [], ◌∷◌, ◌++◌, length, map, filter, take, drop, Option, Some, None, refl, sym, ap, ◌∙◌, inl, inr, arith, append-nil, length-append}
-use Rattle.std.specs.List.{filter_map, cons_option, sum_by}
-use Rattle.std.specs.Option.{option_map, is_some}
-use Rattle.std.proofs.lemmas.Bool.{cases_Bool, false≢true}
-use Rattle.std.proofs.lemmas.List.{take_at, take-take}
-use Rattle.std.proofs.lemmas.List.Sums.{sum_by-append}
-use Rattle.std.proofs.lemmas.List.Folds.{list_any-append}
+use Rattle.kanal_journal.proofs.Common.{◌≡◌, ℕ, ◌-◌, zero, suc, Bool, true, false, ◌==◌, ◌||◌, List, [], ◌∷◌, ◌++◌, length, map, filter, take, drop, Option, Some, None, refl, sym, ap, ◌∙◌, inl, inr, arith, append-nil, length-append, filter_map, cons_option, sum_by, option_map, is_some, cases_Bool, false≢true, take_at, take-take, sum_by-append, list_any-append, Reason, Closed as ByClose, Outcome, Ended, LineEntry, Line, bare, tickets, has, under, ended, ended_entry, close, cleared, Event, Close, Reply, Cleared, Settlement, numbered, PairedHistory, AtOnce, Later, sent, asked, withdrawn_ticket, cleared_by, without_last, given}
 use Rattle.std.proofs.Math.ListN.{length-map}
-use Rattle.kanal_core.specs.declared.internal.outcome.Reason.{Reason}
-use Rattle.kanal_core.specs.declared.internal.outcome.Reason.TheVariants.{Closed as ByClose}
-use Rattle.kanal_core.specs.declared.internal.outcome.Outcome.{Outcome}
-use Rattle.kanal_core.specs.declared.internal.outcome.Outcome.TheVariants.{Ended}
-use Rattle.kanal_core.specs.Line.{LineEntry, Line, bare, tickets, has, under}
-use Rattle.kanal_core.specs.Moves.{ended, ended_entry, close, cleared}
-use Rattle.kanal_events.specs.declared.event.Event.{Event}
-use Rattle.kanal_events.specs.declared.event.Event.TheVariants.{Close}
-use Rattle.kanal_events.specs.declared.event.Reply.{Reply}
-use Rattle.kanal_events.specs.declared.event.Reply.TheVariants.{Cleared}
-use Rattle.kanal_journal.specs.declared.journal.report.Settlement.{Settlement}
-use Rattle.kanal_journal.specs.Runs.{numbered}
-use Rattle.kanal_journal.specs.Paired.{PairedHistory, AtOnce, Later, sent, asked, withdrawn_ticket, cleared_by, without_last, given}
 use Rattle.kanal_journal.proofs.Sends.{goes, longer, entries, was_taken}
 use Rattle.kanal_journal.proofs.Slots.{slot_stays, entries_last}
 use Rattle.kanal_journal.proofs.Settling.{IsSeated, AllBare, entries_still, ended_move, ends_has, has_tail, has_self, or_true}
@@ -27,7 +8,7 @@ use Rattle.kanal_journal.proofs.Holding.{Holds, Moves, waits, all_entries, next_
 use Rattle.kanal_journal.proofs.EachEvent.{moves_quiet}
 use Rattle.kanal_journal.proofs.Tickets.{bare-tickets}
 use Rattle.kanal_journal.proofs.Upkeep.{Clean, is_now, known_next, below_last, same-next, drained-next, holds_next}
-use Rattle.kanal_journal.proofs.Cleaning.{clean_quiet}
+use Rattle.kanal_journal.proofs.Cleaning.{clean_quiet, or-none}
 
 pub seats-none : (T : Type 0) (c : Option ℕ) → IsSeated {T = T} c []
 seats-none T None = (tt, tt)
@@ -36,10 +17,6 @@ seats-none T (Some (suc c)) = (tt, tt)
 
 without-end : {X : Type 0} (xs ys : List X) (n : ℕ) → length ys ≡ n → without_last n (xs ++ ys) ≡ xs
 without-end xs ys n h = take_at xs ys (length (xs ++ ys) - n) (omega (arith, length-append xs ys))
-
-or-none : (b : Bool) → (b || false) ≡ b
-or-none true = refl
-or-none false = refl
 
 -- the settlements take the ticket, or give to it
 abbrev pub is_told : {T : Type 0} → List (Settlement T) → ℕ → Bool

@@ -1,11 +1,7 @@
 -- The tickets that were given, and who waits with them.
-use Rattle.std.proofs.Common.{◌≡◌, ℕ, ◌<◌, zero, suc, List, [], ◌∷◌, ◌++◌, length, slice_get, get_or, Some, refl, sym, ap, subst, ◌∙◌, arith}
-use Rattle.kanal_core.specs.declared.internal.outcome.Ticket.{Ticket}
+use Rattle.kanal_journal.proofs.Common.{◌≡◌, ℕ, ◌<◌, zero, suc, List, [], ◌∷◌, ◌++◌, length, slice_get, get_or, Some, refl, sym, ap, subst, ◌∙◌, arith, Ticket, ChannelView, AreKept, GivesNone, GivesOne, AreGiven}
 use Rattle.kanal_core.specs.declared.internal.outcome.Waiter.{Waiter}
-use Rattle.kanal_core.specs.Channel.{ChannelView}
 use Rattle.kanal_core.specs.Waiters.{IsPlaced}
-use Rattle.kanal_events.specs.Given.{AreKept, GivesNone, GivesOne}
-use Rattle.kanal_journal.specs.Given.{AreGiven}
 use Rattle.kanal_journal.proofs.Numbering.{numbered-count, numbered-last}
 
 -- a look-up with a default, within the list

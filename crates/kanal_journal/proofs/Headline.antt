@@ -1,10 +1,6 @@
 -- What follows from a report that tells what the line does.
-use Rattle.std.proofs.Common.{◌≡◌, ℕ, List, [], Option, ap, ◌∙◌, arith}
-use Rattle.kanal_events.specs.declared.event.Event.{Event}
+use Rattle.kanal_journal.proofs.Common.{◌≡◌, ℕ, List, [], Option, ap, ◌∙◌, arith, Event, Runs, account, opening_account, Paired, rest, history, until, weigh, event_weight, report_weight}
 use Rattle.kanal_journal.specs.declared.journal.report.Report.{Report}
-use Rattle.kanal_journal.specs.Runs.{Runs, account, opening_account}
-use Rattle.kanal_journal.specs.Paired.{Paired, rest, history, until}
-use Rattle.kanal_journal.specs.Weights.{weigh, event_weight, report_weight}
 use Rattle.kanal_journal.proofs.Holding.{Holds}
 use Rattle.kanal_journal.proofs.Along.{told_history, holds-opening, holds-along, paired-at, rest-left}
 use Rattle.kanal_journal.proofs.Weighing.{weigh-leads}

@@ -1,19 +1,7 @@
 -- What holds of a history and the line at every cut, and what follows.
-use Rattle.std.proofs.Common.{◌≡◌, ℕ, ◌+◌, ◌-◌, ◌<◌, ◌⊎◌, suc, Bool, true, false, ◌||◌, List, [], ◌∷◌, ◌++◌, length, map, filter, Option, Some, refl, sym, ap, ◌∙◌, inl, inr, arith, append_assoc, length-append}
-use Rattle.std.specs.List.{sum_by}
-use Rattle.std.specs.Option.{is_some}
-use Rattle.std.proofs.lemmas.List.{take-map}
+use Rattle.kanal_journal.proofs.Common.{◌≡◌, ℕ, ◌+◌, ◌-◌, ◌<◌, ◌⊎◌, suc, Bool, true, false, ◌||◌, List, [], ◌∷◌, ◌++◌, length, map, filter, Option, Some, refl, sym, ap, ◌∙◌, inl, inr, arith, append_assoc, length-append, sum_by, is_some, take-map, map-append, Event, Reply, Settlement, LineEntry, Line, bare, messages, tickets, has, PairedHistory, Demand, AtOnce, Later, Next, along, sent, is_gone, given, send_stays, demands, cleared_by, without_last, kept, receipts, ArePaired, Paired, sum_by-append, take_all, cases_Bool, false≢true, asked, demand_stays}
 use Rattle.std.proofs.Math.ListN.{length-map}
-use mathlib.Core.List.{map-append}
-use Rattle.kanal_events.specs.declared.event.Event.{Event}
-use Rattle.kanal_events.specs.declared.event.Reply.{Reply}
-use Rattle.kanal_journal.specs.declared.journal.report.Settlement.{Settlement}
-use Rattle.kanal_core.specs.Line.{LineEntry, Line, bare, messages, tickets, has}
-use Rattle.kanal_journal.specs.Paired.{PairedHistory, Demand, AtOnce, Later, Next, along, sent, is_gone, given, send_stays, demands, cleared_by, without_last, kept, receipts, ArePaired, Paired}
-use Rattle.std.proofs.lemmas.List.Sums.{sum_by-append}
-use Rattle.std.proofs.lemmas.List.{take_all}
-use Rattle.std.proofs.lemmas.Bool.{cases_Bool, false≢true}
-use Rattle.kanal_journal.specs.Paired.{asked, demand_stays}
+use Rattle.kanal_core.proofs.Bare.{messages-bare}
 use Rattle.kanal_journal.proofs.Sends.{entries, entry_at, was_taken, longer, goes, later, ticket_stays, fresh}
 use Rattle.kanal_journal.proofs.Slots.{slots, resolve, receipt_of, receipts_resolved, nexts, slot_stays, answered, slots_last, entries_last}
 use Rattle.kanal_journal.proofs.Settling.{AreApart, IsSeated}
@@ -56,10 +44,6 @@ module _ {T : Type 0} where
   sent_messages ss [] = refl
   sent_messages ss (x ∷ xs) = ap (λ ys. x.0 ∷ ys) (sent_messages ss xs)
 
-  bare_messages : (ms : List T) → messages (map bare ms) ≡ ms
-  bare_messages [] = refl
-  bare_messages (m ∷ ms) = ap (λ ys. m ∷ ys) (bare_messages ms)
-
   resolved_length : (ss : List (Settlement T)) (ds : List (Demand T)) (ms : List T) → length (resolve ss ds ms) ≡ length ds
   resolved_length ss [] ms = refl
   resolved_length ss (AtOnce m ∷ ds) ms = ap suc (resolved_length ss ds ms)
@@ -86,7 +70,7 @@ module _ {T : Type 0} where
         let n = sum_by cleared_by h.replies in
         let xs = filter (send_stays h) (along sent h.events h.replies) in
         let cut : without_last n (messages (entries h)) ≡ messages (without_last n (entries h)) = rw length-map (take-map _ (length (entries h) - n) (entries h)) in
-        ap (λ ms. without_last n ms) (sent_messages h.settled xs) ∙ (cut ∙ (ap messages now.entries_is ∙ rw (map-append, bare_messages)))
+        ap (λ ms. without_last n ms) (sent_messages h.settled xs) ∙ (cut ∙ (ap messages now.entries_is ∙ rw (map-append, messages-bare)))
 
     pub receipts_is : receipts h ≡ map Some now.served ++ map receipt_of (map Later l.demands)
     receipts_is = receipts_resolved h.settled (demands h) h.drained ∙ (ap (λ ds. map receipt_of ds) now.slots_is ∙ rw (map-append, served_receipts))

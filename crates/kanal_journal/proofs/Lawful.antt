@@ -1,16 +1,5 @@
 -- The laws of every list of events.
-use Rattle.std.proofs.Common.{◌≡◌, ◌≢◌, ℕ, ◌+◌, ◌≤◌, ◌⊎◌, zero, suc, true, cond, ◌==◌, List, [], ◌∷◌, ◌++◌, length, map, filter, take, drop, Option, Some, None, refl, sym, ap, ◌∙◌, subst, inl, inr, arith, append-nil, append_assoc}
-use Rattle.std.proofs.lemmas.Bool.{cases_Bool, cases_lt, eqb-true, eq-eqb}
-use Rattle.std.proofs.Math.ListN.{length-take}
-use mathlib.Core.List.{map-append}
-use Rattle.kanal_core.specs.declared.internal.outcome.Outcome.{Outcome}
-use Rattle.kanal_core.specs.Line.{is_at, tickets, under, over, buffered}
-use Rattle.kanal_events.specs.declared.event.Event.{Event}
-use Rattle.kanal_journal.specs.declared.journal.report.Settlement.{Settlement}
-use Rattle.kanal_journal.specs.Runs.{Account, Leads, opening_account, numbered}
-use Rattle.kanal_journal.specs.Paired.{along, withdrawn_ticket, kept, demands}
-use Rattle.kanal_journal.specs.Weights.{weigh}
-use Rattle.kanal_journal.specs.Laws.{told_history, settled_times, withdrawn_times}
+use Rattle.kanal_journal.proofs.Common.{◌≡◌, ◌≢◌, ℕ, ◌+◌, ◌≤◌, ◌⊎◌, zero, suc, true, cond, ◌==◌, List, [], ◌∷◌, ◌++◌, length, map, filter, take, drop, Option, Some, None, refl, sym, ap, ◌∙◌, subst, inl, inr, arith, append-nil, append_assoc, cases_Bool, cases_lt, eqb-true, eq-eqb, length-take, map-append, Outcome, is_at, tickets, under, over, buffered, Event, Settlement, Account, Leads, opening_account, numbered, along, withdrawn_ticket, kept, demands, weigh, told_history, settled_times, withdrawn_times}
 use Rattle.kanal_journal.proofs.Sends.{along-last}
 use Rattle.kanal_journal.proofs.Tickets.{bare-tickets, tickets-over}
 use Rattle.kanal_journal.proofs.Holding.{Holds, waits, counts}

@@ -1,7 +1,5 @@
 -- A list of events goes on by one.
-use Rattle.std.proofs.Common.{List, [], ◌∷◌, ◌++◌, refl, subst}
-use Rattle.kanal_events.specs.declared.event.Event.{Event}
-use Rattle.kanal_journal.specs.Runs.{Account, AccountStep, Leads}
+use Rattle.kanal_journal.proofs.Common.{List, [], ◌∷◌, ◌++◌, refl, subst, Event, Account, AccountStep, Leads}
 
 pub Leads-last : {T : Type 0} (a b c : Account T) (events : List (Event T)) (event : Event T) → Leads a events b → AccountStep b event c → Leads a (events ++ event ∷ []) c
 Leads-last {T} a b c [] event h k = let P : Account T → Type 0 = λ x. AccountStep x event c in (c, subst P h k, refl)

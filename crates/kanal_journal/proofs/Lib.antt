@@ -1,3 +1,4 @@
+pub mod Common
 pub mod Leading
 pub mod Sends
 pub mod Slots
@@ -20,6 +21,7 @@ pub mod Giving
 pub mod Withdrawing
 pub mod Counting
 pub mod Noting
+pub mod Reading
 pub mod Regular
 pub mod Replaying
 pub mod Examples

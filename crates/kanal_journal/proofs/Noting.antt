@@ -1,24 +1,7 @@
 -- What a running channel holds and tells after a step was noted.
-use Rattle.std.proofs.Common.{◌≡◌, ℕ, ◌+◌, ◌≤◌, zero, suc, List, [], ◌∷◌, ◌++◌, length, map, take, Option, Some, None, refl, sym, ap, subst, inl, inr, ◌⊎◌, arith, length-append}
-use Rattle.std.proofs.lemmas.Bool.{cases_Bool}
-use Rattle.std.proofs.lemmas.List.{length-map}
-use Rattle.kanal_core.specs.declared.internal.outcome.Outcome.{Outcome}
-use Rattle.kanal_core.specs.Line.{LineEntry, Line, bare, tickets, under}
-use Rattle.kanal_core.specs.declared.internal.outcome.Ticket.{Ticket}
-use Rattle.kanal_core.specs.Channel.{ChannelView, line_of}
-use Rattle.kanal_journal.specs.declared.journal.handles.Handles.{Handles}
-use Rattle.kanal_events.specs.declared.event.Event.{Event}
-use Rattle.kanal_events.specs.declared.event.Event.TheVariants.{CloneTx, CloneRx, DropTx, DropRx}
-use Rattle.kanal_events.specs.declared.event.Reply.{Reply}
-use Rattle.kanal_journal.specs.declared.journal.report.Settlement.{Settlement}
-use Rattle.kanal_journal.specs.declared.journal.running.Running.{Running}
-use Rattle.kanal_journal.specs.Runs.{Account, AccountStep, added, numbered as with_number, handles_after, opening_account, opening_line}
-use Rattle.kanal_journal.specs.Given.{AreGiven, waiting_count}
-use Rattle.kanal_events.specs.Steps.{is_done}
-use Rattle.kanal_events.specs.StepResult.{told_of, reply_of, settled_of, drained_of, cleared_of}
+use Rattle.kanal_journal.proofs.Common.{◌≡◌, ℕ, ◌+◌, ◌≤◌, zero, suc, List, [], ◌∷◌, ◌++◌, length, map, take, Option, Some, None, refl, sym, ap, subst, inl, inr, ◌⊎◌, arith, length-append, cases_Bool, length-map, Outcome, LineEntry, Line, bare, tickets, under, Ticket, ChannelView, line_of, Handles, Event, CloneTx, CloneRx, DropTx, DropRx, Reply, Settlement, Running, Account, AccountStep, added, numbered as with_number, handles_after, opening_account, opening_line, AreGiven, waiting_count, is_done, told_of, reply_of, settled_of, drained_of, cleared_of, RunningStep, IsOpened, IsWithinEvents, IsSame, account_of}
 use Rattle.kanal_events.specs.declared.step_result.StepResult.{StepResult}
 use Rattle.kanal_journal.specs.StepResult.{ServedPost}
-use Rattle.kanal_journal.specs.Running.{RunningStep, IsOpened, IsWithinEvents, IsSame, account_of}
 use Rattle.kanal_journal.proofs.Counting.{told-counts, told-count}
 use Rattle.kanal_journal.proofs.Numbering.{numbered-more}
 

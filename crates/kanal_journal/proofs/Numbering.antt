@@ -1,7 +1,5 @@
 -- The tickets that were given, and their numbers.
-use Rattle.std.proofs.Common.{◌≡◌, ℕ, ◌+◌, ◌≤◌, List, [], ◌∷◌, ◌++◌, length, sym, ap, ◌∙◌, arith}
-use Rattle.kanal_core.specs.declared.internal.outcome.Ticket.{Ticket}
-use Rattle.kanal_journal.specs.Given.{AreNumbered}
+use Rattle.kanal_journal.proofs.Common.{◌≡◌, ℕ, ◌+◌, ◌≤◌, List, [], ◌∷◌, ◌++◌, length, sym, ap, ◌∙◌, arith, Ticket, AreNumbered}
 
 pub numbered-last : (first : ℕ) (ts : List Ticket) (t : Ticket) (next : ℕ) → t.number ≡ next → AreNumbered first ts next → AreNumbered first (ts ++ t ∷ []) (next + 1)
 numbered-last first [] t next e a = (e ∙ sym a, ap (λ k. k + 1) a)

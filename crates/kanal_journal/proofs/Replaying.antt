@@ -1,32 +1,17 @@
 -- What follows for a journal that replays, and how it grows by one entry.
-use Rattle.std.proofs.Common.{◌≡◌, ℕ, ◌+◌, true, false, List, [], ◌∷◌, ◌++◌, length, Option, refl, sym, ap, ◌∙◌, subst, inl, inr, arith, length-append, append-nil}
-use Rattle.std.proofs.lemmas.List.{map-append, length-map}
-use Rattle.std.proofs.lemmas.Bool.{false≢true}
+use Rattle.kanal_journal.proofs.Common.{◌≡◌, ℕ, ◌+◌, true, false, List, [], ◌∷◌, ◌++◌, length, Option, refl, sym, ap, ◌∙◌, subst, inl, inr, arith, length-append, append-nil, length-map, false≢true, messages, line_of, Event, NoMemory, Reply, StepSpec, message_of, refused, no_memory, is_no_memory, Account, Leads, added, made, opening_account, Paired, until, rest, Recording, Replays, Records, events_of, replies_of, next_account, played, recorded_history, longer, RunningStep, IsWithinEvents, IsSame, account_of, Running}
+use Rattle.std.proofs.lemmas.List.{map-append}
 use Rattle.std.specs.Global.{Vec}
-use Rattle.kanal_core.specs.Line.{messages}
-use Rattle.kanal_core.specs.Channel.{line_of}
-use Rattle.kanal_journal.specs.declared.journal.handles.Handles.{Handles}
-use Rattle.kanal_events.specs.declared.event.Event.{Event}
-use Rattle.kanal_events.specs.declared.event.Event.TheVariants.{CloneTx, CloneRx, DropTx, DropRx}
-use Rattle.kanal_events.specs.declared.event.Refusal.{Refusal}
-use Rattle.kanal_events.specs.declared.event.Refusal.TheVariants.{NoMemory}
-use Rattle.kanal_events.specs.declared.event.Reply.{Reply}
-use Rattle.kanal_events.specs.declared.event.Reply.TheVariants.{Refused}
 use Rattle.kanal_journal.specs.declared.journal.recorder.Entry.{Entry}
-use Rattle.kanal_events.specs.Steps.{StepSpec, message_of, refused, no_memory, is_no_memory}
-use Rattle.kanal_journal.specs.Runs.{Account, Leads, added, made, opening_account, handles_after}
-use Rattle.kanal_journal.specs.Paired.{Paired, until, rest}
-use Rattle.kanal_journal.specs.Replays.{Recording, Replays, Records, events_of, replies_of, next_account, played, recorded_history, longer}
-use Rattle.kanal_journal.specs.Running.{RunningStep, IsWithinEvents, IsSame, account_of}
 use Rattle.kanal_journal.specs.Recorders.{RecorderIsSound, journal_of, recording_of}
 use Rattle.kanal_journal.specs.declared.journal.recorder.Recorder.{Recorder}
-use Rattle.kanal_journal.specs.declared.journal.running.Running.{Running}
 use Rattle.kanal_journal.proofs.Along.{told_history, holds-opening, holds-along, paired-at, rest-left}
 use Rattle.kanal_journal.proofs.Noting.{noted-all, noted-rest, within-same, same-told, same-within}
-use Rattle.kanal_journal.proofs.Regular.{made-regular}
+use Rattle.kanal_journal.proofs.Reading.{refused-handles}
+use Rattle.kanal_journal.proofs.Regular.{told-regular, made-found}
 
 module _ {T : Type 0} where
-  leads-played : (a : Account T) (es : List (Event T)) → Leads a es (played a es)
+  pub leads-played : (a : Account T) (es : List (Event T)) → Leads a es (played a es)
   leads-played a [] = refl
   leads-played a (e ∷ es) = (next_account a e, (made a.handles a.line e, inl refl, refl), leads-played (next_account a e) es)
 
@@ -56,13 +41,6 @@ module _ {T : Type 0} where
         replies = ap (λ rs. rs ++ (made a.handles a.line x.event).reply ∷ []) r.replies ∙ (ap (λ y. replies_of entries ++ y ∷ []) (sym is) ∙ sym (map-append (λ (e : Entry T). e.reply) entries (x ∷ [])));
       }
 
-  refused-handles : (handles : Handles) (e : Event T) (reason : Refusal) (back : Option T) → handles_after handles e (Refused reason back) ≡ handles
-  refused-handles handles CloneTx reason back = refl
-  refused-handles handles CloneRx reason back = refl
-  refused-handles handles DropTx reason back = refl
-  refused-handles handles DropRx reason back = refl
-  refused-handles handles e reason back = refl
-
   -- an event that was refused for memory told nothing
   refused-same : (a : Account T) (e : Event T) → record (added a e (refused a.line NoMemory e)) { replies = a.replies } ≡ a
   refused-same a e = rw (refused-handles a.handles e NoMemory (message_of e), append-nil a.settled, append-nil a.drained, append-nil a.cleared) refl
@@ -73,7 +51,7 @@ module _ {T : Type 0} where
     noted-nothing w =
         let a = account_of replies old in
         elim noted.answers [
-          | inl p ↦ absurd (false≢true (sym (made-regular a.line a.handles e).memory ∙ (ap (λ (t : StepSpec T). is_no_memory t.reply) (sym p) ∙ (ap is_no_memory (sym noted.replied) ∙ w))))
+          | inl p ↦ absurd (false≢true (sym (made-found a.line a.handles e) ∙ (ap (λ (t : StepSpec T). is_no_memory t.reply) (sym p) ∙ (ap is_no_memory (sym noted.replied) ∙ w))))
           | inr p ↦ (noted.replied ∙ ap (λ (t : StepSpec T). t.reply) p.2, noted-rest replies old new e reply noted ∙ (ap (λ (t : StepSpec T). record (added a e t) { replies = replies }) p.2 ∙ refused-same a e))
         ]
 
@@ -113,7 +91,7 @@ module _ {T : Type 0} where
           let m = noted-made (replies_of entries) start mid e reply counted said in
           let rs : replies_of more ≡ replies_of entries ++ reply ∷ [] = ap replies_of is ∙ map-append (λ (x : Entry T). x.reply) entries (record { party = party; event = e; reply = reply } ∷ []) in
           let end : account_of (replies_of more) mid ≡ next_account (account_of (replies_of entries) start) e = ap (λ ys. account_of ys mid) rs ∙ m.1 in
-          let capacity : mid.core.capacity ≡ start.core.capacity = ap (λ (a : Account T). a.line.capacity) m.1 ∙ (made-regular (line_of start.core) start.handles e).capacity in
+          let capacity : mid.core.capacity ≡ start.core.capacity = ap (λ (a : Account T). a.line.capacity) m.1 ∙ (told-regular (line_of start.core) start.handles e (made start.handles (line_of start.core) e) (inl refl)).capacity in
           longer-is start.core.capacity mid.core.capacity entries more (account_of (replies_of entries) start) (account_of (replies_of more) mid) party e reply capacity is end
 
       -- a step of the recorder that found memory, and entered its call

@@ -1,23 +1,6 @@
 -- The tickets that wait rise and are below the next one: each step keeps it, and what it settles rises, too.
-use Rattle.std.proofs.Common.{◌≡◌, ℕ, ◌+◌, ◌-◌, ◌≤◌, ◌⊎◌, zero, suc, Bool, true, false, cond, eqb, ◌==◌, ◌&&◌, List, [], ◌∷◌, ◌++◌, length, map, filter, take, drop, Option, Some, None, refl, sym, ap, ◌∙◌, subst, inl, inr, arith, append-nil, append_assoc}
-use Rattle.std.proofs.lemmas.Bool.{cases_Bool, eq-eqb, eqb-true, lt-ltb, le-ltb}
-use Rattle.std.proofs.lemmas.List.Elements.{filter-append}
-use mathlib.Core.List.{map-append}
-use Rattle.kanal_core.specs.declared.internal.outcome.Outcome.{Outcome}
-use Rattle.kanal_core.specs.declared.internal.outcome.Reason.{Reason}
-use Rattle.kanal_core.specs.declared.internal.outcome.Reason.TheVariants.{Closed as ByClose, SendClosed as NoSendersLeft, ReceiveClosed as NoReceiversLeft}
-use Rattle.kanal_core.specs.Line.{LineEntry, Line, IsWithin, last_word, bare, waiting, tickets, has, under, over, messages, has_place, is_below, is_empty, found}
-use Rattle.kanal_core.specs.Moves.{last_count, serve, enter, leave, drain, end_all, close, cleared, wait_send, wait_recv, without_demand, add_sender, add_receiver, seal}
-use Rattle.kanal_journal.specs.declared.journal.handles.Handles.{Handles}
-use Rattle.kanal_events.specs.declared.event.Event.{Event}
-use Rattle.kanal_events.specs.declared.event.Event.TheVariants.{Send, TrySend, Recv, RecvLate, TryRecv, Drain, Withdraw, CloneTx, CloneRx, DropTx, DropRx, Seal, Close, Ask as Asks, Terminated}
-use Rattle.kanal_events.specs.declared.event.Refusal.TheVariants.{Closed as ByClosed, ReceiveClosed as NoReceiver, Sealed as BySeal, SendClosed as NoSender, Timeout, NoMemory, TooMany, CloseError, NoHandle, NotWaiting}
-use Rattle.kanal_events.specs.declared.event.Reply.{Reply}
-use Rattle.kanal_events.specs.declared.event.Reply.TheVariants.{Sent, Waits, Yes, No, Got, Nothing, Drained, Withdrawn, Done, Cleared, Flag, Refused}
-use Rattle.kanal_journal.specs.declared.journal.report.Settlement.{Settlement}
-use Rattle.kanal_events.specs.Steps.{StepSpec, only, moving, offer, take as take_told, take_front, nothing_there, wait, withdraw, seal_line, shut, take_line, cloned, answer, message_of, step, refused}
-use Rattle.kanal_journal.specs.Runs.{Account, TellsWith, Leads, opening_account, has_handle, numbered}
-use Rattle.kanal_journal.specs.Laws.{AreRising, WaitByPlace, without_ticket, settled_at, told_history}
+use Rattle.kanal_journal.proofs.Common.{◌≡◌, ℕ, ◌+◌, ◌≤◌, ◌⊎◌, zero, suc, Bool, true, false, cond, ◌==◌, List, [], ◌∷◌, ◌++◌, length, map, filter, take, drop, Option, Some, None, refl, sym, ap, ◌∙◌, subst, inl, inr, arith, append-nil, append_assoc, cases_Bool, eq-eqb, eqb-true, lt-ltb, le-ltb, filter-append, map-append, Outcome, Reason, Closed as ByClose, SendClosed as NoSendersLeft, LineEntry, Line, IsWithin, bare, waiting, tickets, under, over, is_below, is_empty, serve, leave, end_all, wait_send, wait_recv, Handles, Event, Reply, Got, Done, Settlement, StepSpec, only, moving, refused, StepCase, Refuses, Replies, Enters, TakesFront, SendWaits, RecvWaits, WithdrawsDemand, WithdrawsEntry, Drains, Recounts, EndsAll, Seals, Closes, step_case, Account, TellsWith, Leads, opening_account, numbered, AreRising, WaitByPlace, without_ticket, settled_at, told_history}
+use Rattle.kanal_journal.proofs.Reading.{told_by}
 use Rattle.kanal_journal.proofs.Settling.{AllBare, AllWait, IsSeated, under-over}
 use Rattle.kanal_journal.proofs.Seats.{tickets_seated}
 use Rattle.kanal_journal.proofs.Holding.{Holds, waits}
@@ -97,29 +80,15 @@ module _ {T : Type 0} where
   serve-order l m (x ∷ xs) (d ∷ ds) one now r = absurd (elim one [ inl e ↦ cc | inr e ↦ cc ])
 
   module _ (l : Line T) (now : AreRising 0 (waits l) l.next) (one : (l.line ≡ []) ⊎ (l.demands ≡ [])) where
-    to : (told other : StepSpec T) → told ≡ other → KeepsOrder l other → KeepsOrder l told
-    to told other is k = subst (KeepsOrder l) (sym is) k
-
-    still : (r : Reply T) → KeepsOrder l (only l r)
-    still r = record { waits = now; settled = omega arith; grows = omega arith }
-
-    recount : (r : Reply T) (senders receivers : ℕ) → KeepsOrder l (only (record l { senders = senders; receivers = receivers }) r)
-    recount r senders receivers = record { waits = now; settled = omega arith; grows = omega arith }
-
-    offers : (m : T) (r : Reply T) (otherwise : StepSpec T) → (l.demands ≡ [] → KeepsOrder l otherwise) → KeepsOrder l (offer l m r otherwise)
-    offers m r otherwise k =
-        elim (cases_Bool (eqb l.receivers 0)) [
-          | inl x ↦ to (offer l m r otherwise) (only l (Refused (cond (l.senders == 0) ByClosed NoReceiver) (Some m))) (rw x refl) (still (Refused (cond (l.senders == 0) ByClosed NoReceiver) (Some m)))
-          | inr x ↦
-              elim (cases_Bool (eqb l.senders 0)) [
-                | inl s ↦ to (offer l m r otherwise) (only l (Refused BySeal (Some m))) (rw (x, s) refl) (still (Refused BySeal (Some m)))
-                | inr s ↦
-                    elim (cases_Bool (has_place l)) [
-                      | inl y ↦ to (offer l m r otherwise) (moving (enter l m) r) (rw (x, s, y) refl) (serve-order l m l.line l.demands one now r)
-                      | inr y ↦ to (offer l m r otherwise) otherwise (rw (x, s, y) refl) (k (empty-is (is_below (length l.line) l.capacity) l.demands y))
-                    ]
-              ]
-        ]
+    -- a step with no settlement that leaves what waits as it was
+    quiet : (told : StepSpec T) → told.settled ≡ [] → waits told.line ≡ waits l → told.line.next ≡ l.next → KeepsOrder l told
+    quiet told s w n =
+        let P : List ℕ → Type 0 = λ ts. AreRising 0 ts l.next in
+        record {
+          waits = subst (λ k. AreRising 0 (waits told.line) k) (sym n) (subst P (sym w) now);
+          settled = subst P (sym (ap tickets_of s)) (omega arith);
+          grows = omega (arith, n);
+        }
 
     front : (x : LineEntry T) (xs : List (LineEntry T)) (r : Reply T) → l.line ≡ x ∷ xs → KeepsOrder l (moving (leave l (x ∷ []) xs) r)
     front x xs r is =
@@ -135,31 +104,6 @@ module _ {T : Type 0} where
           grows = omega arith;
         }
 
-    takes : (otherwise : StepSpec T) → KeepsOrder l otherwise → KeepsOrder l (take_told l otherwise)
-    takes otherwise k =
-        elim (cases_Bool (eqb l.receivers 0)) [
-          | inl x ↦ to (take_told l otherwise) (only l (Refused ByClosed None)) (rw x refl) (still (Refused ByClosed None))
-          | inr x ↦ to (take_told l otherwise) (take_front l l.line otherwise) (rw x refl) (go l.line refl)
-        ]
-      where
-        go : (xs : List (LineEntry T)) → l.line ≡ xs → KeepsOrder l (take_front l xs otherwise)
-        go [] is = k
-        go (x ∷ xs) is = front x xs (Got x.message) is
-
-    nothing : (otherwise : StepSpec T) → KeepsOrder l otherwise → KeepsOrder l (nothing_there l otherwise)
-    nothing otherwise k =
-        elim (cases_Bool (eqb l.senders 0)) [
-          | inl x ↦ to (nothing_there l otherwise) (only l (Refused NoSender None)) (rw x refl) (still (Refused NoSender None))
-          | inr x ↦ to (nothing_there l otherwise) otherwise (rw x refl) k
-        ]
-
-    starts : (new : Line T) (back : Option T) → AreRising 0 (waits new) new.next → l.next ≤ new.next → KeepsOrder l (wait l new back)
-    starts new back k n =
-        elim (cases_Bool (eqb l.next last_word)) [
-          | inl x ↦ to (wait l new back) (only l (Refused TooMany back)) (rw x refl) (still (Refused TooMany back))
-          | inr x ↦ to (wait l new back) (only new (Waits l.next)) (rw x refl) (record { waits = k; settled = omega arith; grows = n })
-        ]
-
     sends : (m : T) → l.demands ≡ [] → AreRising 0 (waits (wait_send l m)) (l.next + 1)
     sends m none =
         let P : List ℕ → Type 0 = λ ts. AreRising 0 ts l.next in
@@ -174,59 +118,8 @@ module _ {T : Type 0} where
         let Q : List ℕ → Type 0 = λ ts. AreRising 0 ts (l.next + 1) in
         subst Q (append_assoc (tickets l.line) l.demands (l.next ∷ [])) (rise-one 0 (waits l) l.next now)
 
-    withdraws : (t : ℕ) (ms : List T) → KeepsOrder l (withdraw l t ms)
-    withdraws t [] =
-        elim (cases_Bool (has t l.demands)) [
-          | inl x ↦ to (withdraw l t []) (only (without_demand l t) (Withdrawn None)) (rw x refl) (record { waits = rise-but-last t 0 (tickets l.line) l.demands l.next now; settled = omega arith; grows = omega arith })
-          | inr x ↦ to (withdraw l t []) (only l (Refused NotWaiting None)) (rw x refl) (still (Refused NotWaiting None))
-        ]
-    withdraws t (m ∷ ms) =
-        let P : List ℕ → Type 0 = λ ts. AreRising 0 (ts ++ l.demands) l.next in
-        record { waits = subst P (sym (tickets-without t l.line)) (rise-but t 0 (tickets l.line) l.demands l.next now); settled = omega arith; grows = omega arith }
-
     ends-settled : (reason : Reason) → AreRising 0 (tickets_of (end_all l reason).settled) l.next
     ends-settled reason = let P : List ℕ → Type 0 = λ ts. AreRising 0 ts l.next in subst P (sym (ended-tickets reason l)) now
-
-    seals : KeepsOrder l (seal_line l)
-    seals =
-        let P : List ℕ → Type 0 = λ ts. AreRising 0 ts l.next in
-        elim (cases_Bool (eqb l.senders 0)) [
-          | inl x ↦ to (seal_line l) (only l (Refused CloseError None)) (rw x refl) (still (Refused CloseError None))
-          | inr x ↦
-              to (seal_line l) (moving (seal l) Done) (rw x refl)
-              (record {
-                waits = subst P (sym (append-nil (tickets l.line))) (rise-first 0 (tickets l.line) l.demands l.next now);
-                settled = subst P (sym (ended-tickets NoSendersLeft (record l { line = [] }))) (rise-last 0 (tickets l.line) l.demands l.next now);
-                grows = omega arith;
-              })
-        ]
-
-    closes : KeepsOrder l (shut l)
-    closes =
-        elim (cases_Bool (eqb l.senders 0 && eqb l.receivers 0)) [
-          | inl x ↦ to (shut l) (only l (Refused CloseError None)) (rw x refl) (still (Refused CloseError None))
-          | inr x ↦
-              to (shut l) (record (moving (close l) (Cleared (length (cleared l)))) { cleared = cleared l }) (rw x refl)
-              (record { waits = omega arith; settled = ends-settled ByClose; grows = omega arith })
-        ]
-
-    drains : KeepsOrder l (take_line l)
-    drains =
-        let P : List ℕ → Type 0 = λ ts. AreRising 0 ts l.next in
-        elim (cases_Bool (eqb l.receivers 0)) [
-          | inl x ↦ to (take_line l) (only l (Refused ByClosed None)) (rw x refl) (still (Refused ByClosed None))
-          | inr x ↦
-              to (take_line l) (record (moving (drain l) (Drained (length l.line))) { drained = messages l.line }) (rw x refl)
-              (record { waits = rise-last 0 (tickets l.line) l.demands l.next now; settled = subst P (sym (taken-tickets T (tickets l.line))) (rise-first 0 (tickets l.line) l.demands l.next now); grows = omega arith })
-        ]
-
-    clones : (count senders receivers : ℕ) → KeepsOrder l (cloned l count (record l { senders = senders; receivers = receivers }))
-    clones count senders receivers =
-        let new = record l { senders = senders; receivers = receivers } in
-        elim (cases_Bool (eqb count last_count)) [
-          | inl x ↦ to (cloned l count new) (only l (Refused TooMany None)) (rw x refl) (still (Refused TooMany None))
-          | inr x ↦ to (cloned l count new) (only new Done) (rw x refl) (recount Done senders receivers)
-        ]
 
     ends : (reason : Reason) (senders receivers : ℕ) → KeepsOrder l (moving (end_all (record l { senders = senders; receivers = receivers }) reason) Done)
     ends reason senders receivers =
@@ -240,44 +133,34 @@ module _ {T : Type 0} where
           grows = omega arith;
         }
 
-    drops_tx : KeepsOrder l (step l DropTx)
-    drops_tx =
-        elim (cases_Bool (eqb l.senders 1)) [
-          | inl x ↦ to (step l DropTx) (moving (end_all (record l { senders = 0 }) NoSendersLeft) Done) (rw x refl) (ends NoSendersLeft 0 l.receivers)
-          | inr x ↦ to (step l DropTx) (only (record l { senders = l.senders - 1 }) Done) (rw x refl) (recount Done (l.senders - 1) l.receivers)
-        ]
-
-    drops_rx : KeepsOrder l (step l DropRx)
-    drops_rx =
-        elim (cases_Bool (eqb l.receivers 1)) [
-          | inl x ↦ to (step l DropRx) (moving (end_all (record l { receivers = 0 }) NoReceiversLeft) Done) (rw x refl) (ends NoReceiversLeft l.senders 0)
-          | inr x ↦ to (step l DropRx) (only (record l { receivers = l.receivers - 1 }) Done) (rw x refl) (recount Done l.senders (l.receivers - 1))
-        ]
-
-    step-order : (e : Event T) → KeepsOrder l (step l e)
-    step-order (Send m) = offers m Sent (wait l (wait_send l m) (Some m)) (λ none. starts (wait_send l m) (Some m) (sends m none) (omega arith))
-    step-order (TrySend m) = offers m Yes (only l (No m)) (λ none. still (No m))
-    step-order Recv = takes (nothing_there l (wait l (wait_recv l) None)) (nothing (wait l (wait_recv l) None) (starts (wait_recv l) None recvs (omega arith)))
-    step-order RecvLate = takes (only l (Refused Timeout None)) (still (Refused Timeout None))
-    step-order TryRecv = takes (nothing_there l (only l Nothing)) (nothing (only l Nothing) (still Nothing))
-    step-order Drain = drains
-    step-order (Withdraw t) = withdraws t (found t l.line)
-    step-order CloneTx = clones l.senders (add_sender l).senders l.receivers
-    step-order CloneRx = clones l.receivers l.senders (add_receiver l).receivers
-    step-order DropTx = drops_tx
-    step-order DropRx = drops_rx
-    step-order Seal = seals
-    step-order Close = closes
-    step-order (Asks side ask) = still (answer l side ask)
-    step-order Terminated = still (Flag ((l.senders == 0) && (length l.line == 0)))
+    case-order : {e : Event T} {told : StepSpec T} → StepCase l e told → KeepsOrder l told
+    case-order (Refuses e reason clear) = quiet (refused l reason e) refl refl refl
+    case-order (Replies e r c) = quiet (only l r) refl refl refl
+    case-order (Enters e m r s some_receiver some_sender place) = serve-order l m l.line l.demands one now r
+    case-order (TakesFront e x xs r some_receiver is) = front x xs (Got x.message) is
+    case-order (SendWaits m some_receiver some_sender full) =
+        record { waits = sends m (empty-is (is_below (length l.line) l.capacity) l.demands full); settled = omega arith; grows = omega arith }
+    case-order (RecvWaits some_receiver some_sender empty) = record { waits = recvs; settled = omega arith; grows = omega arith }
+    case-order (WithdrawsDemand t there) = record { waits = rise-but-last t 0 (tickets l.line) l.demands l.next now; settled = omega arith; grows = omega arith }
+    case-order (WithdrawsEntry t m ms is) =
+        let P : List ℕ → Type 0 = λ ts. AreRising 0 (ts ++ l.demands) l.next in
+        record { waits = subst P (sym (tickets-without t l.line)) (rise-but t 0 (tickets l.line) l.demands l.next now); settled = omega arith; grows = omega arith }
+    case-order (Drains some_receiver) =
+        let P : List ℕ → Type 0 = λ ts. AreRising 0 ts l.next in
+        record { waits = rise-last 0 (tickets l.line) l.demands l.next now; settled = subst P (sym (taken-tickets T (tickets l.line))) (rise-first 0 (tickets l.line) l.demands l.next now); grows = omega arith }
+    case-order (Recounts e senders receivers c) = quiet (only (record l { senders = senders; receivers = receivers }) Done) refl refl refl
+    case-order (EndsAll e senders receivers reason c) = ends reason senders receivers
+    case-order (Seals some_sender) =
+        let P : List ℕ → Type 0 = λ ts. AreRising 0 ts l.next in
+        record {
+          waits = subst P (sym (append-nil (tickets l.line))) (rise-first 0 (tickets l.line) l.demands l.next now);
+          settled = subst P (sym (ended-tickets NoSendersLeft (record l { line = [] }))) (rise-last 0 (tickets l.line) l.demands l.next now);
+          grows = omega arith;
+        }
+    case-order (Closes left) = record { waits = omega arith; settled = ends-settled ByClose; grows = omega arith }
 
     pub told-order : (handles : Handles) (e : Event T) (told : StepSpec T) → TellsWith handles l e told → KeepsOrder l told
-    told-order handles e told (inl is) =
-        elim (cases_Bool (has_handle handles e)) [
-          | inl x ↦ to told (step l e) (is ∙ rw x refl) (step-order e)
-          | inr x ↦ to told (refused l NoHandle e) (is ∙ rw x refl) (still (Refused NoHandle (message_of e)))
-        ]
-    told-order handles e told (inr is) = to told (refused l NoMemory e) is.2 (still (Refused NoMemory (message_of e)))
+    told-order handles e told is = told_by (KeepsOrder l) handles l e told is (case-order (step_case l e)) (λ reason. quiet (refused l reason e) refl refl refl)
 
   at-append : (n : ℕ) (xs ys : List (Settlement T)) → settled_at n (xs ++ ys) ≡ settled_at n xs ++ settled_at n ys
   at-append n xs ys = ap (map (λ (s : Settlement T). s.ticket)) (filter-append (λ (s : Settlement T). s.step == n) xs ys) ∙ map-append (λ (s : Settlement T). s.ticket) (filter (λ s. s.step == n) xs) (filter (λ s. s.step == n) ys)

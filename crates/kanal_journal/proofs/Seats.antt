@@ -1,8 +1,5 @@
 -- The places below the capacity wait for nothing, and those above it wait: kept by each step.
-use Rattle.std.proofs.Common.{◌≡◌, ℕ, ◌≤◌, zero, suc, true, false, not, List, [], ◌∷◌, ◌++◌, length, map, filter, take, drop, Option, Some, None, refl, inl, inr, arith, append-nil}
-use Rattle.std.proofs.lemmas.Bool.{cases_Bool, ltb-true, lt-ltb}
-use Rattle.kanal_core.specs.Line.{LineEntry, bare, waiting, tickets, over, holds_ticket, is_ticket, is_below}
-use Rattle.kanal_core.specs.Moves.{seated}
+use Rattle.kanal_journal.proofs.Common.{◌≡◌, ℕ, ◌≤◌, zero, suc, true, false, not, List, [], ◌∷◌, ◌++◌, length, map, filter, take, drop, Option, Some, None, refl, inl, inr, arith, append-nil, cases_Bool, ltb-true, lt-ltb, LineEntry, bare, waiting, tickets, over, holds_ticket, is_ticket, is_below, seated}
 use Rattle.kanal_journal.proofs.Settling.{AreApart, AllBare, AllWait, IsSeated}
 
 none_there : (T : Type 0) (c : ℕ) → AllBare {T = T} (take c []) × AllWait {T = T} (drop c [])

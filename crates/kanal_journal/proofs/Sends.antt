@@ -1,15 +1,5 @@
 -- What the history says of each message that entered, one step later.
-use Rattle.std.proofs.Common.{◌≡◌, ℕ, Bool, true, false, not, cond, ◌==◌, ◌&&◌, ◌||◌, List, [], ◌∷◌, ◌++◌, length, map, filter, Option, Some, None, refl, sym, ap, inl, inr, arith, append-nil, append_assoc}
-use Rattle.std.specs.List.{list_any}
-use Rattle.std.proofs.lemmas.Bool.{cases_Bool}
-use Rattle.std.proofs.lemmas.List.Folds.{list_any-append}
-use Rattle.kanal_events.specs.declared.event.Event.{Event}
-use Rattle.kanal_events.specs.declared.event.Reply.{Reply}
-use Rattle.kanal_core.specs.declared.internal.outcome.Outcome.{Outcome}
-use Rattle.kanal_core.specs.declared.internal.outcome.Outcome.TheVariants.{Taken}
-use Rattle.kanal_journal.specs.declared.journal.report.Settlement.{Settlement}
-use Rattle.kanal_core.specs.Line.{LineEntry, bare}
-use Rattle.kanal_journal.specs.Paired.{PairedHistory, along, sent, withdrawn_ticket, is_ended, is_gone, send_stays}
+use Rattle.kanal_journal.proofs.Common.{◌≡◌, ℕ, Bool, true, false, not, cond, ◌==◌, ◌&&◌, ◌||◌, List, [], ◌∷◌, ◌++◌, length, map, filter, Option, Some, None, refl, sym, ap, inl, inr, arith, append-nil, append_assoc, list_any, cases_Bool, list_any-append, Event, Reply, Outcome, Taken, Settlement, LineEntry, bare, PairedHistory, along, sent, withdrawn_ticket, is_ended, is_gone, send_stays}
 
 pub along-last : {E R X : Type 0} (f : E → R → List X) (es : List E) (rs : List R) (e : E) (r : R) → length es ≡ length rs → along f (es ++ e ∷ []) (rs ++ r ∷ []) ≡ along f es rs ++ f e r
 along-last f [] [] e r h = append-nil (f e r)

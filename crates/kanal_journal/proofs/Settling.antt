@@ -1,24 +1,5 @@
 -- What one step does to the entries and the demands that wait, as the history tells it and as the line has it.
-use Rattle.std.proofs.Common.{◌≡◌, ℕ, Bool, true, false, not, eqb, ◌==◌, ◌&&◌, ◌||◌, List, [], ◌∷◌, ◌++◌, map, filter, Option, Some, None, refl, sym, ap, ◌∙◌, subst, inl, inr, append-nil, append_assoc}
-use Rattle.std.specs.List.{list_any, filter_map, cons_option}
-use Rattle.std.specs.Option.{option_map}
-use Rattle.std.proofs.lemmas.Bool.{cases_Bool, eqb-true, eqb-false, eq-eqb, ne_eqb}
-use Rattle.std.proofs.lemmas.List.Elements.{filter-append, filter_map-append}
-use Rattle.std.proofs.lemmas.List.Folds.{list_any-append}
-use Rattle.std.proofs.lemmas.List.{take-append-drop}
-use mathlib.Core.List.{map-append}
-use Rattle.kanal_events.specs.declared.event.Event.{Event}
-use Rattle.kanal_events.specs.declared.event.Event.TheVariants.{Withdraw}
-use Rattle.kanal_events.specs.declared.event.Reply.{Reply}
-use Rattle.kanal_events.specs.declared.event.Reply.TheVariants.{Withdrawn}
-use Rattle.kanal_core.specs.declared.internal.outcome.Reason.{Reason}
-use Rattle.kanal_core.specs.declared.internal.outcome.Outcome.{Outcome}
-use Rattle.kanal_core.specs.declared.internal.outcome.Outcome.TheVariants.{Taken, Given, Ended}
-use Rattle.kanal_journal.specs.declared.journal.report.Settlement.{Settlement}
-use Rattle.kanal_core.specs.Line.{LineEntry, bare, messages, tickets, has, under, over, holds_ticket, is_ticket}
-use Rattle.kanal_core.specs.Moves.{seated, ended_entry}
-use Rattle.kanal_journal.specs.Runs.{numbered}
-use Rattle.kanal_journal.specs.Paired.{Later, withdrawn_ticket, is_ended}
+use Rattle.kanal_journal.proofs.Common.{◌≡◌, ℕ, Bool, true, false, not, eqb, ◌==◌, ◌&&◌, ◌||◌, List, [], ◌∷◌, ◌++◌, map, filter, Option, Some, None, refl, sym, ap, ◌∙◌, subst, inl, inr, append-nil, append_assoc, list_any, filter_map, cons_option, option_map, cases_Bool, eqb-true, eqb-false, eq-eqb, ne_eqb, filter-append, filter_map-append, list_any-append, take-append-drop, map-append, Event, Withdraw, Reply, Withdrawn, Reason, Outcome, Taken, Given, Ended, Settlement, LineEntry, bare, messages, tickets, has, under, over, holds_ticket, is_ticket, seated, ended_entry, numbered, Later, withdrawn_ticket, is_ended}
 use Rattle.kanal_journal.proofs.Sends.{goes, was_taken, later, ticket_at, ticket_stays}
 use Rattle.kanal_journal.proofs.Slots.{slot_stays, answered}
 
@@ -69,9 +50,9 @@ pub under-over : {X : Type 0} (c : Option ℕ) (xs : List X) → under c xs ++ o
 under-over None xs = append-nil xs
 under-over (Some c) xs = take-append-drop c xs
 
-or_false : (a b : Bool) → (a || b) ≡ false → (a ≡ false) × (b ≡ false)
-or_false true b h = absurd (cc)
-or_false false b h = (refl, h)
+pub or_parts : (a b : Bool) → (a || b) ≡ false → (a ≡ false) × (b ≡ false)
+or_parts true b h = absurd (cc)
+or_parts false b h = (refl, h)
 
 pub eqb_swap : (a b : ℕ) → eqb a b ≡ eqb b a
 eqb_swap a b =
@@ -210,7 +191,7 @@ module _ {T : Type 0} where
       → map (answered (numbered n ((d, Given m) ∷ []))) (filter (slot_stays e r (numbered n ((d, Given m) ∷ []))) (map Later ts)) ≡ map Later ts
   given_other d m n [] e r none h = refl
   given_other d m n (t ∷ ts) e r none h =
-      let parts = or_false (t == d) (has d ts) h in
+      let parts = or_parts (t == d) (has d ts) h in
       let differ : eqb d t ≡ false = ne_eqb d t (λ e. eqb-false t d parts.0 (sym e)) in
       rw (none, differ, differ) (ap (λ ys. Later t ∷ ys) (given_other d m n ts e r none parts.1))
 

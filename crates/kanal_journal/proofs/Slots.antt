@@ -1,13 +1,5 @@
 -- What the history says of each demand, one step later.
-use Rattle.std.proofs.Common.{◌≡◌, ℕ, suc, Bool, true, false, not, List, [], ◌∷◌, ◌++◌, length, map, filter, Option, Some, None, refl, sym, ap, ◌∙◌, inl, inr, arith}
-use Rattle.std.specs.Option.{option_or}
-use Rattle.std.proofs.lemmas.Bool.{cases_Bool}
-use Rattle.std.proofs.lemmas.List.Elements.{filter-append}
-use mathlib.Core.List.{map-append}
-use Rattle.kanal_events.specs.declared.event.Event.{Event}
-use Rattle.kanal_events.specs.declared.event.Reply.{Reply}
-use Rattle.kanal_journal.specs.declared.journal.report.Settlement.{Settlement}
-use Rattle.kanal_journal.specs.Paired.{PairedHistory, Demand, AtOnce, Later, Next, along, sent, asked, is_gone, send_stays, demand_stays, demands, given, gift, receipts_from}
+use Rattle.kanal_journal.proofs.Common.{◌≡◌, ℕ, suc, Bool, true, false, not, List, [], ◌∷◌, ◌++◌, length, map, filter, Option, Some, None, refl, sym, ap, ◌∙◌, inl, inr, arith, option_or, cases_Bool, filter-append, map-append, Event, Reply, Settlement, PairedHistory, Demand, AtOnce, Later, Next, along, sent, asked, is_gone, send_stays, demand_stays, demands, given, gift, receipts_from}
 use Rattle.kanal_journal.proofs.Sends.{along-last, longer, goes, gone-last, entries, entry_at, entries_old, was_taken, later, ticket_stays, fresh}
 
 module _ {T : Type 0} where

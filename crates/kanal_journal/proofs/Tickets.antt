@@ -1,11 +1,6 @@
 -- The tickets that wait, after each kind of step.
-use Rattle.std.proofs.Common.{◌≡◌, ℕ, ◌⊎◌, zero, suc, Bool, true, false, not, cond, eqb, ◌==◌, ◌||◌, List, [], ◌∷◌, ◌++◌, filter, drop, Option, Some, None, refl, sym, ap, ◌∙◌, inl, inr}
-use Rattle.std.specs.List.{cons_option}
-use Rattle.std.proofs.lemmas.Bool.{cases_Bool, or_cases, false≢true, eq-eqb, eqb-true, ne_eqb}
-use Rattle.std.proofs.lemmas.List.Elements.{filter_map-append}
-use Rattle.std.proofs.lemmas.List.Folds.{list_any-append}
-use Rattle.kanal_core.specs.Line.{LineEntry, messages, tickets, has, under, over, holds_ticket, is_ticket, found}
-use Rattle.kanal_journal.proofs.Settling.{AreApart, AllBare, AllWait, IsSeated, has_tail, under-over}
+use Rattle.kanal_journal.proofs.Common.{◌≡◌, ℕ, ◌⊎◌, zero, suc, Bool, true, false, not, cond, eqb, ◌==◌, ◌||◌, List, [], ◌∷◌, ◌++◌, filter, drop, Option, Some, None, refl, sym, ap, ◌∙◌, inl, inr, cons_option, cases_Bool, or_cases, false≢true, eq-eqb, eqb-true, ne_eqb, filter_map-append, list_any-append, LineEntry, messages, tickets, has, under, over, holds_ticket, is_ticket, found}
+use Rattle.kanal_journal.proofs.Settling.{AreApart, AllBare, AllWait, IsSeated, has_tail, under-over, or_parts}
 
 -- in a list with one more at its end
 pub has-append : (t : ℕ) (xs ys : List ℕ) → has t (xs ++ ys) ≡ (has t xs || has t ys)
@@ -21,14 +16,10 @@ has-last t u xs h =
 pub apart-last : (xs : List ℕ) (u : ℕ) → has u xs ≡ false → AreApart xs → AreApart (xs ++ u ∷ [])
 apart-last [] u h a = (refl, tt)
 apart-last (x ∷ xs) u h a =
-    let parts = or-parts (x == u) (has u xs) h in
+    let parts = or_parts (x == u) (has u xs) h in
     let off : eqb u x ≡ false = ne_eqb u x (λ e. same x u parts.0 (sym e)) in
     (rw (has-append x xs (u ∷ []), a.0, off) refl, apart-last xs u parts.1 a.1)
   where
-    or-parts : (a b : Bool) → (a || b) ≡ false → (a ≡ false) × (b ≡ false)
-    or-parts true b h = absurd (cc)
-    or-parts false b h = (refl, h)
-
     same : (a b : ℕ) → eqb a b ≡ false → a ≡ b → ⊥
     same a b f e = false≢true (sym f ∙ eq-eqb a b e)
 

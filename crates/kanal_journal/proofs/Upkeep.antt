@@ -1,14 +1,5 @@
 -- What holds at a cut holds one step later.
-use Rattle.std.proofs.Common.{◌≡◌, ℕ, ◌+◌, ◌≤◌, ◌<◌, ◌⊎◌, Bool, true, false, ◌||◌, List, [], ◌∷◌, ◌++◌, length, Option, Some, None, refl, sym, ap, ◌∙◌, inl, inr, arith, length-append}
-use Rattle.std.specs.List.{sum_by}
-use Rattle.std.specs.Option.{is_some, option_or}
-use Rattle.std.proofs.lemmas.Bool.{or_cases, false≢true}
-use Rattle.std.proofs.lemmas.List.Sums.{sum_by-append}
-use Rattle.kanal_events.specs.declared.event.Event.{Event}
-use Rattle.kanal_events.specs.declared.event.Reply.{Reply}
-use Rattle.kanal_journal.specs.declared.journal.report.Settlement.{Settlement}
-use Rattle.kanal_core.specs.Line.{Line, has}
-use Rattle.kanal_journal.specs.Paired.{PairedHistory, Demand, AtOnce, Later, Next, along, asked, is_gone, given, demands, cleared_by}
+use Rattle.kanal_journal.proofs.Common.{◌≡◌, ℕ, ◌+◌, ◌≤◌, ◌<◌, ◌⊎◌, Bool, true, false, ◌||◌, List, [], ◌∷◌, ◌++◌, length, Option, Some, None, refl, sym, ap, ◌∙◌, inl, inr, arith, length-append, sum_by, is_some, option_or, or_cases, false≢true, sum_by-append, Event, Reply, Settlement, Line, has, PairedHistory, Demand, AtOnce, Later, Next, along, asked, is_gone, given, demands, cleared_by}
 use Rattle.kanal_journal.proofs.Sends.{along-last, was_taken, longer, goes, gone-last, taken-last}
 use Rattle.kanal_journal.proofs.Slots.{given-append, nexts}
 use Rattle.kanal_journal.proofs.Settling.{AreApart, IsSeated}

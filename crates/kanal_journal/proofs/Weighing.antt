@@ -1,28 +1,6 @@
 -- Each message goes somewhere.
-use Rattle.std.proofs.Common.{◌≡◌, ℕ, ◌+◌, ◌-◌, Bool, true, false, not, cond, eqb, ◌==◌, ◌&&◌, List, [], ◌∷◌, ◌++◌, length, map, filter, Option, Some, None, refl, sym, ap, ◌∙◌, subst, inl, inr, arith}
-use Rattle.std.specs.List.{filter_map, cons_option}
-use Rattle.std.proofs.lemmas.Bool.{cases_Bool, false≢true, eqb-true}
-use Rattle.std.proofs.lemmas.List.Elements.{filter_map-append}
-use mathlib.Core.List.{map-append}
-use Rattle.kanal_core.specs.declared.internal.outcome.Reason.{Reason}
-use Rattle.kanal_core.specs.declared.internal.outcome.Reason.TheVariants.{Closed as ByClose, SendClosed as NoSendersLeft, ReceiveClosed as NoReceiversLeft}
-use Rattle.kanal_core.specs.declared.internal.outcome.Outcome.{Outcome}
-use Rattle.kanal_core.specs.declared.internal.outcome.Outcome.TheVariants.{Taken, Ended}
-use Rattle.kanal_core.specs.Line.{LineEntry, Line, last_word, bare, waiting, messages, tickets, has, under, over, has_place, is_ticket, holds_ticket, found}
-use Rattle.kanal_core.specs.Moves.{last_count, serve, enter, drain, seated, ended, ended_entry, end_all, close, cleared, wait_send, wait_recv, without_demand, add_sender, add_receiver, seal}
-use Rattle.kanal_journal.specs.declared.journal.handles.Handles.{Handles}
-use Rattle.kanal_events.specs.declared.event.Side.{Side}
-use Rattle.kanal_events.specs.declared.event.Ask.{Ask}
-use Rattle.kanal_events.specs.declared.event.Ask.TheVariants.{IsBounded, Len, IsEmpty, IsFull, Capacity, ReceiverCount, SenderCount, IsClosed, IsDisconnected}
-use Rattle.kanal_events.specs.declared.event.Event.{Event}
-use Rattle.kanal_events.specs.declared.event.Event.TheVariants.{Send, TrySend, Recv, RecvLate, TryRecv, Drain, Withdraw, CloneTx, CloneRx, DropTx, DropRx, Seal, Close, Ask as Asks, Terminated}
-use Rattle.kanal_events.specs.declared.event.Refusal.{Refusal}
-use Rattle.kanal_events.specs.declared.event.Refusal.TheVariants.{Closed as ByClosed, ReceiveClosed as NoReceiver, Sealed as BySeal, SendClosed as NoSender, Timeout, NoMemory, TooMany, CloseError, NoHandle, NotWaiting}
-use Rattle.kanal_events.specs.declared.event.Reply.{Reply}
-use Rattle.kanal_events.specs.declared.event.Reply.TheVariants.{Sent, Waits, Yes, No, Nothing, Drained, Withdrawn, Done, Cleared, Flag, Refused}
-use Rattle.kanal_events.specs.Steps.{StepSpec, only, moving, offer, take as take_told, take_front, nothing_there, wait, withdraw, seal_line, shut, take_line, cloned, answer, step, refused}
-use Rattle.kanal_journal.specs.Runs.{Account, Leads, TellsWith, added, has_handle, numbered}
-use Rattle.kanal_journal.specs.Weights.{weigh, event_weight, reply_weight, outcome_weight, settlement_weight}
+use Rattle.kanal_journal.proofs.Common.{◌≡◌, ℕ, ◌+◌, Bool, true, false, not, cond, ◌==◌, List, [], ◌∷◌, ◌++◌, length, map, filter, Option, Some, None, refl, sym, ap, ◌∙◌, subst, inl, inr, arith, filter_map, cons_option, cases_Bool, false≢true, eqb-true, filter_map-append, map-append, Reason, Closed as ByClose, SendClosed as NoSendersLeft, Outcome, Taken, Ended, LineEntry, Line, bare, waiting, messages, tickets, has, under, over, is_ticket, holds_ticket, found, serve, seated, ended, ended_entry, Handles, Event, Send, TrySend, Refusal, Reply, StepSpec, refused, SendCase, Blocking, Trying, RecvCase, BlockingRecv, ReplyCase, Full, CountCase, ClonedTx, LastCase, LastTx, StepCase, Refuses, Replies, Enters, TakesFront, SendWaits, WithdrawsEntry, Drains, Recounts, EndsAll, Seals, Closes, step_case, Account, Leads, TellsWith, added, numbered, weigh, event_weight, reply_weight, outcome_weight, settlement_weight}
+use Rattle.kanal_journal.proofs.Reading.{told_by}
 use Rattle.kanal_journal.proofs.Settling.{AreApart, AllBare, AllWait, IsSeated, under-over}
 use Rattle.kanal_journal.proofs.Holding.{Holds}
 use Rattle.kanal_journal.proofs.Tickets.{apart-prefix}
@@ -126,152 +104,50 @@ module _ {T : Type 0} (h : T → ℕ) where
     abbrev pub Weighs : Event T → StepSpec T → Type 0
     Weighs e told = weigh h (messages l.line) + event_weight h e ≡ told_weight told
 
-    to : (e : Event T) (told other : StepSpec T) → told ≡ other → Weighs e other → Weighs e told
-    to e told other is w = subst (Weighs e) (sym is) w
-
-    still : (e : Event T) (r : Reply T) → event_weight h e ≡ reply_weight h r → Weighs e (only l r)
-    still e r k = omega (arith, k)
-
-    offers : (e : Event T) (r : Reply T) (m : T) (otherwise : StepSpec T) → event_weight h e ≡ h m → reply_weight h r ≡ 0 → Weighs e otherwise → Weighs e (offer l m r otherwise)
-    offers e r m otherwise k z w =
-        elim (cases_Bool (eqb l.receivers 0)) [
-          | inl x ↦ to e (offer l m r otherwise) (only l (Refused (cond (l.senders == 0) ByClosed NoReceiver) (Some m))) (rw x refl) (omega (arith, k))
-          | inr x ↦
-              elim (cases_Bool (eqb l.senders 0)) [
-                | inl s ↦ to e (offer l m r otherwise) (only l (Refused BySeal (Some m))) (rw (x, s) refl) (omega (arith, k))
-                | inr s ↦
-                    elim (cases_Bool (has_place l)) [
-                      | inl y ↦ to e (offer l m r otherwise) (moving (enter l m) r) (rw (x, s, y) refl) (omega (arith, k, z, weigh-serve l (l.line ++ bare m ∷ []) l.demands, entering l m (messages (l.line ++ bare m ∷ [])) refl))
-                      | inr y ↦ to e (offer l m r otherwise) otherwise (rw (x, s, y) refl) w
-                    ]
-              ]
-        ]
-
-    fronts : (e : Event T) (otherwise : StepSpec T) (xs : List (LineEntry T)) → l.line ≡ xs → event_weight h e ≡ 0 → Weighs e otherwise → Weighs e (take_front l xs otherwise)
-    fronts e otherwise [] is k w = w
-    fronts e otherwise (x ∷ xs) is k w =
-        omega (arith, k, ap (λ ys. weigh h (messages ys)) is, taken-nothing (tickets ((x ∷ []) ++ under l.capacity xs)), ap (weigh h) (seated-same l.capacity xs))
-
-    takes : (e : Event T) (otherwise : StepSpec T) → event_weight h e ≡ 0 → Weighs e otherwise → Weighs e (take_told l otherwise)
-    takes e otherwise k w =
-        elim (cases_Bool (eqb l.receivers 0)) [
-          | inl x ↦ to e (take_told l otherwise) (only l (Refused ByClosed None)) (rw x refl) (still e (Refused ByClosed None) k)
-          | inr x ↦ to e (take_told l otherwise) (take_front l l.line otherwise) (rw x refl) (fronts e otherwise l.line refl k w)
-        ]
-
-    nothing : (e : Event T) (otherwise : StepSpec T) → event_weight h e ≡ 0 → Weighs e otherwise → Weighs e (nothing_there l otherwise)
-    nothing e otherwise k w =
-        elim (cases_Bool (eqb l.senders 0)) [
-          | inl x ↦ to e (nothing_there l otherwise) (only l (Refused NoSender None)) (rw x refl) (still e (Refused NoSender None) k)
-          | inr x ↦ to e (nothing_there l otherwise) otherwise (rw x refl) w
-        ]
-
-    waits_send : (m : T) → Weighs (Send m) (wait l (wait_send l m) (Some m))
-    waits_send m =
-        elim (cases_Bool (eqb l.next last_word)) [
-          | inl x ↦ to (Send m) (wait l (wait_send l m) (Some m)) (only l (Refused TooMany (Some m))) (rw x refl) (omega arith)
-          | inr x ↦ to (Send m) (wait l (wait_send l m) (Some m)) (only (wait_send l m) (Waits l.next)) (rw x refl) (omega (arith, ap (weigh h) (map-append (λ (e : LineEntry T). e.message) l.line (waiting m l.next ∷ [])), weigh-append h (messages l.line) (m ∷ [])))
-        ]
-
-    waits_recv : Weighs Recv (wait l (wait_recv l) None)
-    waits_recv =
-        elim (cases_Bool (eqb l.next last_word)) [
-          | inl x ↦ to Recv (wait l (wait_recv l) None) (only l (Refused TooMany None)) (rw x refl) (omega arith)
-          | inr x ↦ to Recv (wait l (wait_recv l) None) (only (wait_recv l) (Waits l.next)) (rw x refl) (omega arith)
-        ]
-
-    withdraws : (t : ℕ) (ms : List T) → found t l.line ≡ ms → Weighs (Withdraw t) (withdraw l t ms)
-    withdraws t [] is =
-        elim (cases_Bool (has t l.demands)) [
-          | inl x ↦ to (Withdraw t) (withdraw l t []) (only (without_demand l t) (Withdrawn None)) (rw x refl) (omega arith)
-          | inr x ↦ to (Withdraw t) (withdraw l t []) (only l (Refused NotWaiting None)) (rw x refl) (omega arith)
-        ]
-    withdraws t (m ∷ ms) is =
-        let none = found-one t l.line m ms apart is in
-        omega (arith, weigh-split t l.line, ap (weigh h) is, ap (weigh h) none)
-
-    seals : Weighs Seal (seal_line l)
-    seals =
-        elim (cases_Bool (eqb l.senders 0)) [
-          | inl x ↦ to Seal (seal_line l) (only l (Refused CloseError None)) (rw x refl) (omega arith)
-          | inr x ↦ to Seal (seal_line l) (moving (seal l) Done) (rw x refl) (omega (arith, ended-demands NoSendersLeft l.demands))
-        ]
-
-    closes : Weighs Close (shut l)
-    closes =
-        elim (cases_Bool (eqb l.senders 0 && eqb l.receivers 0)) [
-          | inl x ↦ to Close (shut l) (only l (Refused CloseError None)) (rw x refl) (omega arith)
-          | inr x ↦ to Close (shut l) (record (moving (close l) (Cleared (length (cleared l)))) { cleared = cleared l }) (rw x refl) (omega (arith, weigh-ended ByClose l seats))
-        ]
-
-    drains : Weighs Drain (take_line l)
-    drains =
-        elim (cases_Bool (eqb l.receivers 0)) [
-          | inl x ↦ to Drain (take_line l) (only l (Refused ByClosed None)) (rw x refl) (still Drain (Refused ByClosed None) refl)
-          | inr x ↦ to Drain (take_line l) (record (moving (drain l) (Drained (length l.line))) { drained = messages l.line }) (rw x refl) (omega (arith, taken-nothing (tickets l.line)))
-        ]
-
-    clones : (e : Event T) (count : ℕ) (new : Line T) → event_weight h e ≡ 0 → new.line ≡ l.line → Weighs e (cloned l count new)
-    clones e count new k is =
-        elim (cases_Bool (eqb count last_count)) [
-          | inl x ↦ to e (cloned l count new) (only l (Refused TooMany None)) (rw x refl) (still e (Refused TooMany None) k)
-          | inr x ↦ to e (cloned l count new) (only new Done) (rw x refl) (omega (arith, k, ap (λ xs. weigh h (messages xs)) is))
-        ]
-
-    drops_tx : Weighs DropTx (step l DropTx)
-    drops_tx =
-        elim (cases_Bool (eqb l.senders 1)) [
-          | inl x ↦ to DropTx (step l DropTx) (moving (end_all (record l { senders = 0 }) NoSendersLeft) Done) (rw x refl) (omega (arith, weigh-ended NoSendersLeft l seats))
-          | inr x ↦ to DropTx (step l DropTx) (only (record l { senders = l.senders - 1 }) Done) (rw x refl) (omega arith)
-        ]
-
-    drops_rx : Weighs DropRx (step l DropRx)
-    drops_rx =
-        elim (cases_Bool (eqb l.receivers 1)) [
-          | inl x ↦ to DropRx (step l DropRx) (moving (end_all (record l { receivers = 0 }) NoReceiversLeft) Done) (rw x refl) (omega (arith, weigh-ended NoReceiversLeft l seats))
-          | inr x ↦ to DropRx (step l DropRx) (only (record l { receivers = l.receivers - 1 }) Done) (rw x refl) (omega arith)
-        ]
-
-    answer-nothing : (side : Side) (ask : Ask) → reply_weight h (answer l side ask) ≡ 0
-    answer-nothing side IsBounded = refl
-    answer-nothing side Len = refl
-    answer-nothing side IsEmpty = refl
-    answer-nothing side IsFull = refl
-    answer-nothing side Capacity = refl
-    answer-nothing side ReceiverCount = refl
-    answer-nothing side SenderCount = refl
-    answer-nothing side IsClosed = refl
-    answer-nothing side IsDisconnected = refl
-
-    step-weighs : (e : Event T) → Weighs e (step l e)
-    step-weighs (Send m) = offers (Send m) Sent m (wait l (wait_send l m) (Some m)) refl refl (waits_send m)
-    step-weighs (TrySend m) = offers (TrySend m) Yes m (only l (No m)) refl refl (still (TrySend m) (No m) refl)
-    step-weighs Recv = takes Recv (nothing_there l (wait l (wait_recv l) None)) refl (nothing Recv (wait l (wait_recv l) None) refl waits_recv)
-    step-weighs RecvLate = takes RecvLate (only l (Refused Timeout None)) refl (still RecvLate (Refused Timeout None) refl)
-    step-weighs TryRecv = takes TryRecv (nothing_there l (only l Nothing)) refl (nothing TryRecv (only l Nothing) refl (still TryRecv Nothing refl))
-    step-weighs Drain = drains
-    step-weighs (Withdraw t) = withdraws t (found t l.line) refl
-    step-weighs CloneTx = clones CloneTx l.senders (add_sender l) refl refl
-    step-weighs CloneRx = clones CloneRx l.receivers (add_receiver l) refl refl
-    step-weighs DropTx = drops_tx
-    step-weighs DropRx = drops_rx
-    step-weighs Seal = seals
-    step-weighs Close = closes
-    step-weighs (Asks side ask) = still (Asks side ask) (answer l side ask) (sym (answer-nothing side ask))
-    step-weighs Terminated = still Terminated (Flag ((l.senders == 0) && (length l.line == 0))) refl
-
     refused-weighs : (e : Event T) (reason : Refusal) → Weighs e (refused l reason e)
-    refused-weighs (Send m) reason = still (Send m) (Refused reason (Some m)) refl
-    refused-weighs (TrySend m) reason = still (TrySend m) (Refused reason (Some m)) refl
-    refused-weighs e reason = still e (Refused reason None) refl
+    refused-weighs (Send m) reason = omega arith
+    refused-weighs (TrySend m) reason = omega arith
+    refused-weighs e reason = omega arith
+
+    reply-weighs : {e : Event T} {r : Reply T} → ReplyCase e r → event_weight h e ≡ reply_weight h r
+    reply-weighs (Full m) = refl
+    reply-weighs c = refl
+
+    send-weighs : {e : Event T} {m : T} {r : Reply T} → SendCase e m r → (event_weight h e ≡ h m) × (reply_weight h r ≡ 0)
+    send-weighs (Blocking m) = (refl, refl)
+    send-weighs (Trying m) = (refl, refl)
+
+    recv-weighs : {e : Event T} → RecvCase e → event_weight h e ≡ 0
+    recv-weighs BlockingRecv = refl
+    recv-weighs c = refl
+
+    count-weighs : {e : Event T} {senders receivers : ℕ} → CountCase l e senders receivers → event_weight h e ≡ 0
+    count-weighs ClonedTx = refl
+    count-weighs c = refl
+
+    last-weighs : {e : Event T} {senders receivers : ℕ} {reason : Reason} → LastCase l e senders receivers reason → event_weight h e ≡ 0
+    last-weighs (LastTx one) = refl
+    last-weighs c = refl
+
+    case-weighs : {e : Event T} {told : StepSpec T} → StepCase l e told → Weighs e told
+    case-weighs (Refuses e reason clear) = refused-weighs e reason
+    case-weighs (Replies e r c) = omega (arith, reply-weighs c)
+    case-weighs (Enters e m r s some_receiver some_sender place) =
+        let k = send-weighs s in omega (arith, k.0, k.1, weigh-serve l (l.line ++ bare m ∷ []) l.demands, entering l m (messages (l.line ++ bare m ∷ [])) refl)
+    case-weighs (TakesFront e x xs r some_receiver is) =
+        omega (arith, recv-weighs r, ap (λ ys. weigh h (messages ys)) is, taken-nothing (tickets ((x ∷ []) ++ under l.capacity xs)), ap (weigh h) (seated-same l.capacity xs))
+    case-weighs (SendWaits m some_receiver some_sender full) =
+        omega (arith, ap (weigh h) (map-append (λ (e : LineEntry T). e.message) l.line (waiting m l.next ∷ [])), weigh-append h (messages l.line) (m ∷ []))
+    case-weighs (WithdrawsEntry t m ms is) = omega (arith, weigh-split t l.line, ap (weigh h) is, ap (weigh h) (found-one t l.line m ms apart is))
+    case-weighs (Drains some_receiver) = omega (arith, taken-nothing (tickets l.line))
+    case-weighs (Recounts e senders receivers c) = omega (arith, count-weighs c)
+    case-weighs (EndsAll e senders receivers reason c) = omega (arith, last-weighs c, weigh-ended reason l seats)
+    case-weighs (Seals some_sender) = omega (arith, ended-demands NoSendersLeft l.demands)
+    case-weighs (Closes left) = omega (arith, weigh-ended ByClose l seats)
+    case-weighs c = omega arith
 
     pub told-weighs : (handles : Handles) (e : Event T) (told : StepSpec T) → TellsWith handles l e told → Weighs e told
-    told-weighs handles e told (inl is) =
-        elim (cases_Bool (has_handle handles e)) [
-          | inl x ↦ to e told (step l e) (is ∙ rw x refl) (step-weighs e)
-          | inr x ↦ to e told (refused l NoHandle e) (is ∙ rw x refl) (refused-weighs e NoHandle)
-        ]
-    told-weighs handles e told (inr is) = to e told (refused l NoMemory e) is.2 (refused-weighs e NoMemory)
+    told-weighs handles e told is = told_by (Weighs e) handles l e told is (case-weighs (step_case l e)) (refused-weighs e)
 
   abbrev pub account_weight : Account T → ℕ
   account_weight a = weigh (reply_weight h) a.replies + weigh (settlement_weight h) a.settled + weigh h a.drained + weigh h a.cleared + weigh h (messages a.line.line)

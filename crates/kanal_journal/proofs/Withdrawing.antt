@@ -1,13 +1,6 @@
 -- A withdrawal on the core, as the event that it is.
-use Rattle.std.proofs.Common.{◌≡◌, ℕ, ◌+◌, ◌<◌, zero, suc, false, List, [], ◌∷◌, length, get_or, Option, Some, None, refl, arith}
-use Rattle.kanal_core.specs.declared.internal.outcome.Ticket.{Ticket}
-use Rattle.kanal_core.specs.Line.{Line, found, has}
+use Rattle.kanal_journal.proofs.Common.{◌≡◌, ℕ, ◌+◌, ◌<◌, zero, suc, false, List, [], ◌∷◌, length, get_or, Option, Some, None, refl, arith, Ticket, Line, found, has, Withdraw, NotWaiting, Withdrawn, Refused, only, step, AreNumbered}
 use Rattle.kanal_core.specs.Calls.{Withdraws}
-use Rattle.kanal_events.specs.declared.event.Event.TheVariants.{Withdraw}
-use Rattle.kanal_events.specs.declared.event.Refusal.TheVariants.{NotWaiting}
-use Rattle.kanal_events.specs.declared.event.Reply.TheVariants.{Withdrawn, Refused}
-use Rattle.kanal_events.specs.Steps.{only, step}
-use Rattle.kanal_journal.specs.Given.{AreNumbered}
 
 pub numbered-get : (first : ℕ) (ts : List Ticket) (next k : ℕ) (d : Ticket) → AreNumbered first ts next → k < length ts → (get_or ts k d).number ≡ first + k
 numbered-get first [] next k d a h = absurd (omega arith)

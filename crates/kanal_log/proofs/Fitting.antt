@@ -1,12 +1,5 @@
 -- Views that fit a history.
-use Rattle.std.proofs.Common.{◌≡◌, ◌≢◌, ℕ, List, [], length, set, true, false, true≢false, refl, sym, subst, ⊎_elim, arith}
-use mathlib.Core.Option.{some}
-use mathlib.Core.List.{IsPrefix}
-use lib.ListN.{get_elem?}
-use Rattle.atomic_table.proofs.Lists.{at_set}
-use Rattle.kanal_log.specs.declared.rule.Share.{Share}
-use Rattle.kanal_log.specs.declared.rule.LogView.{LogView}
-use Rattle.kanal_log.specs.Views.{IsAmong, AreDistinct, AreBelow, reader_view, all_own, ViewFits}
+use Rattle.kanal_log.proofs.Common.{◌≡◌, ◌≢◌, ℕ, List, [], length, set, true, false, true≢false, refl, sym, subst, ⊎_elim, arith, some, IsPrefix, get_elem?, at_set, Share, LogView, IsAmong, AreDistinct, AreBelow, reader_view, all_own, ViewFits}
 use Rattle.kanal_log.proofs.Readers.{prefix_length}
 use Rattle.kanal_log.proofs.Places.{among-cases}
 

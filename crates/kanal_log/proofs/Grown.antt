@@ -1,9 +1,5 @@
 -- The writer's view where it adds to the history.
-use Rattle.std.proofs.Common.{◌≡◌, ◌≢◌, ◌⊎◌, ◌<◌, ℕ, List, ◌++◌, length, set, true, HoldsAt, refl, sym, ◌∙◌, subst, ⊎_elim, inl, inr, arith, length-append}
-use mathlib.Core.Option.{some}
-use lib.ListN.{get_elem?}
-use Rattle.kanal_log.specs.declared.rule.LogView.{LogView}
-use Rattle.kanal_log.specs.Views.{IsAmong, AreDistinct, AreBelow, Addition, entries, place_of, MayAdd, all_own, IsOwned, ViewFits, ViewsAgree}
+use Rattle.kanal_log.proofs.Common.{◌≡◌, ◌≢◌, ◌⊎◌, ◌<◌, ℕ, List, ◌++◌, length, set, true, HoldsAt, refl, sym, ◌∙◌, subst, ⊎_elim, inl, inr, arith, length-append, some, get_elem?, LogView, IsAmong, AreDistinct, AreBelow, Addition, entries, place_of, MayAdd, all_own, IsOwned, ViewFits, ViewsAgree}
 use Rattle.kanal_log.proofs.Readers.{prefix_self, prefix_more}
 use Rattle.kanal_log.proofs.Places.{among-cases, among-left, among-right, distinct-append, distinct-left, distinct-right, distinct-apart, among-place, place-distinct, place-covers, none-more, unowned-longer}
 use Rattle.kanal_log.proofs.Owners.{owners-set}

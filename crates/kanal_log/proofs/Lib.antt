@@ -1,3 +1,4 @@
+pub mod Common
 pub mod Readers
 pub mod Places
 pub mod Shares

@@ -1,14 +1,5 @@
 -- Each step of a seat keeps the rule.
-use Rattle.std.proofs.Common.{◌≡◌, ◌≢◌, ◌⊎◌, ◌+◌, ◌≤◌, ℕ, zero, suc, List, [], ◌∷◌, ◌++◌, length, set, true, false, refl, sym, ap, ◌∙◌, subst, ⊎_elim, inl, inr, arith}
-use mathlib.Core.Option.{some, some-ne-none, some-injective}
-use mathlib.Core.List.{IsPrefix}
-use lib.ListN.{get_elem?}
-use Rattle.atomic_table.specs.Table.{State, Me, keeps, Allows, Splits, Joins}
-use Rattle.atomic_table.proofs.Lists.{at_set, at_snoc}
-use Rattle.kanal_log.specs.declared.rule.Share.{Share}
-use Rattle.kanal_log.specs.declared.rule.LogView.{LogView}
-use Rattle.kanal_log.specs.Shares.{whole, nothing, half, both, IsWhole, worth}
-use Rattle.kanal_log.specs.Views.{IsAmong, AreDisjoint, Addition, MayAdd, writer_view_with, reader_view, beside, alone, with_share, all_own, IsHalvedUpTo, AreShared, ViewFits, HaveOneOwner, ViewsAgree, Extended, Compared, Learned, Checked, IsUnownedBehind}
+use Rattle.kanal_log.proofs.Common.{◌≡◌, ◌≢◌, ◌⊎◌, ◌+◌, ◌≤◌, ℕ, zero, suc, List, [], ◌∷◌, ◌++◌, length, set, true, false, refl, sym, ap, ◌∙◌, subst, ⊎_elim, inl, inr, arith, some, some-ne-none, some-injective, IsPrefix, get_elem?, State, Me, keeps, Allows, Splits, Joins, at_set, at_snoc, Share, LogView, whole, nothing, half, both, IsWhole, worth, IsAmong, AreDisjoint, Addition, MayAdd, writer_view_with, reader_view, beside, alone, with_share, all_own, IsHalvedUpTo, AreShared, ViewFits, HaveOneOwner, ViewsAgree, Extended, Compared, Learned, Checked, IsUnownedBehind}
 use Rattle.kanal_log.proofs.Readers.{prefix_self, prefix_both, prefix_length}
 use Rattle.kanal_log.proofs.Places.{among-cases, among-left, among-right, distinct-append, distinct-left, distinct-right, distinct-apart, unowned-shorter}
 use Rattle.kanal_log.proofs.Owners.{owners-set, owners-split, owners-join}

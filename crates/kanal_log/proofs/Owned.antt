@@ -1,10 +1,5 @@
 -- Which places some seat has, whatever step a seat makes.
-use Rattle.std.proofs.Common.{◌≡◌, ◌≢◌, ◌⊎◌, ℕ, zero, suc, List, [], ◌∷◌, ◌++◌, length, set, refl, sym, ap, ◌∙◌, subst, ⊎_elim, inl, inr}
-use mathlib.Core.Option.{some, some-ne-none, some-injective}
-use lib.ListN.{get_elem?}
-use Rattle.kanal_log.specs.declared.rule.LogView.{LogView}
-use Rattle.kanal_log.specs.Shares.{nothing}
-use Rattle.kanal_log.specs.Views.{IsAmong, all_own, IsOwned, beside, reader_view}
+use Rattle.kanal_log.proofs.Common.{◌≡◌, ◌≢◌, ◌⊎◌, ℕ, zero, suc, List, [], ◌∷◌, ◌++◌, length, set, refl, sym, ap, ◌∙◌, subst, ⊎_elim, inl, inr, some, some-ne-none, some-injective, get_elem?, LogView, nothing, IsAmong, all_own, IsOwned, beside, reader_view}
 use Rattle.kanal_log.proofs.Places.{among-cases, among-left, among-right}
 
 module _ {A : Type 0} where

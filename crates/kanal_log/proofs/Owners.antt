@@ -1,11 +1,5 @@
 -- Each place is of one seat at most, whatever step a seat makes.
-use Rattle.std.proofs.Common.{◌≡◌, ◌≢◌, ◌⊎◌, ℕ, zero, suc, List, [], ◌∷◌, ◌++◌, length, set, refl, sym, ap, ◌∙◌, subst, ⊎_elim, inl, inr}
-use mathlib.Core.Option.{some, some-ne-none, some-injective}
-use lib.ListN.{get_elem?}
-use Rattle.atomic_table.proofs.Lists.{at_set}
-use Rattle.kanal_log.specs.declared.rule.LogView.{LogView}
-use Rattle.kanal_log.specs.Shares.{nothing}
-use Rattle.kanal_log.specs.Views.{IsAmong, AreDisjoint, HaveOneOwner, all_own, beside, reader_view}
+use Rattle.kanal_log.proofs.Common.{◌≡◌, ◌≢◌, ◌⊎◌, ℕ, zero, suc, List, [], ◌∷◌, ◌++◌, length, set, refl, sym, ap, ◌∙◌, subst, ⊎_elim, inl, inr, some, some-ne-none, some-injective, get_elem?, at_set, LogView, nothing, IsAmong, AreDisjoint, HaveOneOwner, all_own, beside, reader_view}
 use Rattle.kanal_log.proofs.Places.{among-cases, among-right}
 
 module _ {A : Type 0} where

@@ -1,11 +1,6 @@
 -- Lists of places.
-use Rattle.std.proofs.Common.{◌≡◌, ◌+◌, ◌<◌, ◌≤◌, ℕ, ◌⊎◌, inl, inr, List, [], ◌∷◌, ◌++◌, length, get_or, HoldsAt, refl, sym, subst, ⊎_elim, lt_of_not-le, arith, length-append, length-drop}
+use Rattle.kanal_log.proofs.Common.{◌≡◌, ◌+◌, ◌<◌, ◌≤◌, ℕ, ◌⊎◌, inl, inr, List, [], ◌∷◌, ◌++◌, length, get_or, HoldsAt, refl, sym, subst, ⊎_elim, lt_of_not-le, arith, length-append, length-drop, IsPrefix, dite, dec_le, Share, IsAmong, AreDisjoint, AreDistinct, Addition, no_entry, own_entry, unowned_entry, entries, place_of, MayAdd, IsUnownedBehind}
 use Rattle.std.proofs.lemmas.List.{get_or_append_left, get_or-append-add, get_or-drop}
-use mathlib.Core.List.{IsPrefix}
-use mathlib.Core.Logic.{dite}
-use native.Mathlib.Decide.{dec_le}
-use Rattle.kanal_log.specs.declared.rule.Share.{Share}
-use Rattle.kanal_log.specs.Views.{IsAmong, AreDisjoint, AreDistinct, Addition, no_entry, own_entry, unowned_entry, entries, place_of, MayAdd, IsUnownedBehind}
 
 pub among-cases : (k : ℕ) (xs ys : List ℕ) → IsAmong k (xs ++ ys) → IsAmong k xs ⊎ IsAmong k ys
 among-cases k [] ys a = inr a

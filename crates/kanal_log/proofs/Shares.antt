@@ -1,7 +1,5 @@
 -- What shares are worth.
-use Rattle.std.proofs.Common.{◌≡◌, ◌+◌, ◌-◌, ◌≤◌, ℕ, zero, suc, refl, sym, ap, ◌∙◌, arith}
-use Rattle.kanal_log.specs.declared.rule.Share.{Share}
-use Rattle.kanal_log.specs.Shares.{doubled, nothing, half, both, HasShare, IsWhole, worth}
+use Rattle.kanal_log.proofs.Common.{◌≡◌, ◌+◌, ◌-◌, ◌≤◌, ℕ, zero, suc, refl, sym, ap, ◌∙◌, arith, Share, doubled, nothing, half, both, HasShare, IsWhole, worth}
 
 pub doubled-sum : (n x y : ℕ) → doubled n (x + y) ≡ doubled n x + doubled n y
 doubled-sum zero x y = refl

@@ -1,12 +1,5 @@
 -- Who has all of the right to add entries.
-use Rattle.std.proofs.Common.{◌≡◌, ◌≢◌, ◌⊎◌, ◌<◌, ◌≤◌, ℕ, List, [], length, HoldsAt, sym, ap, ◌∙◌, subst, ⊎_elim, inl, inr, arith}
-use mathlib.Core.Option.{some, some-injective}
-use mathlib.Core.Logic.{dite}
-use native.Mathlib.Decide.{ℕ_discrete}
-use lib.ListN.{get_elem?}
-use Rattle.kanal_log.specs.declared.rule.LogView.{LogView}
-use Rattle.kanal_log.specs.Shares.{doubled, IsWhole}
-use Rattle.kanal_log.specs.Views.{IsAmong, all_own, all_worth, IsOwned, ViewsAgree, IsUnownedBehind}
+use Rattle.kanal_log.proofs.Common.{◌≡◌, ◌≢◌, ◌⊎◌, ◌<◌, ◌≤◌, ℕ, List, [], length, HoldsAt, sym, ap, ◌∙◌, subst, ⊎_elim, inl, inr, arith, some, some-injective, dite, ℕ_discrete, get_elem?, LogView, doubled, IsWhole, IsAmong, all_own, all_worth, IsOwned, ViewsAgree, IsUnownedBehind}
 use Rattle.kanal_log.proofs.Places.{among-cases, unowned-behind}
 use Rattle.kanal_log.proofs.Shares.{worth-whole, worthless}
 use Rattle.kanal_log.proofs.Worths.{worth-one, worth-two, halved-at}

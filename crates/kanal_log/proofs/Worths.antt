@@ -1,10 +1,5 @@
 -- The shares of all views together are no more than all of the right, whatever step a seat makes.
-use Rattle.std.proofs.Common.{◌≡◌, ◌≢◌, ◌+◌, ◌≤◌, ℕ, zero, suc, List, [], ◌∷◌, ◌++◌, set, refl, sym, ap, subst, arith}
-use mathlib.Core.Option.{some, some-ne-none, some-injective}
-use lib.ListN.{get_elem?}
-use Rattle.kanal_log.specs.declared.rule.LogView.{LogView}
-use Rattle.kanal_log.specs.Shares.{doubled, worth}
-use Rattle.kanal_log.specs.Views.{all_worth, worth_of, IsHalvedUpTo, AreHalvedUpTo, AreShared}
+use Rattle.kanal_log.proofs.Common.{◌≡◌, ◌≢◌, ◌+◌, ◌≤◌, ℕ, zero, suc, List, [], ◌∷◌, ◌++◌, set, refl, sym, ap, subst, arith, some, some-ne-none, some-injective, get_elem?, LogView, doubled, worth, all_worth, worth_of, IsHalvedUpTo, AreHalvedUpTo, AreShared}
 use Rattle.kanal_log.proofs.Shares.{doubled-sum, doubled-twice, doubled-most, doubled-nothing, worth-scaled}
 
 module _ {E : Type 0} where

@@ -1,24 +1,11 @@
 -- The events of a legal history lead a new channel to an account that tells what its calls were told.
-use Rattle.std.proofs.Common.{◌≡◌, ◌≤◌, ℕ, ◌==◌, ◌&&◌, ◌||◌, List, [], ◌∷◌, ◌++◌, length, map, filter, Option, Some, None, refl, sym, ap, ◌∙◌, subst, inl, inr, arith, append-nil, append_assoc, length-append}
-use Rattle.std.specs.List.{list_any, sum_by}
-use Rattle.std.proofs.lemmas.Bool.{cases_Bool}
+use Rattle.kanal_one_history.proofs.Common.{◌≡◌, ◌≤◌, ℕ, ◌==◌, ◌&&◌, ◌||◌, List, [], ◌∷◌, ◌++◌, length, map, filter, Option, Some, None, refl, sym, ap, ◌∙◌, subst, inl, inr, arith, append-nil, append_assoc, length-append, list_any, sum_by, cases_Bool, Line, Event, Reply, step, Settlement, Account, Leads, handles_after, made, numbered, opening_account, opening_line, Demand, AtOnce, Later, Next, PairedHistory, along, asked, cleared_by, demand_stays, demands, history_from, is_ended, is_gone, kept, send_stays, sent, withdrawn_ticket, without_last, StaysOver, told_history, Call, call_of, LeadsAsTold, account_after, all_cleared, replies_by, reply_by, AreTold, IsLegal, after, history_of, with_call, with_calls}
 use Rattle.std.proofs.lemmas.List.{map-append}
 use Rattle.std.proofs.lemmas.List.Sums.{sum_by-append}
-use Rattle.kanal_core.specs.Line.{Line}
-use Rattle.kanal_events.specs.declared.event.Event.{Event}
-use Rattle.kanal_events.specs.declared.event.Reply.{Reply}
-use Rattle.kanal_events.specs.Steps.{step}
-use Rattle.kanal_journal.specs.declared.journal.report.Settlement.{Settlement}
-use Rattle.kanal_journal.specs.Runs.{Account, Leads, handles_after, made, numbered, opening_account, opening_line}
 use Rattle.kanal_journal.specs.Replays.{next_account, played}
-use Rattle.kanal_journal.specs.Paired.{Demand, AtOnce, Later, Next, PairedHistory, along, asked, cleared_by, demand_stays, demands, history_from, is_ended, is_gone, kept, send_stays, sent, withdrawn_ticket, without_last}
-use Rattle.kanal_journal.specs.Laws.{StaysOver, told_history}
+use Rattle.kanal_journal.proofs.Replaying.{leads-played}
 use Rattle.kanal_journal.proofs.Over.{final-after}
 use Rattle.kanal_journal.proofs.Sends.{along-last}
-use Rattle.kanal_state.specs.declared.call.Call.{Call}
-use Rattle.kanal_state.specs.Calls.{call_of}
-use Rattle.kanal_one_history.specs.Accounts.{LeadsAsTold, account_after, all_cleared, replies_by, reply_by}
-use Rattle.kanal_one_history.specs.Calls.{AreTold, IsLegal, after, history_of, with_call, with_calls}
 use Rattle.kanal_one_history.proofs.Telling.{live}
 use Rattle.kanal_one_history.proofs.Handles.{IsHeld, as_step, reply_told}
 use Rattle.kanal_one_history.proofs.Finality.{events_of, stays_over, with_events, with_replies}
@@ -75,10 +62,6 @@ module _ {T : Type 0} where
   played-on : (o : Account T) (es more : List (Event T)) → played o (es ++ more) ≡ played (played o es) more
   played-on o [] more = refl
   played-on o (x ∷ es) more = played-on (next_account o x) es more
-
-  leads-played : (a : Account T) (es : List (Event T)) → Leads a es (played a es)
-  leads-played a [] = refl
-  leads-played a (e ∷ es) = (next_account a e, (made a.handles a.line e, inl refl, refl), leads-played (next_account a e) es)
 
   account-is : (capacity : Option ℕ) (log : List (Call T)) → account_after capacity log ≡ played (opening_account capacity) (events_of log)
   account-is capacity log = ap (played (opening_account capacity)) (with_events (history_from [] [] [] []) log)

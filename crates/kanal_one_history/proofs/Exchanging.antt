@@ -1,17 +1,9 @@
 -- What a call put or got, in the history and in each longer one, and what it means for all that was kept.
-use Rattle.std.proofs.Common.{◌≡◌, ℕ, List, [], ◌∷◌, ◌++◌, map, filter, Option, Some, None, refl, sym, ap, subst}
+use Rattle.kanal_one_history.proofs.Common.{◌≡◌, ℕ, List, [], ◌∷◌, ◌++◌, map, filter, Option, Some, None, refl, sym, ap, subst, Known, Event, Reply, Demand, AtOnce, Later, Next, demand_stays, receipts_from, send_stays, Call, MovesNoMessage, history_of, AreGot, ArePut, Exchanges, ExchangesNothing, WaitsAsSettled}
 use mathlib.Core.List.{IsPrefix}
-use Rattle.kanal_log.specs.Views.{Known}
 use Rattle.kanal_core.specs.declared.internal.outcome.Outcome.TheVariants.{Taken, Given}
-use Rattle.kanal_events.specs.declared.event.Event.{Event}
-use Rattle.kanal_events.specs.declared.event.Reply.{Reply}
-use Rattle.kanal_journal.specs.Paired.{Demand, AtOnce, Later, Next, demand_stays, receipts_from, send_stays}
-use Rattle.kanal_state.specs.declared.call.Call.{Call}
-use Rattle.kanal_state.specs.Calls.{MovesNoMessage}
 use Rattle.kanal_state.specs.Makes.{IsReplied}
-use Rattle.kanal_one_history.specs.Calls.{history_of}
 use Rattle.kanal_one_history.specs.History.{pass_relations, Appends}
-use Rattle.kanal_one_history.specs.Puts.{AreGot, ArePut, Exchanges, ExchangesNothing, WaitsAsSettled}
 use Rattle.kanal_one_history.specs.Exchanged.{just-made}
 use Rattle.kanal_one_history.specs.Sound.{settled_longer}
 use Rattle.kanal_one_history.proofs.NoMessage.{exchanges_nothing}

@@ -1,20 +1,6 @@
 -- Once a receive of a legal history was told that nothing will come, each later one is told so.
-use Rattle.std.proofs.Common.{◌≡◌, true, false, List, [], ◌∷◌, ◌++◌, map, refl, sym, ap, ◌∙◌, inl, inr, append-nil, append_assoc}
-use Rattle.std.proofs.lemmas.Bool.{cases_Bool, false≢true}
-use Rattle.kanal_core.specs.Line.{Line}
-use Rattle.kanal_events.specs.declared.event.Event.{Event}
-use Rattle.kanal_events.specs.declared.event.Event.TheVariants.{Recv, TryRecv}
-use Rattle.kanal_events.specs.declared.event.Reply.{Reply}
-use Rattle.kanal_events.specs.Steps.{step}
-use Rattle.kanal_journal.specs.declared.journal.handles.Handles.{Handles}
-use Rattle.kanal_journal.specs.Runs.{handles_after, has_handle}
-use Rattle.kanal_journal.specs.Paired.{PairedHistory}
-use Rattle.kanal_journal.specs.Laws.{AreOver, StaysOver, is_receive, tells_end, tells_end_or_no_handle}
+use Rattle.kanal_one_history.proofs.Common.{◌≡◌, true, false, List, [], ◌∷◌, ◌++◌, map, refl, sym, ap, ◌∙◌, inl, inr, append-nil, append_assoc, cases_Bool, false≢true, Line, Event, Recv, TryRecv, Reply, step, Handles, handles_after, has_handle, PairedHistory, AreOver, StaysOver, is_receive, tells_end, tells_end_or_no_handle, Call, IsToldOn, replies_by, reply_by, AreTold, with_call, with_calls}
 use Rattle.kanal_journal.proofs.Standing.{told-zero}
-use Rattle.kanal_state.specs.declared.call.Call.{Call}
-use Rattle.kanal_state.specs.Calls.{IsToldOn}
-use Rattle.kanal_one_history.specs.Accounts.{replies_by, reply_by}
-use Rattle.kanal_one_history.specs.Calls.{AreTold, with_call, with_calls}
 use Rattle.kanal_one_history.proofs.Telling.{live, live-made}
 use Rattle.kanal_one_history.proofs.Handles.{IsHeld, held_next, nobody}
 

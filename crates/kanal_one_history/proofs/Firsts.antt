@@ -1,27 +1,8 @@
 -- What a legal history settled or withdrew had begun to wait.
-use Rattle.std.proofs.Common.{◌≡◌, ◌<◌, ◌≤◌, ◌⊎◌, ℕ, ◌+◌, true, ◌==◌, List, [], ◌∷◌, ◌++◌, Option, Some, None, refl, sym, ap, ◌∙◌, subst, inl, inr, arith}
-use Rattle.std.proofs.lemmas.Bool.{cases_Bool, cases_lt, or_left, or_right}
-use Rattle.kanal_core.specs.declared.internal.outcome.Outcome.{Outcome}
-use Rattle.kanal_core.specs.Line.{LineEntry, Line, bare, found, has, has_place, last_word, tickets}
-use Rattle.kanal_core.specs.Moves.{enter, last_count, leave, serve, wait_recv, wait_send}
-use Rattle.kanal_events.specs.declared.event.Event.{Event}
-use Rattle.kanal_events.specs.declared.event.Event.TheVariants.{Send, TrySend, Recv, RecvLate, TryRecv, Drain, Withdraw, CloneTx, CloneRx, DropTx, DropRx, Seal, Close, Ask as Asks, Terminated}
-use Rattle.kanal_events.specs.declared.event.Refusal.TheVariants.{Timeout}
-use Rattle.kanal_events.specs.declared.event.Reply.{Reply}
-use Rattle.kanal_events.specs.declared.event.Reply.TheVariants.{Sent, Waits, Yes, No, Got, Nothing, Withdrawn, Refused}
-use Rattle.kanal_events.specs.Steps.{StepSpec, is_closed, moving, nothing_there, offer, only, step, take as take_told, take_front, wait, withdraw}
-use Rattle.kanal_journal.specs.Runs.{opening_line}
-use Rattle.kanal_journal.specs.Laws.{AreRising}
+use Rattle.kanal_one_history.proofs.Common.{◌≡◌, ◌<◌, ◌≤◌, ◌⊎◌, ℕ, ◌+◌, true, List, [], ◌∷◌, ◌++◌, Option, refl, sym, ap, ◌∙◌, subst, inl, inr, arith, cases_Bool, cases_lt, or_left, or_right, Outcome, Line, found, has, tickets, Event, Withdraw, Waits, Withdrawn, StepSpec, step, withdraw, StepCase, Enters, SendWaits, RecvWaits, enter-rest, step_case, opening_line, AreRising, waits, holds-after, Call, IsIn, IsToldOn, account_after, AreTold, IsLegal, after, history_of, line_after, HasBegunToWait, SettlesOrWithdraws, WaitsComeFirst}
 use Rattle.kanal_journal.proofs.Counting.{tickets_of}
-use Rattle.kanal_journal.proofs.Holding.{waits}
-use Rattle.kanal_journal.proofs.Lawful.{holds-after}
 use Rattle.kanal_journal.proofs.Rising.{KeepsOrder, ordered, rise-first, told-order}
 use Rattle.kanal_journal.proofs.Tickets.{found-some, has-append}
-use Rattle.kanal_state.specs.declared.call.Call.{Call}
-use Rattle.kanal_state.specs.Calls.{IsIn, IsToldOn}
-use Rattle.kanal_one_history.specs.Accounts.{account_after}
-use Rattle.kanal_one_history.specs.Calls.{AreTold, IsLegal, after, history_of, line_after}
-use Rattle.kanal_one_history.specs.Puts.{HasBegunToWait, SettlesOrWithdraws, WaitsComeFirst}
 use Rattle.kanal_one_history.proofs.Telling.{live, live-made}
 use Rattle.kanal_one_history.proofs.Accounts.{leads_as_told}
 
@@ -30,64 +11,12 @@ module _ {T : Type 0} where
   record GivesAsTold (l : Line T) (told : StepSpec T) : Type 0 where
     next : (told.line.next ≡ l.next) ⊎ ((told.line.next ≡ l.next + 1) × (told.reply ≡ Waits l.next))
 
-  serve-next : (old : Line T) (line : List (LineEntry T)) (ds : List ℕ) → (serve old line ds).line.next ≡ old.next
-  serve-next old line [] = refl
-  serve-next old [] (d ∷ ds) = refl
-  serve-next old (e ∷ es) (d ∷ ds) = serve-next old es ds
-
-  module _ (l : Line T) where
-    none : (told : StepSpec T) → told.line.next ≡ l.next → GivesAsTold l told
-    none told is = record { next = inl is }
-
-    offers : (m : T) (r : Reply T) (otherwise : StepSpec T) → GivesAsTold l otherwise → GivesAsTold l (offer l m r otherwise)
-    offers m r otherwise k =
-        elim (cases_Bool (l.receivers == 0)) [
-          | inl x ↦ rw x (none _ refl)
-          | inr x ↦
-              elim (cases_Bool (l.senders == 0)) [
-                | inl s ↦ rw (x, s) (none _ refl)
-                | inr s ↦
-                    elim (cases_Bool (has_place l)) [
-                      | inl y ↦ rw (x, s, y) (none (moving (enter l m) r) (serve-next l (l.line ++ bare m ∷ []) l.demands))
-                      | inr y ↦ rw (x, s, y) k
-                    ]
-              ]
-        ]
-
-    fronts : (otherwise : StepSpec T) (xs : List (LineEntry T)) → GivesAsTold l otherwise → GivesAsTold l (take_front l xs otherwise)
-    fronts otherwise [] k = k
-    fronts otherwise (x ∷ xs) k = none (moving (leave l (x ∷ []) xs) (Got x.message)) refl
-
-    takes : (otherwise : StepSpec T) → GivesAsTold l otherwise → GivesAsTold l (take_told l otherwise)
-    takes otherwise k = elim (cases_Bool (l.receivers == 0)) [ inl x ↦ rw x (none _ refl) | inr x ↦ rw x (fronts otherwise l.line k) ]
-
-    nothing : (otherwise : StepSpec T) → GivesAsTold l otherwise → GivesAsTold l (nothing_there l otherwise)
-    nothing otherwise k = elim (cases_Bool (l.senders == 0)) [ inl x ↦ rw x (none _ refl) | inr x ↦ rw x k ]
-
-    starts : (new : Line T) (back : Option T) → new.next ≡ l.next + 1 → GivesAsTold l (wait l new back)
-    starts new back is = elim (cases_Bool (l.next == last_word)) [ inl x ↦ rw x (none _ refl) | inr x ↦ rw x (record { next = inr (is, refl) }) ]
-
-    withdraws : (t : ℕ) (ms : List T) → GivesAsTold l (withdraw l t ms)
-    withdraws t [] = elim (cases_Bool (has t l.demands)) [ inl x ↦ rw x (none _ refl) | inr x ↦ rw x (none _ refl) ]
-    withdraws t (m ∷ ms) = none _ refl
-
-    -- each step gives one ticket at most, and tells of it
-    step-gives : (e : Event T) → GivesAsTold l (step l e)
-    step-gives (Send m) = offers m Sent (wait l (wait_send l m) (Some m)) (starts (wait_send l m) (Some m) refl)
-    step-gives (TrySend m) = offers m Yes (only l (No m)) (none _ refl)
-    step-gives Recv = takes (nothing_there l (wait l (wait_recv l) None)) (nothing (wait l (wait_recv l) None) (starts (wait_recv l) None refl))
-    step-gives RecvLate = takes (only l (Refused Timeout None)) (none _ refl)
-    step-gives TryRecv = takes (nothing_there l (only l Nothing)) (nothing (only l Nothing) (none _ refl))
-    step-gives Drain = elim (cases_Bool (l.receivers == 0)) [ inl x ↦ rw x (none _ refl) | inr x ↦ rw x (none _ refl) ]
-    step-gives (Withdraw t) = withdraws t (found t l.line)
-    step-gives CloneTx = elim (cases_Bool (l.senders == last_count)) [ inl x ↦ rw x (none _ refl) | inr x ↦ rw x (none _ refl) ]
-    step-gives CloneRx = elim (cases_Bool (l.receivers == last_count)) [ inl x ↦ rw x (none _ refl) | inr x ↦ rw x (none _ refl) ]
-    step-gives DropTx = elim (cases_Bool (l.senders == 1)) [ inl x ↦ rw x (none _ refl) | inr x ↦ rw x (none _ refl) ]
-    step-gives DropRx = elim (cases_Bool (l.receivers == 1)) [ inl x ↦ rw x (none _ refl) | inr x ↦ rw x (none _ refl) ]
-    step-gives Seal = elim (cases_Bool (l.senders == 0)) [ inl x ↦ rw x (none _ refl) | inr x ↦ rw x (none _ refl) ]
-    step-gives Close = elim (cases_Bool (is_closed l)) [ inl x ↦ rw x (none _ refl) | inr x ↦ rw x (none _ refl) ]
-    step-gives (Asks side ask) = none _ refl
-    step-gives Terminated = none _ refl
+  -- each step gives one ticket at most, and tells of it
+  case-gives : {l : Line T} {e : Event T} {told : StepSpec T} → StepCase l e told → GivesAsTold l told
+  case-gives {l} (Enters e m r s some_receiver some_sender place) = record { next = inl (ap (λ (x : Line T). x.next) (enter-rest l m)) }
+  case-gives (SendWaits m some_receiver some_sender full) = record { next = inr (refl, refl) }
+  case-gives (RecvWaits some_receiver some_sender empty) = record { next = inr (refl, refl) }
+  case-gives c = record { next = inl refl }
 
   -- what began to wait among later calls began among all of them
   begun-later : (c : Call T) (cs : List (Call T)) (t : ℕ) → HasBegunToWait cs t → HasBegunToWait (c ∷ cs) t
@@ -97,7 +26,7 @@ module _ {T : Type 0} where
   begun-among : (l : Line T) (cs : List (Call T)) → AreTold l cs → (t : ℕ) → l.next ≤ t → t < (after l cs).next → HasBegunToWait cs t
   begun-among l [] told t low high = absurd (omega (arith, low, high))
   begun-among l (c ∷ cs) told t low high =
-      elim (step-gives l c.event).next [
+      elim (case-gives (step_case l c.event)).next [
         | inl is ↦ begun-later c cs t (begun-among (step l c.event).line cs told.1 t (omega (arith, is, low)) high)
         | inr is ↦
             elim (cases_lt l.next t) [

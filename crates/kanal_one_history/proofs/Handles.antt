@@ -1,32 +1,11 @@
 -- What a call tells whose side has no live handle: nothing but its reply.
-use Rattle.std.proofs.Common.{◌≡◌, ◌≤◌, ℕ, ◌+◌, ◌-◌, Bool, true, false, not, cond, eqb, ◌==◌, ◌&&◌, ◌||◌, [], Option, Some, None, refl, sym, ap, ◌∙◌, subst, inl, inr, arith}
-use Rattle.std.proofs.lemmas.Bool.{cases_Bool, eqb-true, false≢true}
-use Rattle.kanal_core.specs.Line.{Line}
-use Rattle.kanal_core.specs.Moves.{last_count, raised, wait_recv, wait_send, add_sender, add_receiver}
-use Rattle.kanal_events.specs.declared.event.Event.{Event}
-use Rattle.kanal_events.specs.declared.event.Event.TheVariants.{Send, TrySend, Recv, RecvLate, TryRecv, Drain, Withdraw, CloneTx, CloneRx, DropTx, DropRx, Seal, Close, Ask as Asks, Terminated}
-use Rattle.kanal_events.specs.declared.event.Refusal.{Refusal}
-use Rattle.kanal_events.specs.declared.event.Refusal.TheVariants.{Closed as ByClosed, ReceiveClosed as NoReceiver, Sealed as BySeal, TooMany, CloseError, NoHandle}
-use Rattle.kanal_events.specs.declared.event.Reply.{Reply}
-use Rattle.kanal_events.specs.declared.event.Reply.TheVariants.{Done, Yes, No, Sent, Nothing, Refused}
-use Rattle.kanal_events.specs.Steps.{StepSpec, answer, message_of, nothing_there, offer, only, refused, seal_line, shut, step, take as take_told, take_line, wait}
-use Rattle.kanal_journal.specs.declared.journal.handles.Handles.{Handles}
-use Rattle.kanal_journal.specs.Runs.{handles_after, has_handle, made}
-use Rattle.kanal_journal.specs.Paired.{asked, cleared_by, sent, withdrawn_ticket}
-use Rattle.kanal_journal.proofs.Standing.{is_plain, raised-zero, step-steady, still-none}
-use Rattle.kanal_state.specs.declared.call.Call.{Call}
-use Rattle.kanal_state.specs.Calls.{IsToldOn}
-use Rattle.kanal_one_history.specs.Accounts.{reply_by}
-use Rattle.kanal_one_history.proofs.NoMessage.{answers-nothing}
+use Rattle.kanal_one_history.proofs.Common.{◌≡◌, ◌≤◌, ℕ, ◌+◌, false, not, cond, eqb, ◌==◌, List, [], ◌∷◌, refl, sym, ap, ◌∙◌, subst, inl, inr, arith, cases_Bool, eqb-true, false≢true, Line, raised, Event, CloneTx, CloneRx, DropTx, DropRx, NoHandle, Reply, Done, Refused, StepSpec, message_of, only, refused, step, Handles, handles_after, has_handle, made, asked, cleared_by, sent, withdrawn_ticket, LineEntry, enter, leave, Got, Tx, Rx, SendCase, Blocking, Trying, RecvCase, BlockingRecv, LateRecv, TryingRecv, ReplyCase, Full, CountCase, ClonedTx, ClonedRx, DroppedTx, DroppedRx, LastCase, LastTx, LastRx, StepCase, Refuses, Replies, Enters, TakesFront, SendWaits, RecvWaits, WithdrawsDemand, WithdrawsEntry, Drains, Recounts, EndsAll, Seals, Closes, enter-rest, step_case, has_side, IsPlain, refused-handles, refused-plain, reply-plain, Call, IsToldOn, reply_by}
+use Rattle.kanal_core.specs.declared.internal.outcome.Reason.{Reason}
+use Rattle.kanal_journal.proofs.Settling.{or_parts}
 
 -- a side without a live handle counts nobody
 pub nobody : (k n : ℕ) → not (k == 0) ≡ false → n ≤ k → n ≡ 0
 nobody k n off h = elim (cases_Bool (k == 0)) [ inl e ↦ omega (arith, eqb-true k 0 e, h) | inr e ↦ absurd (false≢true (sym off ∙ rw e refl)) ]
-
-neither : (a b : Bool) → (a || b) ≡ false → (a ≡ false) × (b ≡ false)
-neither false false e = (refl, refl)
-neither false true e = absurd (false≢true (sym e))
-neither true b e = absurd (false≢true (sym e))
 
 raised-most : (n : ℕ) → raised n ≤ n + 1
 raised-most n = elim (cases_Bool (eqb n 0)) [ inl e ↦ rw e (omega arith) | inr e ↦ rw e (omega arith) ]
@@ -47,158 +26,103 @@ module _ {T : Type 0} where
     pub withdraws : withdrawn_ticket e told.reply ≡ []
     pub clears : cleared_by told.reply ≡ 0
 
-  -- a refusal has no message that entered or was got
-  none-sent : (e : Event T) (reason : Refusal) (back : Option T) → sent e (Refused reason back) ≡ []
-  none-sent (Send m) reason back = refl
-  none-sent e reason back = refl
+  -- an event whose reply tells of no message, and that leaves the line as it was
+  plain-idle : (l : Line T) (e : Event T) (r : Reply T) → IsPlain e r → IsIdle l e (only l r)
+  plain-idle l e r k =
+      record { line = refl; settled = refl; drained = refl; cleared = refl; sends = k.0; asks = k.1; withdraws = k.2; clears = k.3 }
 
-  none-asked : (e : Event T) (reason : Refusal) (back : Option T) → asked e (Refused reason back) ≡ []
-  none-asked (Send m) reason back = refl
-  none-asked e reason back = refl
+  -- the side of a send, and of a receive
+  send-side : (handles : Handles) {e : Event T} {m : T} {r : Reply T} → SendCase e m r → has_handle handles e ≡ has_side handles Tx
+  send-side handles (Blocking m) = refl
+  send-side handles (Trying m) = refl
 
-  none-withdrawn : (e : Event T) (reason : Refusal) (back : Option T) → withdrawn_ticket e (Refused reason back) ≡ []
-  none-withdrawn (Send m) reason back = refl
-  none-withdrawn e reason back = refl
+  recv-side : (handles : Handles) {e : Event T} → RecvCase e → has_handle handles e ≡ has_side handles Rx
+  recv-side handles BlockingRecv = refl
+  recv-side handles LateRecv = refl
+  recv-side handles TryingRecv = refl
 
-  module _ (l : Line T) where
-    to : (e : Event T) (told other : StepSpec T) → told ≡ other → IsIdle l e other → IsIdle l e told
-    to e told other is k = subst (IsIdle l e) (sym is) k
-
-    pub refused_idle : (e : Event T) (reason : Refusal) (back : Option T) → IsIdle l e (only l (Refused reason back))
-    refused_idle e reason back =
-        record {
-          line = refl;
-          settled = refl;
-          drained = refl;
-          cleared = refl;
-          sends = none-sent e reason back;
-          asks = none-asked e reason back;
-          withdraws = none-withdrawn e reason back;
-          clears = refl;
-        }
-
-    answered-idle : (e : Event T) (r : Reply T) → sent e r ≡ [] → asked e r ≡ [] → withdrawn_ticket e r ≡ [] → cleared_by r ≡ 0 → IsIdle l e (only l r)
-    answered-idle e r s a w c =
-        record { line = refl; settled = refl; drained = refl; cleared = refl; sends = s; asks = a; withdraws = w; clears = c }
-
-    offers : (e : Event T) (m : T) (r : Reply T) (otherwise : StepSpec T) → l.senders ≡ 0 → IsIdle l e (offer l m r otherwise)
-    offers e m r otherwise z =
-        elim (cases_Bool (eqb l.receivers 0)) [
-          | inl x ↦ to e (offer l m r otherwise) (only l (Refused (cond (l.senders == 0) ByClosed NoReceiver) (Some m))) (rw x refl) (refused_idle e (cond (l.senders == 0) ByClosed NoReceiver) (Some m))
-          | inr x ↦ to e (offer l m r otherwise) (only l (Refused BySeal (Some m))) (rw (x, z) refl) (refused_idle e BySeal (Some m))
-        ]
-
-    takes : (e : Event T) (otherwise : StepSpec T) → l.receivers ≡ 0 → IsIdle l e (take_told l otherwise)
-    takes e otherwise y = to e (take_told l otherwise) (only l (Refused ByClosed None)) (rw y refl) (refused_idle e ByClosed None)
-
+  module _ (l : Line T) (handles : Handles) (held : IsHeld handles l) where
     -- the counts are as they were
-    recounted : (e : Event T) (senders receivers : ℕ) → senders ≡ l.senders → receivers ≡ l.receivers → sent e Done ≡ [] → asked e Done ≡ [] → withdrawn_ticket e Done ≡ []
-        → IsIdle l e (only (record l { senders = senders; receivers = receivers }) Done)
-    recounted e senders receivers s r sends asks withdraws =
+    recounted : (e : Event T) (senders receivers : ℕ) → senders ≡ l.senders → receivers ≡ l.receivers → IsPlain e Done → IsIdle l e (only (record l { senders = senders; receivers = receivers }) Done)
+    recounted e senders receivers s r k =
         record {
           line = ap (λ k. record l { senders = k; receivers = receivers }) s ∙ ap (λ k. record l { receivers = k }) r;
           settled = refl;
           drained = refl;
           cleared = refl;
-          sends = sends;
-          asks = asks;
-          withdraws = withdraws;
-          clears = refl;
+          sends = k.0;
+          asks = k.1;
+          withdraws = k.2;
+          clears = k.3;
         }
 
-    -- where its side has no live handle
-    pub step_idle : (handles : Handles) (e : Event T) → IsHeld handles l → has_handle handles e ≡ false → IsIdle l e (step l e)
-    step_idle handles (Send m) held off = offers (Send m) m Sent (wait l (wait_send l m) (Some m)) (nobody handles.tx l.senders off held.0)
-    step_idle handles (TrySend m) held off = offers (TrySend m) m Yes (only l (No m)) (nobody handles.tx l.senders off held.0)
-    step_idle handles Recv held off = takes Recv (nothing_there l (wait l (wait_recv l) None)) (nobody handles.rx l.receivers off held.1)
-    step_idle handles RecvLate held off = takes RecvLate _ (nobody handles.rx l.receivers off held.1)
-    step_idle handles TryRecv held off = takes TryRecv (nothing_there l (only l Nothing)) (nobody handles.rx l.receivers off held.1)
-    step_idle handles Drain held off =
-        let y = nobody handles.rx l.receivers off held.1 in
-        to Drain (take_line l) (only l (Refused ByClosed None)) (rw y refl) (refused_idle Drain ByClosed None)
-    step_idle handles (Withdraw t) held off = absurd (false≢true (sym off))
-    step_idle handles CloneTx held off =
-        let z = nobody handles.tx l.senders off held.0 in
-        elim (cases_Bool (eqb l.senders last_count)) [
-          | inl x ↦ to CloneTx (step l CloneTx) (only l (Refused TooMany None)) (rw x refl) (refused_idle CloneTx TooMany None)
-          | inr x ↦ to CloneTx (step l CloneTx) (only (add_sender l) Done) (rw x refl) (recounted CloneTx (raised l.senders) l.receivers (raised-zero l.senders z ∙ sym z) refl refl refl refl)
-        ]
-    step_idle handles CloneRx held off =
-        let y = nobody handles.rx l.receivers off held.1 in
-        elim (cases_Bool (eqb l.receivers last_count)) [
-          | inl x ↦ to CloneRx (step l CloneRx) (only l (Refused TooMany None)) (rw x refl) (refused_idle CloneRx TooMany None)
-          | inr x ↦ to CloneRx (step l CloneRx) (only (add_receiver l) Done) (rw x refl) (recounted CloneRx l.senders (raised l.receivers) refl (raised-zero l.receivers y ∙ sym y) refl refl refl)
-        ]
-    step_idle handles DropTx held off =
-        let z = nobody handles.tx l.senders off held.0 in
-        elim (cases_Bool (eqb l.senders 1)) [
-          | inl x ↦ absurd (let k : l.senders ≡ 1 = eqb-true l.senders 1 x in omega (arith, z, k))
-          | inr x ↦ to DropTx (step l DropTx) (only (record l { senders = l.senders - 1 }) Done) (rw x refl) (recounted DropTx (l.senders - 1) l.receivers (still-none l.senders z ∙ sym z) refl refl refl refl)
-        ]
-    step_idle handles DropRx held off =
-        let y = nobody handles.rx l.receivers off held.1 in
-        elim (cases_Bool (eqb l.receivers 1)) [
-          | inl x ↦ absurd (let k : l.receivers ≡ 1 = eqb-true l.receivers 1 x in omega (arith, y, k))
-          | inr x ↦ to DropRx (step l DropRx) (only (record l { receivers = l.receivers - 1 }) Done) (rw x refl) (recounted DropRx l.senders (l.receivers - 1) refl (still-none l.receivers y ∙ sym y) refl refl refl)
-        ]
-    step_idle handles Seal held off =
-        let z = nobody handles.tx l.senders (neither _ _ off).0 held.0 in
-        to Seal (seal_line l) (only l (Refused CloseError None)) (rw z refl) (refused_idle Seal CloseError None)
-    step_idle handles Close held off =
-        let z = nobody handles.tx l.senders (neither _ _ off).0 held.0 in
-        let y = nobody handles.rx l.receivers (neither _ _ off).1 held.1 in
-        to Close (shut l) (only l (Refused CloseError None)) (rw (z, y) refl) (refused_idle Close CloseError None)
-    step_idle handles (Asks side ask) held off = answered-idle (Asks side ask) (answer l side ask) refl refl refl (answers-nothing l side ask)
-    step_idle handles Terminated held off = answered-idle Terminated _ refl refl refl refl
+    no-sender : has_side handles Tx ≡ false → l.senders ≡ 0
+    no-sender off = nobody handles.tx l.senders off held.0
 
-    -- an event that leaves the counts and the handles alone
-    steady : (handles : Handles) (e : Event T) → IsHeld handles l → is_plain e ≡ true → handles_after handles e (step l e).reply ≡ handles
-        → IsHeld (handles_after handles e (step l e).reply) (step l e).line
-    steady handles e held p same =
-        let k = step-steady l e p in
-        subst (λ hs. IsHeld hs (step l e).line) (sym same) (omega (arith, k.senders, held.0), omega (arith, k.receivers, held.1))
+    no-receiver : has_side handles Rx ≡ false → l.receivers ≡ 0
+    no-receiver off = nobody handles.rx l.receivers off held.1
+
+    count-idle : {e : Event T} {senders receivers : ℕ} → CountCase l e senders receivers → has_handle handles e ≡ false → IsIdle l e (only (record l { senders = senders; receivers = receivers }) Done)
+    count-idle ClonedTx off = let z = no-sender off in recounted CloneTx _ _ (rw z refl) refl (refl, refl, refl, refl)
+    count-idle ClonedRx off = let z = no-receiver off in recounted CloneRx _ _ refl (rw z refl) (refl, refl, refl, refl)
+    count-idle (DroppedTx more) off = let z = no-sender off in recounted DropTx _ _ (rw z refl) refl (refl, refl, refl, refl)
+    count-idle (DroppedRx more) off = let z = no-receiver off in recounted DropRx _ _ refl (rw z refl) (refl, refl, refl, refl)
+
+    last-left : {e : Event T} {senders receivers : ℕ} {reason : Reason} → LastCase l e senders receivers reason → has_handle handles e ≡ false → ⊥
+    last-left (LastTx one) off = let z = no-sender off in omega (arith, z, one)
+    last-left (LastRx one) off = let z = no-receiver off in omega (arith, z, one)
+
+    -- where its side has no live handle
+    case-idle : {e : Event T} {told : StepSpec T} → StepCase l e told → has_handle handles e ≡ false → IsIdle l e told
+    case-idle (Refuses e reason clear) off = plain-idle l e (Refused reason (message_of e)) (refused-plain e reason (message_of e))
+    case-idle (Replies e r c) off = plain-idle l e r (reply-plain c)
+    case-idle (Enters e m r s some_receiver some_sender place) off = absurd (some_sender (no-sender (sym (send-side handles s) ∙ off)))
+    case-idle (TakesFront e x xs r some_receiver is) off = absurd (some_receiver (no-receiver (sym (recv-side handles r) ∙ off)))
+    case-idle (SendWaits m some_receiver some_sender full) off = absurd (some_sender (no-sender off))
+    case-idle (RecvWaits some_receiver some_sender empty) off = absurd (some_receiver (no-receiver off))
+    case-idle (WithdrawsDemand t there) off = absurd (false≢true (sym off))
+    case-idle (WithdrawsEntry t m ms is) off = absurd (false≢true (sym off))
+    case-idle (Drains some_receiver) off = absurd (some_receiver (no-receiver off))
+    case-idle (Recounts e senders receivers c) off = count-idle c off
+    case-idle (EndsAll e senders receivers reason c) off = absurd (last-left c off)
+    case-idle (Seals some_sender) off = absurd (some_sender (no-sender (or_parts _ _ off).0))
+    case-idle (Closes left) off = let z = no-sender (or_parts _ _ off).0 in let y = no-receiver (or_parts _ _ off).1 in absurd (false≢true (sym left ∙ rw (z, y) refl))
+
+    -- the line counts as many as it did, and the handles are those that were
+    send-held : {e : Event T} {m : T} {r : Reply T} → SendCase e m r → IsHeld (handles_after handles e r) (enter l m).line
+    send-held (Blocking m) = rw (enter-rest l m) held
+    send-held (Trying m) = rw (enter-rest l m) held
+
+    recv-held : {e : Event T} → RecvCase e → (m : T) (line : List (LineEntry T)) → IsHeld (handles_after handles e (Got m)) (record l { line = line })
+    recv-held BlockingRecv m line = held
+    recv-held LateRecv m line = held
+    recv-held TryingRecv m line = held
+
+    reply-held : {e : Event T} {r : Reply T} → ReplyCase e r → IsHeld (handles_after handles e r) l
+    reply-held (Full m) = held
+    reply-held c = held
+
+    count-held : {e : Event T} {senders receivers : ℕ} → CountCase l e senders receivers → IsHeld (handles_after handles e Done) (record l { senders = senders; receivers = receivers })
+    count-held ClonedTx = (omega (arith, raised-most l.senders, held.0), held.1)
+    count-held ClonedRx = (held.0, omega (arith, raised-most l.receivers, held.1))
+    count-held (DroppedTx more) = (omega (arith, held.0), held.1)
+    count-held (DroppedRx more) = (held.0, omega (arith, held.1))
+
+    last-held : {e : Event T} {senders receivers : ℕ} {reason : Reason} → LastCase l e senders receivers reason → IsHeld (handles_after handles e Done) (record l { senders = senders; receivers = receivers })
+    last-held (LastTx one) = (omega arith, held.1)
+    last-held (LastRx one) = (held.0, omega arith)
 
     -- each step keeps that no side counts more than its live handles
-    pub step_held : (handles : Handles) (e : Event T) → IsHeld handles l → IsHeld (handles_after handles e (step l e).reply) (step l e).line
-    step_held handles (Send m) held = steady handles (Send m) held refl refl
-    step_held handles (TrySend m) held = steady handles (TrySend m) held refl refl
-    step_held handles Recv held = steady handles Recv held refl refl
-    step_held handles RecvLate held = steady handles RecvLate held refl refl
-    step_held handles TryRecv held = steady handles TryRecv held refl refl
-    step_held handles Drain held = steady handles Drain held refl refl
-    step_held handles (Withdraw t) held = steady handles (Withdraw t) held refl refl
-    step_held handles CloneTx held =
-        elim (cases_Bool (eqb l.senders last_count)) [
-          | inl x ↦ rw x held
-          | inr x ↦ rw x (omega (arith, raised-most l.senders, held.0), held.1)
-        ]
-    step_held handles CloneRx held =
-        elim (cases_Bool (eqb l.receivers last_count)) [
-          | inl x ↦ rw x held
-          | inr x ↦ rw x (held.0, omega (arith, raised-most l.receivers, held.1))
-        ]
-    step_held handles DropTx held =
-        elim (cases_Bool (eqb l.senders 1)) [
-          | inl x ↦ rw x (omega arith, held.1)
-          | inr x ↦ rw x (omega (arith, held.0), held.1)
-        ]
-    step_held handles DropRx held =
-        elim (cases_Bool (eqb l.receivers 1)) [
-          | inl x ↦ rw x (held.0, omega arith)
-          | inr x ↦ rw x (held.0, omega (arith, held.1))
-        ]
-    step_held handles Seal held =
-        elim (cases_Bool (eqb l.senders 0)) [
-          | inl x ↦ rw x held
-          | inr x ↦ rw x (omega arith, held.1)
-        ]
-    step_held handles Close held =
-        elim (cases_Bool (eqb l.senders 0 && eqb l.receivers 0)) [
-          | inl x ↦ rw x held
-          | inr x ↦ rw x (omega arith, omega arith)
-        ]
-    step_held handles (Asks side ask) held = steady handles (Asks side ask) held refl refl
-    step_held handles Terminated held = steady handles Terminated held refl refl
+    case-held : {e : Event T} {told : StepSpec T} → StepCase l e told → IsHeld (handles_after handles e told.reply) told.line
+    case-held (Refuses e reason clear) = subst (λ hs. IsHeld hs l) (sym (refused-handles handles e reason (message_of e))) held
+    case-held (Replies e r c) = reply-held c
+    case-held (Enters e m r s some_receiver some_sender place) = send-held s
+    case-held (TakesFront e x xs r some_receiver is) = recv-held r x.message (leave l (x ∷ []) xs).line.line
+    case-held (Recounts e senders receivers c) = count-held c
+    case-held (EndsAll e senders receivers reason c) = last-held c
+    case-held (Seals some_sender) = (omega arith, held.1)
+    case-held (Closes left) = (omega arith, omega arith)
+    case-held c = held
 
   -- through these handles the event tells what the line's step tells, but for a reply that says that there is none
   pub record IsAsStep (handles : Handles) (l : Line T) (e : Event T) (told : StepSpec T) : Type 0 where
@@ -212,13 +136,6 @@ module _ {T : Type 0} where
     pub clears : cleared_by told.reply ≡ cleared_by (step l e).reply
     pub reply : told.reply ≡ cond (has_handle handles e) (step l e).reply (Refused NoHandle (message_of e))
     pub held : IsHeld (handles_after handles e told.reply) told.line
-
-  same-handles : (handles : Handles) (e : Event T) (back : Option T) → handles_after handles e (Refused NoHandle back) ≡ handles
-  same-handles handles CloneTx back = refl
-  same-handles handles CloneRx back = refl
-  same-handles handles DropTx back = refl
-  same-handles handles DropRx back = refl
-  same-handles handles e back = refl
 
   pub as_step : (handles : Handles) (l : Line T) (e : Event T) → IsHeld handles l → IsAsStep handles l e (made handles l e)
   as_step handles l e held =
@@ -236,12 +153,12 @@ module _ {T : Type 0} where
               withdraws = refl;
               clears = refl;
               reply = rw x refl;
-              held = step_held l handles e held;
+              held = case-held l handles held (step_case l e);
             })
         | inr x ↦
             let is : made handles l e ≡ refused l NoHandle e = rw x refl in
-            let i = step_idle l handles e held x in
-            let k = refused_idle l e NoHandle (message_of e) in
+            let i = case-idle l handles held (step_case l e) x in
+            let k = plain-idle l e (Refused NoHandle (message_of e)) (refused-plain e NoHandle (message_of e)) in
             subst (IsAsStep handles l e) (sym is)
             (record {
               line = sym i.line;
@@ -253,7 +170,7 @@ module _ {T : Type 0} where
               withdraws = k.withdraws ∙ sym i.withdraws;
               clears = sym i.clears;
               reply = rw x refl;
-              held = subst (λ hs. IsHeld hs l) (sym (same-handles handles e (message_of e))) held;
+              held = subst (λ hs. IsHeld hs l) (sym (refused-handles handles e NoHandle (message_of e))) held;
             })
       ]
 

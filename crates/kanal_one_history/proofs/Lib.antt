@@ -1,3 +1,4 @@
+pub mod Common
 pub mod Telling
 pub mod Pairing
 pub mod NoMessage

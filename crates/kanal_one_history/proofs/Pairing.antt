@@ -1,15 +1,8 @@
 -- A legal history is paired.
-use Rattle.std.proofs.Common.{◌≡◌, ℕ, zero, suc, List, [], ◌∷◌, length, take, Option, sym, inl, subst}
-use Rattle.kanal_core.specs.Line.{Line}
-use Rattle.kanal_events.specs.Steps.{step}
-use Rattle.kanal_journal.specs.Runs.{opening_line}
-use Rattle.kanal_journal.specs.Paired.{PairedHistory, Paired}
-use Rattle.kanal_journal.proofs.Holding.{Holds, holds_paired}
+use Rattle.kanal_one_history.proofs.Common.{◌≡◌, ℕ, zero, suc, List, [], ◌∷◌, length, Option, sym, inl, subst, Line, step, opening_line, PairedHistory, Paired, Holds, holds_paired, Call, call_of, after, AreTold, IsLegal, with_call, with_calls, history_of}
+use Rattle.std.proofs.Common.{take}
 use Rattle.kanal_journal.proofs.Along.{holds-opening}
 use Rattle.kanal_journal.proofs.EachStep.{told-holds}
-use Rattle.kanal_state.specs.declared.call.Call.{Call}
-use Rattle.kanal_state.specs.Calls.{call_of}
-use Rattle.kanal_one_history.specs.Calls.{after, AreTold, IsLegal, with_call, with_calls, history_of}
 use Rattle.kanal_one_history.proofs.Telling.{live, live-made}
 
 module _ {T : Type 0} where

@@ -1,20 +1,7 @@
 -- What the waits of a legal history came to.
-use Rattle.std.proofs.Common.{◌≡◌, ◌≤◌, ℕ, ◌+◌, false, true, ◌==◌, ◌&&◌, List, [], ◌∷◌, ◌++◌, length, filter, Option, Some, None, refl, sym, ap, ◌∙◌, subst, inl, inr, arith, append-nil, append_assoc}
-use Rattle.std.specs.List.{list_any}
+use Rattle.kanal_one_history.proofs.Common.{◌≡◌, ◌≤◌, ℕ, ◌+◌, false, true, ◌==◌, ◌&&◌, List, [], ◌∷◌, ◌++◌, length, filter, Option, Some, None, refl, sym, ap, ◌∙◌, subst, inl, inr, arith, append-nil, append_assoc, list_any, cases_Bool, eq-eqb, Outcome, Settlement, numbered, PairedHistory, along, given, gift_of, history_from, is_ended, withdrawn_ticket, settled_times, withdrawn_times, ends-once, Call, IsIn, account_after, HasSettled, IsLegal, history_of, with_call, with_calls, EachEndsOnce, WaitsAsSettled}
 use Rattle.std.specs.Option.{option_or}
-use Rattle.std.proofs.lemmas.Bool.{cases_Bool, eq-eqb}
 use Rattle.std.proofs.lemmas.List.Folds.{list_any-append}
-use Rattle.kanal_core.specs.declared.internal.outcome.Outcome.{Outcome}
-use Rattle.kanal_journal.specs.declared.journal.report.Settlement.{Settlement}
-use Rattle.kanal_journal.specs.Runs.{numbered}
-use Rattle.kanal_journal.specs.Paired.{PairedHistory, along, given, gift_of, history_from, is_ended, withdrawn_ticket}
-use Rattle.kanal_journal.specs.Laws.{settled_times, withdrawn_times}
-use Rattle.kanal_journal.proofs.Lawful.{ends-once}
-use Rattle.kanal_state.specs.declared.call.Call.{Call}
-use Rattle.kanal_state.specs.Calls.{IsIn}
-use Rattle.kanal_one_history.specs.Accounts.{account_after}
-use Rattle.kanal_one_history.specs.Calls.{HasSettled, IsLegal, history_of, with_call, with_calls}
-use Rattle.kanal_one_history.specs.Puts.{EachEndsOnce, WaitsAsSettled}
 use Rattle.kanal_one_history.proofs.Accounts.{leads_as_told}
 
 -- what is not there is not found

@@ -1,2 +1,3 @@
+pub mod Common
 pub mod Merging
 pub mod Merged

@@ -1,14 +1,7 @@
 -- A merged journal has as many entries as the lists together, and lists of its entries that are as many are merged in it.
-use Rattle.std.proofs.Common.{◌≡◌, ℕ, zero, suc, ◌+◌, ◌<◌, ◌≤◌, Bool, true, false, cond, nat_eq, List, [], ◌∷◌, length, get_or, refl, sym, ap, ◌∙◌, arith}
+use Rattle.kanal_recorded.proofs.Common.{◌≡◌, ℕ, zero, suc, ◌+◌, ◌<◌, ◌≤◌, Bool, true, false, cond, nat_eq, List, [], ◌∷◌, length, get_or, refl, sym, ap, ◌∙◌, arith, All, AllPairs, Any, sum_by, nat_tests, length-map, All-cons, All-nil, Entry, Calls, Placed, placed, calls_of, IsOwn, NotesAmong, IsMerged}
 use Rattle.std.specs.Prelude.{◌≢◌}
-use Rattle.std.specs.List.{All, AllPairs, Any, sum_by}
-use Rattle.std.proofs.lemmas.Bool.Decides.{nat_tests}
-use Rattle.std.proofs.lemmas.List.{length-map}
 use Rattle.std.proofs.lemmas.List.Sums.{sum_by-cons}
-use Rattle.std.proofs.lemmas.List.Elements.{All-cons, All-nil}
-use Rattle.kanal_journal.specs.declared.journal.recorder.Entry.{Entry}
-use Rattle.kanal_recorded.specs.Passes.{Calls}
-use Rattle.kanal_recorded.specs.Merges.{Placed, placed, calls_of, IsOwn, NotesAmong, IsMerged}
 
 same-test : (a b : ℕ) → a ≡ b → nat_eq a b ≡ true
 same-test a b h = grind (arith, nat_tests, h)

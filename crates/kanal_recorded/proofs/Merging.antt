@@ -1,17 +1,7 @@
 -- A party's list that is read note by note, beside the journal.
-use Rattle.std.proofs.Common.{◌≡◌, ◌≢◌, ℕ, ◌+◌, ◌<◌, ◌≤◌, ◌-◌, Bool, true, false, cond, nat_eq, nat_lt, List, [], ◌∷◌, ◌++◌, length, get_or, set, replicate, take, drop, refl, sym, ap, subst, inl, inr, ◌∙◌, arith, length-take, length-drop, length-append, append-nil}
+use Rattle.kanal_recorded.proofs.Common.{◌≡◌, ◌≢◌, ℕ, ◌+◌, ◌<◌, ◌≤◌, ◌-◌, Bool, true, false, cond, nat_eq, nat_lt, List, [], ◌∷◌, ◌++◌, length, get_or, set, replicate, take, drop, refl, sym, ap, subst, inl, inr, ◌∙◌, arith, length-take, length-drop, length-append, append-nil, map, All, AllWithin, take_more, take_all, map-append, get_or_default, take-append-drop, take-append-le, get_or-replicate, get_or-take, get_or-drop, get_or-set_same, get_or-set_other, AllWithin-more, nat_tests, Entry, Calls, Placed, placed, calls_of, NotesAmong, IsNoteOf, NotesFit, HasReached, HaveReached, AreAtEnd, Reached}
 use Rattle.std.proofs.lemmas.Bool.{cases_Bool}
-use Rattle.std.specs.Prelude.{map}
-use Rattle.std.specs.List.{All, AllWithin}
-use Rattle.std.proofs.lemmas.List.{take_more, take_all, map-append, get_or_default, take-append-drop, take-append-le, get_or-replicate, get_or-take, get_or-drop, get_or-set_same, get_or-set_other}
-use Rattle.std.proofs.lemmas.List.Elements.{AllWithin-more}
-use Rattle.std.proofs.lemmas.Bool.Decides.{nat_tests}
-use Rattle.kanal_journal.specs.declared.journal.recorder.Entry.{Entry}
 use Rattle.kanal_recorded.specs.declared.pass.Note.{Note}
-use Rattle.kanal_recorded.specs.Passes.{Calls}
-use Rattle.kanal_recorded.specs.Merges.{Placed, placed, calls_of, NotesAmong, IsNoteOf}
-use Rattle.kanal_recorded.specs.Comparing.{NotesFit, HasReached, HaveReached, AreAtEnd}
-use Rattle.kanal_recorded.specs.declared.finish.Reached.{Reached}
 
 module _ {T : Type 0} where
   calls-cond : (b : Bool) (x : Placed T) (xs ys : List (Placed T)) → cond b (x ∷ (xs ++ ys)) (xs ++ ys) ≡ cond b (x ∷ xs) xs ++ ys

@@ -1,9 +1,5 @@
 -- An event's words: its name, and what stands behind it.
-use Rattle.std.proofs.Common.{◌≡◌, ◌≢◌, ℕ, List, [], ◌∷◌, ◌++◌, refl, inl, codes, decimal}
-use Rattle.kanal_events.specs.declared.event.Event.{Event}
-use Rattle.kanal_events.specs.declared.event.Event.TheVariants.{Send, TrySend, Recv, RecvLate, TryRecv, Drain, Withdraw, CloneTx, CloneRx, DropTx, DropRx, Seal, Close, Ask as Asks, Terminated}
-use Rattle.kanal_script.specs.Script.{event_words, side_word, ask_word}
-use Rattle.kanal_script.specs.Words.{IsWord, EndsWord}
+use Rattle.kanal_script.proofs.Common.{◌≡◌, ◌≢◌, ℕ, List, [], ◌∷◌, ◌++◌, refl, inl, codes, decimal, Event, Send, TrySend, Recv, RecvLate, TryRecv, Drain, Withdraw, CloneTx, CloneRx, DropTx, DropRx, Seal, Close, Asks, Terminated, event_words, side_word, ask_word, IsWord, EndsWord}
 use Rattle.kanal_script.proofs.Words.{letters}
 
 -- the event's name,

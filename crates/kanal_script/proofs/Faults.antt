@@ -1,10 +1,7 @@
 -- At status 2 a line can't be read.
-use Rattle.std.proofs.Common.{◌≡◌, ◌⊎◌, ℕ, List, Option, Some, None, IfSome, inl, inr, arith}
-use Rattle.kanal_script.specs.declared.parser.ParseError.TheVariants.{Unreadable as Unread, NoMemory as NoRoom}
+use Rattle.kanal_script.proofs.Common.{◌≡◌, ◌⊎◌, ℕ, List, Option, Some, None, IfSome, inl, inr, arith, Unread, NoRoom, IsFirstFault, fault_status, IsReadFault, IsScriptFault}
 use Rattle.kanal_script.specs.declared.program.Fault.{Fault}
 use Rattle.kanal_script.specs.declared.program.Fault.TheVariants.{Unreadable, NoMemory, Device}
-use Rattle.kanal_script.specs.Faults.{IsFirstFault}
-use Rattle.kanal_script.specs.Program.{fault_status, IsReadFault, IsScriptFault}
 
 no_read_fault : (number : ℕ) → IsReadFault (Unreadable number) → ⊥
 no_read_fault number (inl e) = cc

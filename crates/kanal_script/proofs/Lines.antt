@@ -1,10 +1,5 @@
 -- One line after another.
-use Rattle.std.proofs.Common.{◌≡◌, ℕ, ◌<◌, List, [], ◌∷◌, ◌++◌, length, ap, append_assoc, arith, inl, inr, sym, ◌∙◌, Option, refl, length-append, append-nil, subst, ◌+◌}
-use Rattle.kanal_events.specs.declared.event.Event.{Event}
-use Rattle.std.proofs.lemmas.List.{append_cancel_right}
-use Rattle.kanal_script.specs.Faults.{IsReadBefore}
-use Rattle.kanal_script.specs.Words.{EndsLine, EndsWord}
-use Rattle.kanal_script.specs.Script.{line, capacity_words, event_words, events_text, script_text, IsReadTo}
+use Rattle.kanal_script.proofs.Common.{◌≡◌, ℕ, ◌<◌, List, [], ◌∷◌, ◌++◌, length, ap, append_assoc, arith, inl, inr, sym, ◌∙◌, Option, refl, length-append, append-nil, subst, ◌+◌, Event, append_cancel_right, IsReadBefore, EndsLine, EndsWord, line, capacity_words, event_words, events_text, script_text, IsReadTo}
 
 -- one more event is one more line
 pub events_text-push : (events : List (Event ℕ)) (event : Event ℕ) → events_text (events ++ (event ∷ [])) ≡ events_text events ++ line (event_words event)

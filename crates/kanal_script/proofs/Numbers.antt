@@ -1,12 +1,7 @@
 -- Which words are numbers.
-use Rattle.std.proofs.Common.{◌≡◌, ℕ, ◌<◌, ◌^◌, List, [], ◌∷◌, decimal, Result, Ok, Err, Option, Some, IfSome, IsNone, ◌≢◌, sym, refl, inl, inr, ◌+◌, subst, arith}
+use Rattle.kanal_script.proofs.Common.{◌≡◌, ℕ, ◌<◌, ◌^◌, List, [], ◌∷◌, decimal, Result, Ok, Err, Option, Some, IfSome, IsNone, ◌≢◌, sym, refl, inl, inr, ◌+◌, subst, arith, ParsesUnsigned, AllDigits, digits_value, cases_lt, IsNumeralModel, numerals_by_value, tells_digits, parse_plain, decimal-digits_value, parse-decimal, first_decimal, decimal_digit, IsPlain}
 use Rattle.std.specs.Result.{result_ok}
-use Rattle.std.specs.Str.Parse.{ParsesUnsigned, AllDigits, digits_value}
-use Rattle.std.proofs.lemmas.Bool.{cases_lt}
 use Rattle.std.proofs.lemmas.Result.{OkIff-at_ok}
-use Rattle.std.proofs.lemmas.Str.Parse.{IsNumeralModel, numerals_by_value, tells_digits, parse_plain}
-use Rattle.std.proofs.lemmas.Fmt.{decimal-digits_value, parse-decimal, first_decimal, decimal_digit}
-use Rattle.kanal_script.specs.Script.{IsPlain}
 
 own : IsNumeralModel (AllDigits 10) (digits_value 10)
 own = numerals_by_value _ tells_digits

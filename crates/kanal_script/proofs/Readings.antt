@@ -1,15 +1,9 @@
 -- Two readings of the same bytes go along with each other, line by line.
-use Rattle.std.proofs.Common.{◌≡◌, ◌≢◌, ◌⊎◌, ℕ, ◌+◌, ◌<◌, List, [], ◌∷◌, ◌++◌, length, get_or, drop, Option, Some, None, refl, sym, ap, ◌∙◌, inl, inr, append_assoc, append-nil, codes, decimal, arith}
-use Rattle.std.proofs.lemmas.Bool.{cases_lt}
-use Rattle.kanal_events.specs.declared.event.Event.{Event}
-use Rattle.kanal_events.specs.declared.event.Event.TheVariants.{Send, TrySend, Recv, RecvLate, TryRecv, Drain, Withdraw, CloneTx, CloneRx, DropTx, DropRx, Seal, Close, Ask as Asks, Terminated}
+use Rattle.kanal_script.proofs.Common.{◌≡◌, ◌≢◌, ◌⊎◌, ℕ, ◌+◌, ◌<◌, List, [], ◌∷◌, ◌++◌, length, get_or, drop, Option, Some, None, refl, sym, ap, ◌∙◌, inl, inr, append_assoc, append-nil, codes, decimal, arith, cases_lt, Event, Send, TrySend, Withdraw, Asks, IsReadNoFurther, line, capacity_words, side_word, ask_word, event_words, events_text, script_text, IsReadTo, EventFits, EventsFit, FitsWord, IsWord}
 use Rattle.kanal_events.specs.declared.event.Side.{Side}
 use Rattle.kanal_events.specs.declared.event.Side.TheVariants.{Tx, Rx}
 use Rattle.kanal_events.specs.declared.event.Ask.{Ask}
-use Rattle.kanal_events.specs.declared.event.Ask.TheVariants.{IsBounded, Len, IsEmpty, IsFull, Capacity, ReceiverCount, SenderCount, IsClosed, IsDisconnected}
-use Rattle.kanal_script.specs.Faults.{IsReadNoFurther}
-use Rattle.kanal_script.specs.Script.{line, capacity_words, side_word, ask_word, event_words, events_text, script_text, IsReadTo}
-use Rattle.kanal_script.specs.Words.{EventFits, EventsFit, FitsWord, IsWord}
+use Rattle.kanal_events.specs.declared.event.Ask.TheVariants.{IsBounded}
 use Rattle.kanal_script.proofs.Words.{cap_word, decimal_word, letters}
 use Rattle.kanal_script.proofs.EventWords.{name_word}
 

@@ -1,13 +1,7 @@
 -- One piece of an answer after another.
-use Rattle.std.proofs.Common.{◌≡◌, ℕ, ◌<◌, ◌+◌, List, [], ◌∷◌, ◌++◌, take, drop, decimal, sym, refl, ap, ◌∙◌, append_assoc, append-nil, Option, Some, None, length, get_or, min, add-one, drop-cons, arith, subst, inl, inr}
-use Rattle.std.proofs.lemmas.List.{take_more, take_all, drop_all, take-append-drop}
-use Rattle.std.proofs.lemmas.Bool.{cases_lt}
-use Rattle.std.specs.Io.KnownBytes.{Appends, Keeps}
+use Rattle.kanal_script.proofs.Common.{◌≡◌, ℕ, ◌<◌, ◌+◌, List, [], ◌∷◌, ◌++◌, take, drop, decimal, sym, refl, ap, ◌∙◌, append_assoc, append-nil, Option, Some, None, length, get_or, min, add-one, drop-cons, arith, subst, inl, inr, take_more, take_all, drop_all, take-append-drop, cases_lt, Appends, Keeps, AppendsBeginning, line, messages_text, settlements_text, settlement_words, reply_words, counted, drained_count, cleared_count, count_settled, replies_text}
 use Rattle.kanal_events.specs.declared.event.Reply.{Reply}
 use Rattle.kanal_journal.specs.declared.journal.report.Settlement.{Settlement}
-use Rattle.kanal_script.specs.Program.{AppendsBeginning}
-use Rattle.kanal_script.specs.Script.{line}
-use Rattle.kanal_script.specs.Answer.{messages_text, settlements_text, settlement_words, reply_words, counted, drained_count, cleared_count, count_settled, replies_text}
 
 -- nothing is written
 pub appends_none : (a : Option (List ℕ)) → Appends a a []

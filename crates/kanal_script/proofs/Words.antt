@@ -1,16 +1,8 @@
 -- Cutting a line into words.
-use Rattle.std.proofs.Common.{◌≡◌, ◌≢◌, ℕ, ◌<◌, ◌+◌, ◌⊎◌, ◌^◌, zero, suc, decimal, codes, nat_lt, ◌&&◌, Option, Some, None, IsSome, IsNone, Bool, true, false, true≢false, List, [], ◌∷◌, ◌++◌, length, take, drop, get_or, refl, sym, ap, ◌∙◌, subst, inl, inr, append_assoc, append-nil, add-one, drop-cons, arith, ne_eqb}
-use Rattle.std.proofs.lemmas.List.{take_more, drop_all}
-use Rattle.std.proofs.lemmas.Bool.{ltb-true}
+use Rattle.kanal_script.proofs.Common.{◌≡◌, ◌≢◌, ℕ, ◌<◌, ◌+◌, ◌⊎◌, ◌^◌, zero, suc, decimal, codes, nat_lt, ◌&&◌, Option, Some, None, IsSome, IsNone, Bool, true, false, true≢false, List, [], ◌∷◌, ◌++◌, length, take, drop, get_or, refl, sym, ap, ◌∙◌, subst, inl, inr, append_assoc, append-nil, add-one, drop-cons, arith, ne_eqb, take_more, drop_all, ltb-true, digit_from_value, decimal_is_IsNumeral, IsAscii, IsUtf8, AllDigits, capacity_words, is_separator, word_of, after_word, IsWord, EndsWord, FitsWord, limit_word}
 use Rattle.std.specs.List.{list_all}
 use Rattle.std.proofs.lemmas.Str.{IsUtf8-from_ascii}
 use Rattle.std.proofs.lemmas.Str.Ascii.{IsAscii-nil}
-use Rattle.std.proofs.lemmas.Str.Parse.{digit_from_value}
-use Rattle.std.proofs.lemmas.Fmt.{decimal_is_IsNumeral}
-use Rattle.std.specs.Str.{IsAscii, IsUtf8}
-use Rattle.std.specs.Str.Parse.{AllDigits}
-use Rattle.kanal_script.specs.Script.{capacity_words}
-use Rattle.kanal_script.specs.Words.{is_separator, word_of, after_word, IsWord, EndsWord, FitsWord, limit_word}
 
 and_left : (a b : Bool) → a && b ≡ true → a ≡ true
 and_left true b e = refl

@@ -1,19 +1,6 @@
 -- The calls that count a handle in or out.
-use Rattle.std.proofs.Common.{◌≡◌, ℕ, ◌==◌, true, [], Result, refl, ap, ◌∙◌, subst, inl, inr}
-use Rattle.std.proofs.lemmas.Bool.{cases_Bool}
+use Rattle.kanal_state.proofs.Common.{◌≡◌, ℕ, ◌==◌, true, [], Result, refl, ap, ◌∙◌, subst, inl, inr, cases_Bool, Line, add_receiver, add_sender, last_count, Event, Side, Tx, Rx, StepResult, reply_of, StepSpec, Tells, cloned, StepAppendPost, IsReplied, counted_by, HistoryRelations, one_more}
 use Rattle.kanal_core.specs.declared.error.TooMany.{TooMany as NoMore}
-use Rattle.kanal_core.specs.Line.{Line}
-use Rattle.kanal_core.specs.Moves.{add_receiver, add_sender, last_count}
-use Rattle.kanal_events.specs.declared.event.Event.{Event}
-use Rattle.kanal_events.specs.declared.event.Side.{Side}
-use Rattle.kanal_events.specs.declared.event.Side.TheVariants.{Tx, Rx}
-use Rattle.kanal_events.specs.declared.step_result.StepResult.{StepResult}
-use Rattle.kanal_events.specs.StepResult.{reply_of}
-use Rattle.kanal_events.specs.Steps.{StepSpec, Tells, cloned}
-use Rattle.kanal_state.specs.Makes.{StepAppendPost, IsReplied}
-use Rattle.kanal_state.specs.Results.{counted_by}
-use Rattle.kanal_state.specs.HistoryRelations.{HistoryRelations}
-use Rattle.kanal_state.specs.Counts.{one_more}
 use Rattle.kanal_state.proofs.Settling.{free_replied, is_free, noted_answered}
 
 more-is-free : (T : Type 0) (side : Side) → is_free (one_more {T = T} side) ≡ true

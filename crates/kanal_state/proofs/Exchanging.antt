@@ -1,23 +1,10 @@
 -- Which messages a call put and got, by what it answered.
-use Rattle.std.proofs.Common.{◌≡◌, ℕ, true, false, cond, List, [], ◌∷◌, Option, Some, None, Bool, Result, Ok, Err, refl, sym, ap, subst, inl, inr}
+use Rattle.kanal_state.proofs.Common.{◌≡◌, ℕ, true, false, cond, List, [], ◌∷◌, Option, Some, None, Bool, Result, Ok, Err, refl, sym, ap, subst, inl, inr, option_to_list, Outcome, SendClosed as BySenders, ReceiveClosed as ByReceivers, ReceiveError, SendError, Event, Send, TrySend, Recv, RecvLate, TryRecv, Reply, Sent, Yes, No, Got, Nothing, Receives, ReceivesInTime, Sends, SendsInTime, TriesToReceive, TriesToReceiveNow, TriesToSend, TriesToSendNow, Finishes, HasWaited, IsReplied, asked_by, entered_by, received_after, received_by, sent_after, sent_by, timed_received_after, timed_received_by, timed_sent_after, timed_sent_by, HistoryRelations}
 use Rattle.std.specs.Prelude.{IfOk}
-use Rattle.std.specs.Option.{option_to_list}
-use Rattle.kanal_core.specs.declared.internal.outcome.Outcome.{Outcome}
 use Rattle.kanal_core.specs.declared.internal.outcome.Outcome.TheVariants.{Taken, Given, Ended}
-use Rattle.kanal_core.specs.declared.internal.outcome.Reason.TheVariants.{SendClosed as BySenders, ReceiveClosed as ByReceivers}
-use Rattle.kanal_core.specs.declared.error.ReceiveError.{ReceiveError}
 use Rattle.kanal_core.specs.declared.error.ReceiveErrorTimeout.{ReceiveErrorTimeout}
-use Rattle.kanal_core.specs.declared.error.SendError.{SendError}
 use Rattle.kanal_core.specs.declared.error.SendErrorTimeout.{SendErrorTimeout}
-use Rattle.kanal_events.specs.declared.event.Event.{Event}
-use Rattle.kanal_events.specs.declared.event.Event.TheVariants.{Send, TrySend, Recv, RecvLate, TryRecv}
-use Rattle.kanal_events.specs.declared.event.Reply.{Reply}
-use Rattle.kanal_events.specs.declared.event.Reply.TheVariants.{Sent, Yes, No, Got, Nothing}
 use Rattle.kanal_state.specs.Exchanges.{Replies, TellsExchanges}
-use Rattle.kanal_state.specs.Handles.{Receives, ReceivesInTime, Sends, SendsInTime, TriesToReceive, TriesToReceiveNow, TriesToSend, TriesToSendNow}
-use Rattle.kanal_state.specs.Makes.{Finishes, HasWaited, IsReplied}
-use Rattle.kanal_state.specs.Results.{asked_by, entered_by, received_after, received_by, sent_after, sent_by, timed_received_after, timed_received_by, timed_sent_after, timed_sent_by}
-use Rattle.kanal_state.specs.HistoryRelations.{HistoryRelations}
 
 module _ {T : Type 0} where
   -- which replies and outcomes read as Ok

@@ -1,25 +1,9 @@
 -- Who leaves at a step that settles nobody, at the drop of a handle of either side, and by notice.
-use Rattle.std.proofs.Common.{◌≡◌, ◌==◌, Bool, false, true, List, [], ◌∷◌, map, Option, None, Some, MatchOption, refl, sym, ap, ◌∙◌}
-use Rattle.std.specs.Option.{option_map}
+use Rattle.kanal_state.proofs.Common.{◌≡◌, ◌==◌, Bool, false, true, List, [], ◌∷◌, map, Option, None, Some, MatchOption, refl, sym, ap, ◌∙◌, option_map, Ticket, Waiter, settlement, Line, waiter_of, without, with_w, Event, Side, Tx, Rx, StepResult, settled_of, settled_of_left, StepSpec, Tells, IsDrop, count_of, one_less, Brought, TakesNode, HasLeft, left_of}
 use Rattle.kanal_core.specs.declared.internal.outcome.Settled.{Settled}
-use Rattle.kanal_core.specs.declared.internal.outcome.Ticket.{Ticket}
-use Rattle.kanal_core.specs.declared.internal.outcome.Waiter.{Waiter}
-use Rattle.kanal_core.specs.Channel.{settlement}
-use Rattle.kanal_core.specs.Line.{Line}
-use Rattle.kanal_core.specs.Waiters.{waiter_of, without, with_w}
-use Rattle.kanal_events.specs.declared.event.Event.{Event}
-use Rattle.kanal_events.specs.declared.event.Side.{Side}
-use Rattle.kanal_events.specs.declared.event.Side.TheVariants.{Tx, Rx}
 use Rattle.kanal_events.specs.declared.step_result.Leaving.{Leaving}
 use Rattle.kanal_events.specs.declared.step_result.Leaving.TheVariants.{One, All, Shut, Drained}
-use Rattle.kanal_events.specs.declared.step_result.StepResult.{StepResult}
 use Rattle.kanal_events.specs.Leaving.{Leave, gone_of, gone_of_left}
-use Rattle.kanal_events.specs.StepResult.{settled_of, settled_of_left}
-use Rattle.kanal_events.specs.Steps.{StepSpec, Tells}
-use Rattle.kanal_state.specs.Calls.{IsDrop}
-use Rattle.kanal_state.specs.Counts.{count_of, one_less}
-use Rattle.kanal_state.specs.Renewing.{Brought, TakesNode}
-use Rattle.kanal_state.specs.WaiterHandles.{HasLeft, left_of}
 use Rattle.kanal_state.proofs.Noting.{quiet_rx, quiet_tx}
 use Rattle.kanal_state.proofs.Renewing.{waiter-with, with-own, without-with}
 

@@ -1,20 +1,6 @@
 -- What is kept of a call that was noted.
-use Rattle.std.proofs.Common.{◌≡◌, ◌==◌, ◌-◌, Bool, List, [], ◌∷◌, Option, Some, None, cond, true, false, refl, ap, sym, subst, ◌∙◌, inl, inr}
-use Rattle.std.proofs.lemmas.Bool.{cases_Bool}
-use Rattle.kanal_core.specs.declared.internal.outcome.Reason.TheVariants.{SendClosed as BySenders, ReceiveClosed as ByReceivers}
-use Rattle.kanal_core.specs.Line.{LineEntry, Line, has_place, last_word}
-use Rattle.kanal_core.specs.Moves.{end_all, enter, none_settled, wait_recv, wait_send}
-use Rattle.kanal_events.specs.declared.event.Event.{Event}
-use Rattle.kanal_events.specs.declared.event.Event.TheVariants.{Send, TrySend, Recv, RecvLate, TryRecv, Drain, Withdraw, CloneTx, CloneRx, DropTx, DropRx, Seal, Close, Ask, Terminated}
-use Rattle.kanal_events.specs.declared.event.Reply.{Reply}
-use Rattle.kanal_events.specs.declared.event.Reply.TheVariants.{Sent, Yes, Got, Nothing, Refused, Waits}
-use Rattle.kanal_events.specs.declared.event.Refusal.TheVariants.{Closed, ReceiveClosed, Sealed, SendClosed, TooMany}
-use Rattle.kanal_events.specs.declared.step_result.StepResult.{StepResult}
-use Rattle.kanal_events.specs.Steps.{StepSpec, step, Tells, is_no_memory, moving, nothing_there, only, take_front, wait}
-use Rattle.kanal_events.specs.StepResult.{entered, got, told_of}
-use Rattle.kanal_state.specs.Calls.{IsDrop, MovesNoMessage, IsToldOn, call_of, line_by}
-use Rattle.kanal_state.specs.declared.call.Call.{Call}
-use Rattle.kanal_state.specs.Entries.{call_from, replied, told_by}
+use Rattle.kanal_state.proofs.Common.{◌≡◌, ◌==◌, ◌-◌, Bool, List, [], ◌∷◌, Option, Some, None, cond, true, false, refl, ap, sym, subst, ◌∙◌, inl, inr, cases_Bool, SendClosed as BySenders, ReceiveClosed as ByReceivers, LineEntry, Line, has_place, last_word, end_all, enter, none_settled, wait_recv, wait_send, Event, Send, TrySend, Recv, RecvLate, TryRecv, Drain, Withdraw, CloneTx, CloneRx, DropTx, DropRx, Seal, Close, Asks as Ask, Terminated, Reply, Sent, Yes, Got, Nothing, Refused, Waits, Closed, Sealed, TooMany, StepResult, StepSpec, step, Tells, is_no_memory, moving, nothing_there, only, take_front, wait, entered, got, told_of, IsDrop, MovesNoMessage, IsToldOn, call_of, line_by, Call, call_from, replied, told_by}
+use Rattle.kanal_events.specs.declared.event.Refusal.TheVariants.{ReceiveClosed, SendClosed}
 use Rattle.kanal_state.proofs.Telling.{tells_step, tells_refused}
 
 module _ {T : Type 0} where

@@ -1,15 +1,7 @@
 -- What a waiter brings is no part of the line, and no part of who leaves it.
-use Rattle.std.proofs.Common.{◌≡◌, Bool, false, List, [], ◌∷◌, map, ◌++◌, Option, Some, None, MatchOption, refl, ap, subst, ◌∙◌, inl, inr}
-use Rattle.std.proofs.lemmas.Bool.{cases_Bool}
+use Rattle.kanal_state.proofs.Common.{◌≡◌, Bool, false, List, [], ◌∷◌, map, ◌++◌, Option, Some, None, MatchOption, refl, ap, subst, ◌∙◌, inl, inr, cases_Bool, option_map, Ticket, Waiter, ChannelView, line_of, entry_of, demand_of, bare, same_ticket, waiter_of, with_w, without, Brought, Renews, Swaps, TakesNode}
 use Rattle.std.specs.List.{filter_map}
-use Rattle.std.specs.Option.{option_map}
 use Rattle.futures.specs.declared.task.waker.Waker.{Waker}
-use Rattle.kanal_core.specs.declared.internal.outcome.Ticket.{Ticket}
-use Rattle.kanal_core.specs.declared.internal.outcome.Waiter.{Waiter}
-use Rattle.kanal_core.specs.Channel.{ChannelView, line_of, entry_of, demand_of}
-use Rattle.kanal_core.specs.Line.{bare}
-use Rattle.kanal_core.specs.Waiters.{same_ticket, waiter_of, with_w, without}
-use Rattle.kanal_state.specs.Renewing.{Brought, Renews, Swaps, TakesNode}
 
 module _ {T W : Type 0} where
   -- what is read of waiters without their W is read alike where one has another W

@@ -1,29 +1,9 @@
 -- What passes tell of a call that was noted, of one that waited, and of one that was made where the pass had looked.
-use Rattle.std.proofs.Common.{◌≡◌, ℕ, Bool, true, false, true≢false, Some, List, [], ◌∷◌, Result, Ok, Err, IfErr, IsErrAnd, refl, ap, sym, ◌∙◌, inl, inr, subst}
-use Rattle.std.proofs.lemmas.Bool.{cases_Bool}
-use Rattle.kanal_core.specs.declared.internal.outcome.Outcome.{Outcome}
-use Rattle.kanal_core.specs.declared.error.ReceiveError.{ReceiveError}
+use Rattle.kanal_state.proofs.Common.{◌≡◌, ℕ, Bool, true, false, true≢false, Some, List, [], ◌∷◌, Result, Ok, Err, IfErr, IsErrAnd, refl, ap, sym, ◌∙◌, inl, inr, subst, cases_Bool, Outcome, ReceiveError, SendError, Event, Send, TrySend, Recv, RecvLate, TryRecv, Drain, Withdraw, CloneTx, CloneRx, DropTx, DropRx, Seal, Close, Asks, Terminated, Reply, Got, Sent, Waits, Yes, is_no_memory, no_memory, IsWait, Call, StepResult, Line, IsIn, IsTold, settled_of, reply_of, MayLack, call_from, replied, HistoryRelations, AreSound, HaveSettled, HaveShown, TriesToReceive, TriesToSend, Lacks, IsReplied, HasWaited, AppendPost, StepAppendPost, IsAnswered, HasReplied, Finishes, Comes, SeesWait, received_after, received_by, sent_after, sent_by}
 use Rattle.kanal_core.specs.declared.error.ReceiveError.TheVariants.{NoMemory as ReceiveNoMemory}
-use Rattle.kanal_core.specs.declared.error.SendError.{SendError}
 use Rattle.kanal_core.specs.declared.error.SendError.TheVariants.{NoMemory as SendNoMemory}
-use Rattle.kanal_events.specs.declared.event.Event.{Event}
-use Rattle.kanal_events.specs.declared.event.Event.TheVariants.{Send, TrySend, Recv, RecvLate, TryRecv, Drain, Withdraw, CloneTx, CloneRx, DropTx, DropRx, Seal, Close, Ask as Asks, Terminated}
-use Rattle.kanal_events.specs.declared.event.Reply.{Reply}
-use Rattle.kanal_events.specs.declared.event.Reply.TheVariants.{Got, Sent, Waits, Yes}
-use Rattle.kanal_events.specs.Steps.{is_no_memory, no_memory}
-use Rattle.kanal_events.specs.Steps.{IsWait}
-use Rattle.kanal_state.specs.declared.call.Call.{Call}
-use Rattle.kanal_events.specs.declared.step_result.StepResult.{StepResult}
-use Rattle.kanal_core.specs.Line.{Line}
-use Rattle.kanal_state.specs.Calls.{IsIn, IsTold}
-use Rattle.kanal_events.specs.StepResult.{settled_of, reply_of}
-use Rattle.kanal_state.specs.Entries.{MayLack, call_from, replied}
-use Rattle.kanal_state.specs.HistoryRelations.{HistoryRelations, AreSound, HaveSettled, HaveShown}
-use Rattle.kanal_state.specs.Handles.{TriesToReceive, TriesToSend}
-use Rattle.kanal_state.specs.Makes.{Lacks, IsReplied, HasWaited, AppendPost, StepAppendPost, IsAnswered, HasReplied, Finishes, Comes, SeesWait}
 use Rattle.kanal_state.specs.Waits.{IsWaiting}
 use Rattle.kanal_state.specs.declared.counted.CountedWait.{CountedWait}
-use Rattle.kanal_state.specs.Results.{received_after, received_by, sent_after, sent_by}
 
 module _ {T S : Type 0} where
   -- what shows as much shows all

@@ -1,9 +1,5 @@
-use Rattle.std.proofs.Common.{◌≡◌, ◌++◌, map, inl, subst, sym}
-use Rattle.kanal_core.specs.Channel.{line_of, settlement}
-use Rattle.kanal_core.specs.Line.{messages}
-use Rattle.kanal_events.specs.declared.event.Event.TheVariants.{Drain}
+use Rattle.kanal_events.proofs.Common.{◌≡◌, ◌++◌, map, inl, subst, sym, line_of, settlement, messages, Drain, Tells}
 use Rattle.kanal_events.specs.StepResult.{told_of}
-use Rattle.kanal_events.specs.Steps.{Tells}
 use Rattle.kanal_events.proofs.Draining.{drain_told}
 use Rattle.kanal_events.proofs.Giving.{none-drained}
 use Rattle.kanal_events.proofs.steps.drain.Goals as goal

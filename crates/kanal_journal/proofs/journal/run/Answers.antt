@@ -1,9 +1,6 @@
-use Rattle.std.proofs.Common.{◌≡◌, ◌<◌, [], ◌∷◌, length, sym, ap, subst, refl, ℕ, ◌∙◌, arith, rules, length-append}
+use Rattle.kanal_journal.proofs.Common.{◌≡◌, ◌<◌, [], ◌∷◌, length, sym, ap, subst, refl, ℕ, ◌∙◌, arith, rules, length-append, map-id, line_of, IsWithinEvents, account_of}
 use Rattle.std.proofs.lemmas.Iterator.Consumers.{YieldsList-end, YieldsList-turn}
 use Rattle.std.proofs.lemmas.Iterator.Adapters.{YieldsList-from_vec}
-use mathlib.Core.List.{map-id}
-use Rattle.kanal_core.specs.Channel.{line_of}
-use Rattle.kanal_journal.specs.Running.{IsWithinEvents, account_of}
 use Rattle.kanal_journal.proofs.Headline.{runs-paired, runs-left, runs-whole}
 use Rattle.kanal_journal.proofs.Leading.{Leads-last}
 use Rattle.kanal_journal.proofs.Noting.{opened-told, same-told, same-within}

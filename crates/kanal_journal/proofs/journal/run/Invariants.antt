@@ -1,6 +1,4 @@
-use Rattle.std.proofs.Common.{◌≡◌, length, vec_len, vec_capacity}
-use Rattle.kanal_journal.specs.Runs.{Leads, opening_account}
-use Rattle.kanal_journal.specs.Running.{IsWithinEvents, HasRoom, account_of}
+use Rattle.kanal_journal.proofs.Common.{◌≡◌, length, vec_len, vec_capacity, Leads, opening_account, IsWithinEvents, HasRoom, account_of}
 use Rattle.kanal_journal.proofs.journal.run.Given as goal
 
 -- the events so far lead to what was told so far, and there is room for what may still come

@@ -1,7 +1,4 @@
-use Rattle.std.proofs.Common.{rules, sym, subst, ◌∙◌, slice_index_or}
-use Rattle.std.proofs.lemmas.List.{get_or_default}
-use Rattle.kanal_recorded.specs.declared.finish.Reached.{Reached}
-use Rattle.kanal_recorded.specs.Comparing.{HasReached}
+use Rattle.kanal_recorded.proofs.Common.{rules, sym, subst, ◌∙◌, slice_index_or, get_or_default, Reached, HasReached}
 use Rattle.kanal_recorded.proofs.Merging.{further_reached}
 use Rattle.kanal_recorded.proofs.finish.are_alike_before.Goals as goal
 

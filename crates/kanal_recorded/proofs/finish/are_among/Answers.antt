@@ -1,6 +1,4 @@
-use Rattle.std.proofs.Common.{rules}
-use Rattle.std.proofs.lemmas.List.Elements.{AllWithin-upto, All-from_all_within}
-use Rattle.kanal_recorded.specs.Merges.{NotesAmong}
+use Rattle.kanal_recorded.proofs.Common.{rules, AllWithin-upto, All-from_all_within, NotesAmong}
 use Rattle.kanal_recorded.proofs.Merging.{group_reached}
 use Rattle.kanal_recorded.proofs.finish.are_among.Goals as goal
 

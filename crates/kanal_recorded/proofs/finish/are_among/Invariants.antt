@@ -1,6 +1,4 @@
-use Rattle.std.proofs.Common.{length, ◌-◌, ◌≤◌}
-use Rattle.std.specs.List.{AllWithin}
-use Rattle.kanal_recorded.specs.Merges.{NotesAmong}
+use Rattle.kanal_recorded.proofs.Common.{length, ◌-◌, ◌≤◌, AllWithin, NotesAmong}
 use Rattle.kanal_recorded.proofs.finish.are_among.Given as goal
 
 -- the lists of the passes before this one are of entries of their parties

@@ -1,5 +1,4 @@
-use Rattle.std.proofs.Common.{◌≡◌, ◌+◌, length, take}
-use Rattle.std.specs.List.{sum_by}
+use Rattle.kanal_recorded.proofs.Common.{◌≡◌, ◌+◌, length, take, sum_by}
 use Rattle.kanal_recorded.proofs.finish.are_as_many.Given as goal
 
 abbrev pub invariant-loop-pass : goal.invariant-loop-pass

@@ -1,5 +1,4 @@
-use Rattle.std.proofs.Common.{rules}
-use Rattle.kanal_recorded.specs.declared.finish.Reached.{Reached}
+use Rattle.kanal_recorded.proofs.Common.{rules, Reached}
 use Rattle.kanal_recorded.proofs.Merging.{one_more_at_end}
 use Rattle.kanal_recorded.proofs.finish.are_at_end.Goals as goal
 

@@ -1,5 +1,4 @@
-use Rattle.std.proofs.Common.{rules, ◌≡◌, length, get_or, subst}
-use Rattle.kanal_recorded.specs.Comparing.{HasReached}
+use Rattle.kanal_recorded.proofs.Common.{rules, ◌≡◌, length, get_or, subst, HasReached}
 use Rattle.kanal_recorded.proofs.Merging.{one_more_reached}
 use Rattle.kanal_recorded.proofs.finish.compared_before.Goals as goal
 

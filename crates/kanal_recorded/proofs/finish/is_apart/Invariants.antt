@@ -1,5 +1,4 @@
-use Rattle.std.proofs.Common.{◌≢◌, ◌<◌, ℕ, slice_index_or}
-use Rattle.kanal_recorded.specs.Passes.{Calls}
+use Rattle.kanal_recorded.proofs.Common.{◌≢◌, ◌<◌, ℕ, slice_index_or, Calls}
 use Rattle.kanal_recorded.proofs.finish.is_apart.Given as goal
 
 -- no pass so far has the later one's party

@@ -1,5 +1,4 @@
-use Rattle.std.proofs.Common.{length, ◌-◌}
-use Rattle.kanal_recorded.specs.Comparing.{HaveReached}
+use Rattle.kanal_recorded.proofs.Common.{length, ◌-◌, HaveReached}
 use Rattle.kanal_recorded.proofs.finish.is_group_among.Given as goal
 
 -- each pass has come as far as is kept

@@ -1,5 +1,4 @@
-use Rattle.std.proofs.Common.{ℕ, subst, sym, refl, List}
-use Rattle.kanal_script.specs.Script.{IsPlain}
+use Rattle.kanal_script.proofs.Common.{ℕ, subst, sym, refl, List, IsPlain}
 use Rattle.kanal_script.proofs.Numbers.{plain_read, unread, plain-decimal}
 use Rattle.kanal_script.proofs.parser.number.Goals as goal
 

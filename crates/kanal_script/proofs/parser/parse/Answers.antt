@@ -1,8 +1,4 @@
-use Rattle.std.proofs.Common.{◌≡◌, ◌<◌, ap, arith, inl, length, refl, rules, subst, sym, ◌∙◌}
-use Rattle.kanal_script.specs.declared.parser.ParseError.TheVariants.{Unreadable}
-use Rattle.kanal_script.specs.Faults.{IsFirstFault}
-use Rattle.kanal_script.specs.Script.{line, capacity_words, IsReadTo}
-use Rattle.kanal_script.specs.Words.{EventsFit}
+use Rattle.kanal_script.proofs.Common.{◌≡◌, ◌<◌, ap, arith, inl, length, refl, rules, subst, sym, ◌∙◌, Unread as Unreadable, IsFirstFault, line, capacity_words, IsReadTo, EventsFit}
 use Rattle.kanal_script.proofs.Readings.{begins_not, fit_more, goes_no_further}
 use Rattle.kanal_script.proofs.Lines.{event_more, number_more, read_before}
 use Rattle.kanal_script.proofs.parser.parse.Goals as goal

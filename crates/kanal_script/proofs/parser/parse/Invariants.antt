@@ -1,6 +1,4 @@
-use Rattle.std.proofs.Common.{◌≡◌, ◌+◌, ◌<◌, length}
-use Rattle.kanal_script.specs.Script.{IsReadTo, script_text}
-use Rattle.kanal_script.specs.Words.{EventsFit, FitsWord}
+use Rattle.kanal_script.proofs.Common.{◌≡◌, ◌+◌, ◌<◌, length, IsReadTo, script_text, EventsFit, FitsWord}
 use Rattle.kanal_script.proofs.parser.parse.Given as goal
 
 -- what is read so far is a script, its lines are counted, and its numbers fit

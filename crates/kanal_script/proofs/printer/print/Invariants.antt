@@ -1,5 +1,4 @@
-use Rattle.std.proofs.Common.{drop}
-use Rattle.kanal_script.specs.Answer.{replies_text, report_text}
+use Rattle.kanal_script.proofs.Common.{drop, replies_text, report_text}
 use Rattle.kanal_script.proofs.Texts.{IsPrintedTo}
 use Rattle.kanal_script.proofs.printer.print.Given as goal
 

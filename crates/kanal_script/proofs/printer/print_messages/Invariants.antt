@@ -1,6 +1,4 @@
-use Rattle.std.proofs.Common.{take}
-use Rattle.std.specs.Io.KnownBytes.{Appends}
-use Rattle.kanal_script.specs.Answer.{messages_text}
+use Rattle.kanal_script.proofs.Common.{take, Appends, messages_text}
 use Rattle.kanal_script.proofs.printer.print_messages.Given as goal
 
 -- the messages so far are written

@@ -1,6 +1,4 @@
-use Rattle.std.proofs.Common.{take}
-use Rattle.std.specs.Io.KnownBytes.{Appends}
-use Rattle.kanal_script.specs.Answer.{settlements_text}
+use Rattle.kanal_script.proofs.Common.{take, Appends, settlements_text}
 use Rattle.kanal_script.proofs.printer.print_settlements.Given as goal
 
 -- the settlements so far are written

@@ -1,5 +1,4 @@
-use Rattle.std.proofs.Common.{[], refl, sym, ap, subst, ◌∙◌, arith, take}
-use Rattle.std.specs.Io.KnownBytes.{Appends, WriteAppends}
+use Rattle.kanal_script.proofs.Common.{[], refl, sym, ap, subst, ◌∙◌, arith, take, Appends, WriteAppends}
 use Rattle.kanal_script.proofs.Texts.{IsPrintedTo, appends_none, begun, done, kept_none, piece_more, piece_none}
 use Rattle.kanal_script.proofs.program.write_pieces.Goals as goal
 use Rattle.kanal_script.proofs.program.write_pieces.Goals.{in-Ok, in-Err}

@@ -1,5 +1,4 @@
-use Rattle.std.proofs.Common.{rules, ◌∷◌, Some, sym, ap, ◌∙◌}
-use Rattle.atomic_table.specs.Table.{rest, turned}
+use Rattle.kanal_cell.proofs.Common.{rules, ◌∷◌, Some, sym, ap, ◌∙◌, rest, turned}
 use Rattle.kanal_cell.specs.declared.signal.rule.Held.TheVariants.{Outcome}
 use Rattle.kanal_cell.proofs.CellWord.{set_of}
 use Rattle.kanal_cell.proofs.CellKeeps.{settles, took_outcome, back_plain, back_turned}

@@ -1,5 +1,4 @@
-use Rattle.std.proofs.Common.{rules}
-use Rattle.kanal_cell.specs.declared.signal.rule.Held.TheVariants.{Sleeper}
+use Rattle.kanal_cell.proofs.Common.{rules, Sleeper}
 use Rattle.kanal_cell.proofs.CellWord.{ended_of}
 use Rattle.kanal_cell.proofs.CellKeeps.{falls_asleep, took_outcome}
 use Rattle.kanal_cell.proofs.signal.WaitEnd.register.Goals as goal

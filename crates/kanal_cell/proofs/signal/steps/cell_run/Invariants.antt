@@ -1,7 +1,4 @@
-use Rattle.std.proofs.Common.{◌≡◌, length, ℕ, ◌<◌, Some}
-use Rattle.std.specs.Prelude.{slice_get}
-use Rattle.kanal_cell.specs.declared.signal.steps.CellStep.{CellStep}
-use Rattle.kanal_cell.specs.CellHistory.{told_at}
+use Rattle.kanal_cell.proofs.Common.{◌≡◌, length, ℕ, ◌<◌, Some, slice_get, CellStep, told_at}
 use Rattle.kanal_cell.proofs.CellPlaces.{StateAt}
 use Rattle.kanal_cell.proofs.signal.steps.cell_run.Given as goal
 

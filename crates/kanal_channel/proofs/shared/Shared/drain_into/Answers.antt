@@ -1,6 +1,5 @@
-use Rattle.kanal_events.specs.declared.event.Event.TheVariants.{Drain}
+use Rattle.kanal_channel.proofs.Common.{Drain, noted_settled}
 use Rattle.kanal_channel.proofs.Draining.{noted_drains}
-use Rattle.kanal_state.proofs.Settling.{noted_settled}
 use Rattle.kanal_channel.proofs.shared.Shared.drain_into.Goals as goal
 
 pub unlock_and_wake-requires : goal.unlock_and_wake-requires

@@ -1,7 +1,4 @@
-use Rattle.std.proofs.Common.{◌∙◌, subst}
-use Rattle.kanal_events.specs.StepResult.{settled_of}
-use Rattle.kanal_state.specs.HistoryRelations.{HaveShown}
-use Rattle.kanal_state.proofs.Settling.{shown_again}
+use Rattle.kanal_channel.proofs.Common.{◌∙◌, subst, settled_of, HaveShown, shown_again}
 use Rattle.kanal_channel.proofs.shared.Shared.hand_out.Goals as goal
 
 pub loop-owed-preserved : goal.loop-owed-preserved

@@ -1,6 +1,4 @@
-use Rattle.std.proofs.Common.{◌≡◌, length}
-use Rattle.kanal_events.specs.StepResult.{reply_of, settled_of}
-use Rattle.kanal_state.specs.HistoryRelations.{HaveShown}
+use Rattle.kanal_channel.proofs.Common.{◌≡◌, length, reply_of, settled_of, HaveShown}
 use Rattle.kanal_channel.proofs.shared.Shared.hand_out.Given as goal
 
 -- what was seen shows what is left

@@ -1,8 +1,5 @@
-use Rattle.std.proofs.Common.{sym, subst, ◌∙◌}
-use Rattle.kanal_events.specs.declared.event.Event.TheVariants.{TrySend}
-use Rattle.kanal_state.specs.Makes.{IsAnswered}
+use Rattle.kanal_channel.proofs.Common.{sym, subst, ◌∙◌, TrySend, IsAnswered, noted_answered, noted_settled}
 use Rattle.kanal_channel.proofs.Backs.{refused_stays}
-use Rattle.kanal_state.proofs.Settling.{noted_answered, noted_settled}
 use Rattle.kanal_channel.proofs.shared.Shared.offer_now.Goals as goal
 
 pub unlock_tried-requires : goal.unlock_tried-requires

@@ -1,6 +1,4 @@
-use Rattle.std.proofs.Common.{Ok}
-use Rattle.kanal_state.proofs.Exchanging.{receives_got}
-use Rattle.kanal_state.proofs.Settling.{received_at_once, received_from}
+use Rattle.kanal_channel.proofs.Common.{Ok, receives_got, received_at_once, received_from}
 use Rattle.kanal_channel.proofs.shared.Shared.recv.Goals as goal
 
 pub returns-in-Some : goal.returns-in-Some

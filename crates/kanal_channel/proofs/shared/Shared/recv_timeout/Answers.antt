@@ -1,9 +1,5 @@
-use Rattle.std.proofs.Common.{◌<◌, ◌^◌, refl, inl, subst}
-use Rattle.kanal_events.specs.declared.event.Event.TheVariants.{Recv}
+use Rattle.kanal_channel.proofs.Common.{◌<◌, ◌^◌, refl, inl, subst, Recv, ReceivesBy, ReceivesInTime, receives_in_time_got, receive_in_time}
 use Rattle.std.specs.Duration.{as_nanos}
-use Rattle.kanal_state.specs.Handles.{ReceivesBy, ReceivesInTime}
-use Rattle.kanal_state.proofs.Exchanging.{receives_in_time_got}
-use Rattle.kanal_state.specs.Results.{receive_in_time}
 use Rattle.kanal_channel.proofs.Ending.{finishes_by}
 use Rattle.kanal_channel.proofs.shared.Shared.recv_timeout.Goals as goal
 

@@ -1,8 +1,5 @@
-use Rattle.std.proofs.Common.{Err, refl}
+use Rattle.kanal_channel.proofs.Common.{Err, refl, Recv, received_after, received_by, finishes_replied}
 use Rattle.kanal_core.specs.declared.error.ReceiveError.TheVariants.{NoMemory}
-use Rattle.kanal_events.specs.declared.event.Event.TheVariants.{Recv}
-use Rattle.kanal_state.specs.Results.{received_after, received_by}
-use Rattle.kanal_state.proofs.Settling.{finishes_replied}
 use Rattle.kanal_channel.proofs.shared.Shared.recv_waiting.Goals as goal
 
 pub returns-in-Replied : goal.returns-in-Replied

@@ -1,6 +1,4 @@
-use Rattle.std.proofs.Common.{Ok}
-use Rattle.kanal_state.proofs.Exchanging.{sends_put}
-use Rattle.kanal_state.proofs.Settling.{sent_at_once, sent_from}
+use Rattle.kanal_channel.proofs.Common.{Ok, sends_put, sent_at_once, sent_from}
 use Rattle.kanal_channel.proofs.shared.Shared.send.Goals as goal
 
 pub returns-in-Ok : goal.returns-in-Ok

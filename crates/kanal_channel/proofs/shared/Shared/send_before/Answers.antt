@@ -1,7 +1,4 @@
-use Rattle.std.proofs.Common.{◌<◌, ◌^◌, refl, inl, subst}
-use Rattle.kanal_events.specs.declared.event.Event.TheVariants.{Send}
-use Rattle.kanal_state.specs.Results.{send_in_time}
-use Rattle.kanal_state.specs.Timed.{FinishesBy}
+use Rattle.kanal_channel.proofs.Common.{◌<◌, ◌^◌, refl, inl, subst, Send, send_in_time, FinishesBy}
 use Rattle.kanal_channel.proofs.Ending.{finishes_by}
 use Rattle.kanal_channel.proofs.shared.Shared.send_before.Goals as goal
 

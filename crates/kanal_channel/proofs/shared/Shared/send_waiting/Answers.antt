@@ -1,8 +1,5 @@
-use Rattle.std.proofs.Common.{Err, refl}
+use Rattle.kanal_channel.proofs.Common.{Err, refl, Send, sent_after, sent_by, finishes_replied}
 use Rattle.kanal_core.specs.declared.error.SendError.TheVariants.{NoMemory}
-use Rattle.kanal_events.specs.declared.event.Event.TheVariants.{Send}
-use Rattle.kanal_state.specs.Results.{sent_after, sent_by}
-use Rattle.kanal_state.proofs.Settling.{finishes_replied}
 use Rattle.kanal_channel.proofs.shared.Shared.send_waiting.Goals as goal
 
 pub returns-in-Replied : goal.returns-in-Replied

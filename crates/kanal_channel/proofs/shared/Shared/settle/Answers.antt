@@ -1,5 +1,4 @@
-use Rattle.kanal_events.specs.StepResult.{settled_of}
-use Rattle.kanal_state.proofs.Settling.{all_shown}
+use Rattle.kanal_channel.proofs.Common.{settled_of, all_shown}
 use Rattle.kanal_channel.proofs.shared.Shared.settle.Goals as goal
 
 pub hand_out-reply-requires : goal.hand_out-reply-requires

@@ -1,5 +1,4 @@
-use Rattle.kanal_events.specs.StepResult.{made_of}
-use Rattle.kanal_state.proofs.Settling.{noted_replied, noted_settled, refused_replied}
+use Rattle.kanal_channel.proofs.Common.{made_of, noted_replied, noted_settled, refused_replied}
 use Rattle.kanal_channel.proofs.shared.Shared.start.Goals as goal
 
 pub unlock_answered-requires : goal.unlock_answered-requires

@@ -1,5 +1,4 @@
-use Rattle.kanal_events.specs.declared.event.Event.TheVariants.{TryRecv}
-use Rattle.kanal_state.proofs.Settling.{noted_settled}
+use Rattle.kanal_channel.proofs.Common.{TryRecv, noted_settled}
 use Rattle.kanal_channel.proofs.shared.Shared.try_recv_realtime.Goals as goal
 
 pub unlock_tried-requires : goal.unlock_tried-requires

@@ -1,5 +1,4 @@
-use Rattle.std.proofs.Common.{refl, sym, arith, inl}
-use Rattle.kanal_core.specs.declared.internal.outcome.Reason.TheVariants.{Closed}
+use Rattle.kanal_core.proofs.Common.{refl, sym, arith, inl, Closed}
 use Rattle.kanal_core.proofs.Draining.{none-within}
 use Rattle.kanal_core.proofs.Sided.{cleared-line, ends-line}
 use Rattle.kanal_core.proofs.internal.ChannelInternal.close.Goals as goal

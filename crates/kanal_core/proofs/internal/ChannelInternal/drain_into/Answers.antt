@@ -1,5 +1,4 @@
-use Rattle.std.proofs.Common.{rules, ◌≡◌, ◌++◌, length, map, refl, append_assoc, arith}
-use Rattle.kanal_core.specs.Line.{bare}
+use Rattle.kanal_core.proofs.Common.{rules, ◌≡◌, ◌++◌, length, map, refl, append_assoc, arith, bare}
 use Rattle.kanal_core.proofs.Sides.{entries}
 use Rattle.kanal_core.proofs.Draining.{drains, line-long, line-messages, none-within, rises-drained, side-drained}
 use Rattle.kanal_core.proofs.internal.ChannelInternal.drain_into.Goals as goal

@@ -1,5 +1,4 @@
-use Rattle.std.proofs.Common.{rules}
-use Rattle.kanal_core.specs.declared.internal.outcome.Reason.TheVariants.{SendClosed}
+use Rattle.kanal_core.proofs.Common.{rules, SendClosed}
 use Rattle.kanal_core.proofs.Dropping.{ends-all}
 use Rattle.kanal_core.proofs.internal.ChannelInternal.drop_sender.Goals as goal
 

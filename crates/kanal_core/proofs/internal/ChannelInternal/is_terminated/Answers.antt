@@ -1,7 +1,4 @@
-use Rattle.std.proofs.Common.{◌≡◌, ◌==◌, true, not, length, sym, ap, ◌∙◌}
-use Rattle.std.proofs.lemmas.Bool.{false≢true}
-use Rattle.kanal_core.specs.Line.{buffered}
-use Rattle.kanal_core.specs.Channel.{line_of}
+use Rattle.kanal_core.proofs.Common.{◌≡◌, ◌==◌, true, not, length, sym, ap, ◌∙◌, false≢true, buffered, line_of}
 use Rattle.kanal_core.proofs.Sealing.{nothing-left}
 use Rattle.kanal_core.proofs.Sided.{len-line}
 use Rattle.kanal_core.proofs.internal.ChannelInternal.is_terminated.Goals.{then-send_side_gone, else-send_side_gone}

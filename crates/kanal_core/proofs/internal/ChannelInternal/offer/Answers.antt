@@ -1,10 +1,7 @@
-use Rattle.std.proofs.Common.{◌≡◌, false, length, refl, sym, ap, ◌∙◌, subst, arith}
-use Rattle.std.proofs.lemmas.Bool.{false≢true}
+use Rattle.kanal_core.proofs.Common.{◌≡◌, false, length, refl, sym, ap, ◌∙◌, subst, arith, false≢true, is_below, IsOneSided, Rises, AllReceive}
 use Rattle.kanal_core.proofs.Sided.{receiver-side}
 use Rattle.kanal_core.proofs.Stepping.{enters-handed, no-place}
 use Rattle.kanal_core.proofs.Sounding.{side-tail, rises-tail}
-use Rattle.kanal_core.specs.Line.{is_below}
-use Rattle.kanal_core.specs.Sided.{IsOneSided, Rises, AllReceive}
 use Rattle.kanal_core.proofs.internal.ChannelInternal.offer.Goals as goal
 
 pub invariant_of-self : goal.invariant_of-self

@@ -1,6 +1,4 @@
-use Rattle.std.proofs.Common.{length, ◌∙◌, subst}
-use Rattle.kanal_core.specs.Line.{IsWithin}
-use Rattle.kanal_core.specs.Sided.{IsOneSided}
+use Rattle.kanal_core.proofs.Common.{length, ◌∙◌, subst, IsWithin, IsOneSided}
 use Rattle.kanal_core.proofs.LettingIn.{TakenSoundly, taken-soundly}
 use Rattle.kanal_core.proofs.internal.ChannelInternal.take.Goals as goal
 

@@ -1,8 +1,7 @@
-use Rattle.std.proofs.Common.{◌≡◌, [], refl, sym, ap, ◌∙◌, subst}
+use Rattle.kanal_core.proofs.Common.{◌≡◌, [], refl, sym, ap, ◌∙◌, subst, IsOneSided, Rises, AllSend}
 use Rattle.kanal_core.proofs.Sided.{sender-side}
 use Rattle.kanal_core.proofs.Stepping.{takes-waiting, no-line}
 use Rattle.kanal_core.proofs.Sounding.{side-tail, rises-tail}
-use Rattle.kanal_core.specs.Sided.{IsOneSided, Rises, AllSend}
 use Rattle.kanal_core.proofs.internal.ChannelInternal.take_waiting.Goals as goal
 use Rattle.kanal_core.proofs.internal.ChannelInternal.take_waiting.Goals.{then-self-eq0, else-self-eq0}
 

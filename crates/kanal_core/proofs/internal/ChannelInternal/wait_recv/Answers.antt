@@ -1,7 +1,6 @@
-use Rattle.std.proofs.Common.{◌+◌, None, sym, subst}
+use Rattle.kanal_core.proofs.Common.{◌+◌, None, sym, subst, IsOneSided, Rises}
 use Rattle.kanal_core.proofs.Stepping.{waits-recv}
 use Rattle.kanal_core.proofs.Sounding.{side-wait-recv, rises-wait}
-use Rattle.kanal_core.specs.Sided.{IsOneSided, Rises}
 use Rattle.kanal_core.proofs.internal.ChannelInternal.wait_recv.Goals as goal
 
 pub invariant_of-self : goal.invariant_of-self

@@ -1,7 +1,6 @@
-use Rattle.std.proofs.Common.{rules, ◌+◌, Some, sym, subst}
+use Rattle.kanal_core.proofs.Common.{rules, ◌+◌, Some, sym, subst, IsOneSided, Rises}
 use Rattle.kanal_core.proofs.Stepping.{waits-send}
 use Rattle.kanal_core.proofs.Sounding.{side-wait-send, rises-wait}
-use Rattle.kanal_core.specs.Sided.{IsOneSided, Rises}
 use Rattle.kanal_core.proofs.internal.ChannelInternal.wait_send.Goals as goal
 
 pub invariant_of-self : goal.invariant_of-self

@@ -1,7 +1,5 @@
-use Rattle.std.proofs.Common.{◌≡◌, List, Option, Some, None, IsSome, IfNone, refl, sym, ap, ◌∙◌, inl, inr}
-use Rattle.kanal_core.specs.declared.internal.outcome.Waiter.{Waiter}
+use Rattle.kanal_core.proofs.Common.{◌≡◌, List, Option, Some, None, IsSome, IfNone, refl, sym, ap, ◌∙◌, inl, inr, Waiter, waiter_of, IsPlaced}
 use Rattle.kanal_core.specs.Inside.{channel_of}
-use Rattle.kanal_core.specs.Waiters.{waiter_of, IsPlaced}
 use Rattle.kanal_core.proofs.Sides.{placed-found, rises-without}
 use Rattle.kanal_core.proofs.Stepping.{not-there, withdraws}
 use Rattle.kanal_core.proofs.Sounding.{side-without}

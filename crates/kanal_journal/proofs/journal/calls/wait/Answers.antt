@@ -1,5 +1,4 @@
-use Rattle.std.proofs.Common.{subst}
-use Rattle.kanal_events.specs.Given.{Gives}
+use Rattle.kanal_journal.proofs.Common.{subst, Gives}
 use Rattle.kanal_journal.proofs.Giving.{gives-one, still_given}
 use Rattle.kanal_journal.proofs.journal.calls.wait.Goals as goal
 

@@ -1,10 +1,4 @@
-use Rattle.std.proofs.Common.{◌≡◌, ◌<◌, ◌≤◌, length, slice_get, Some, refl, sym, ap, subst, ◌∙◌, inl, arith}
-use Rattle.std.proofs.lemmas.Bool.{ltb-true}
-use Rattle.std.proofs.lemmas.Bool.Decides.{nat_tests}
-use Rattle.kanal_core.specs.Channel.{line_of}
-use Rattle.kanal_events.specs.declared.event.Event.TheVariants.{Withdraw}
-use Rattle.kanal_events.specs.Steps.{Tells}
-use Rattle.kanal_events.specs.StepResult.{not_waiting, told_of, withdrawn}
+use Rattle.kanal_journal.proofs.Common.{◌≡◌, ◌<◌, ◌≤◌, length, slice_get, Some, refl, sym, ap, subst, ◌∙◌, inl, arith, ltb-true, nat_tests, line_of, Withdraw, Tells, not_waiting, told_of, withdrawn}
 use Rattle.kanal_journal.proofs.Giving.{looked-up, placed}
 use Rattle.kanal_journal.proofs.Numbering.{numbered-count}
 use Rattle.kanal_journal.proofs.Withdrawing.{numbered-get, not-waiting-told}

@@ -1,6 +1,4 @@
-use Rattle.std.proofs.Common.{◌≡◌, ◌≤◌, ◌+◌, ◌++◌, length, vec_len, vec_capacity}
-use Rattle.kanal_events.specs.StepResult.{cleared_of, reply_of, settled_of}
-use Rattle.kanal_journal.specs.Runs.{numbered}
+use Rattle.kanal_journal.proofs.Common.{◌≡◌, ◌≤◌, ◌+◌, ◌++◌, length, vec_len, vec_capacity, cleared_of, reply_of, settled_of, numbered}
 use Rattle.kanal_journal.proofs.journal.collect.settle_all.Given as goal
 
 -- what was settled and what is left are all, and there is room for what is left

@@ -1,6 +1,4 @@
-use Rattle.std.proofs.Common.{ap, arith}
-use Rattle.kanal_log.specs.declared.rule.LogView.{LogView}
-use Rattle.atomic_table.specs.Table.{Me}
+use Rattle.kanal_log.proofs.Common.{ap, arith, LogView, Me}
 use Rattle.kanal_log.proofs.Moves.{begins, founds}
 use Rattle.kanal_log.proofs.log.NewLog.new.Goals as goal
 

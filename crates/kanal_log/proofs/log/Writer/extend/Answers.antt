@@ -1,5 +1,4 @@
-use Rattle.std.proofs.Common.{◌≡◌, sym, ◌∙◌, ap, subst}
-use Rattle.kanal_log.specs.Views.{MayAdd}
+use Rattle.kanal_log.proofs.Common.{◌≡◌, sym, ◌∙◌, ap, subst, MayAdd}
 use Rattle.kanal_log.proofs.Moves.{goes, meets, extends, parts}
 use Rattle.kanal_log.proofs.log.Writer.extend.Goals as goal
 

@@ -1,5 +1,4 @@
-use Rattle.std.proofs.Common.{sym, ◌∙◌, ap, subst}
-use Rattle.kanal_log.specs.Views.{AreDisjoint}
+use Rattle.kanal_log.proofs.Common.{sym, ◌∙◌, ap, subst, AreDisjoint}
 use Rattle.kanal_log.proofs.Moves.{goes, meets, compares, parts}
 use Rattle.kanal_log.proofs.reader.Reader.compare.Goals as goal
 

@@ -1,5 +1,4 @@
-use Rattle.std.proofs.Common.{sym, ◌∙◌, ap, subst}
-use Rattle.kanal_log.specs.Shares.{IsWhole}
+use Rattle.kanal_log.proofs.Common.{sym, ◌∙◌, ap, subst, IsWhole}
 use Rattle.kanal_log.proofs.Moves.{checks}
 use Rattle.kanal_log.proofs.reader.Reader.owns_all.Goals as goal
 

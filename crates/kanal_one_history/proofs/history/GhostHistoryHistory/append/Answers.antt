@@ -1,7 +1,4 @@
-use Rattle.std.proofs.Common.{subst, sym}
-use Rattle.kanal_log.specs.Shares.{HasShare}
-use Rattle.kanal_log.specs.Views.{Known}
-use Rattle.kanal_state.specs.declared.call.Call.{Call}
+use Rattle.kanal_one_history.proofs.Common.{subst, sym, HasShare, Known, Call}
 use Rattle.kanal_one_history.proofs.Telling.{legal-more, shown-more, line-more}
 use Rattle.kanal_one_history.proofs.history.GhostHistoryHistory.append.Goals as goal
 

@@ -1,5 +1,4 @@
-use Rattle.std.proofs.Common.{subst}
-use Rattle.kanal_one_history.specs.Calls.{IsLegal}
+use Rattle.kanal_one_history.proofs.Common.{subst, IsLegal}
 use Rattle.kanal_one_history.proofs.Accounts.{leads_as_told}
 use Rattle.kanal_one_history.proofs.Firsts.{waits_come_first}
 use Rattle.kanal_one_history.proofs.Pairing.{legal_paired_at}

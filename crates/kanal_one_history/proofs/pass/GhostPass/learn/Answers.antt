@@ -1,5 +1,4 @@
-use Rattle.std.proofs.Common.{◌<◌, rules, subst, sym}
-use Rattle.kanal_log.proofs.Shares.{both-has}
+use Rattle.kanal_one_history.proofs.Common.{◌<◌, rules, subst, sym, both-has}
 use Rattle.kanal_one_history.proofs.pass.GhostPass.learn.Goals as goal
 
 pub invariant_of-self : goal.invariant_of-self

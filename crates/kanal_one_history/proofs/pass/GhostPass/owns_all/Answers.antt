@@ -1,6 +1,4 @@
-use Rattle.std.proofs.Common.{subst}
-use Rattle.kanal_log.specs.Views.{OwnsAllBut}
-use Rattle.kanal_state.specs.Calls.{MovesNoMessage}
+use Rattle.kanal_one_history.proofs.Common.{subst, OwnsAllBut, MovesNoMessage}
 use Rattle.kanal_one_history.proofs.pass.GhostPass.owns_all.Goals as goal
 
 pub returns-clause-each : goal.returns-clause-each

@@ -1,5 +1,4 @@
-use Rattle.std.proofs.Common.{subst}
-use Rattle.kanal_log.specs.Views.{AreDisjoint}
+use Rattle.kanal_one_history.proofs.Common.{subst, AreDisjoint}
 use Rattle.kanal_one_history.proofs.pass.GhostPass.owns_once.Goals as goal
 
 pub returns-clause-apart : goal.returns-clause-apart

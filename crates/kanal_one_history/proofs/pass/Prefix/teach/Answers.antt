@@ -1,6 +1,4 @@
-use Rattle.std.proofs.Common.{ap, ◌∙◌}
-use Rattle.kanal_log.specs.Shares.{both}
-use Rattle.kanal_log.proofs.Shares.{both-nothing}
+use Rattle.kanal_one_history.proofs.Common.{ap, ◌∙◌, both, both-nothing}
 use Rattle.kanal_one_history.proofs.pass.Prefix.teach.Goals as goal
 
 pub returns-clause-share : goal.returns-clause-share

@@ -1,5 +1,4 @@
-use Rattle.std.proofs.Common.{codes, ◌∷◌, ◌++◌, ◌∙◌, inl, refl}
-use Rattle.kanal_script.specs.Words.{limit_word}
+use Rattle.kanal_script.proofs.Common.{codes, ◌∷◌, ◌++◌, ◌∙◌, inl, refl, limit_word}
 use Rattle.kanal_script.proofs.Words.{cap_word, capacity_cut}
 use Rattle.kanal_script.proofs.parser.Parser.capacity.Goals as goal
 

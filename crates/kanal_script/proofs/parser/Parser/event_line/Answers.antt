@@ -1,6 +1,4 @@
-use Rattle.std.proofs.Common.{true≢false, sym, subst}
-use Rattle.kanal_script.specs.Script.{event_words}
-use Rattle.kanal_script.specs.Words.{EndsLine}
+use Rattle.kanal_script.proofs.Common.{true≢false, sym, subst, event_words, EndsLine}
 use Rattle.kanal_script.proofs.Lines.{line_end, line_word}
 use Rattle.kanal_script.proofs.parser.Parser.event_line.Goals as goal
 

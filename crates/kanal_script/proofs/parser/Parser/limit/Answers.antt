@@ -1,5 +1,4 @@
-use Rattle.std.proofs.Common.{refl}
-use Rattle.kanal_script.specs.Words.{limit_word}
+use Rattle.kanal_script.proofs.Common.{refl, limit_word}
 use Rattle.kanal_script.proofs.Words.{limit_is_word, no_limit}
 use Rattle.kanal_script.proofs.parser.Parser.limit.Goals as goal
 

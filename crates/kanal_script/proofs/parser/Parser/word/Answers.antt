@@ -1,5 +1,4 @@
-use Rattle.std.proofs.Common.{subst, sym, ◌∙◌}
-use Rattle.std.specs.Str.{IsUtf8}
+use Rattle.kanal_script.proofs.Common.{subst, sym, ◌∙◌, IsUtf8}
 use Rattle.kanal_script.proofs.Words.{cut_off, word_utf8}
 use Rattle.kanal_script.proofs.parser.Parser.word.Goals as goal
 

@@ -1,6 +1,4 @@
-use Rattle.std.proofs.Common.{◌∙◌, ap}
-use Rattle.kanal_events.specs.StepResult.{told_of}
-use Rattle.kanal_state.specs.Results.{counted_by}
+use Rattle.kanal_state.proofs.Common.{◌∙◌, ap, told_of, counted_by}
 use Rattle.kanal_state.proofs.Counting.{more_counted, more_settles}
 use Rattle.kanal_state.proofs.Leaving.{nobody_leaves}
 use Rattle.kanal_state.proofs.state.State.count_in.Goals as goal

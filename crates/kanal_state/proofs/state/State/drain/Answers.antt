@@ -1,7 +1,4 @@
-use Rattle.std.proofs.Common.{sym, subst}
-use Rattle.kanal_core.specs.Channel.{line_of}
-use Rattle.kanal_events.specs.StepResult.{told_of}
-use Rattle.kanal_events.specs.Steps.{Tells}
+use Rattle.kanal_state.proofs.Common.{sym, subst, line_of, told_of, Tells}
 use Rattle.kanal_state.proofs.state.State.drain.Goals as goal
 
 pub note_made-requires : goal.note_made-requires

@@ -1,7 +1,4 @@
-use Rattle.std.proofs.Common.{subst}
-use Rattle.kanal_events.specs.StepResult.{Keeps}
-use Rattle.kanal_state.specs.Entries.{replied}
-use Rattle.kanal_state.specs.Makes.{HasReplied}
+use Rattle.kanal_state.proofs.Common.{subst, Keeps, replied, HasReplied}
 use Rattle.kanal_state.proofs.Settling.{kept_replied}
 use Rattle.kanal_state.proofs.state.State.wait.Goals as goal
 

@@ -1,11 +1,6 @@
-use Rattle.std.proofs.Common.{refl, subst}
-use Rattle.kanal_core.specs.Channel.{line_of}
+use Rattle.kanal_state.proofs.Common.{refl, subst, line_of, Withdraw, withdrawn, Tells, ticket_of}
 use Rattle.kanal_core.specs.Tickets.{number_of}
-use Rattle.kanal_events.specs.declared.event.Event.TheVariants.{Withdraw}
-use Rattle.kanal_events.specs.StepResult.{withdrawn}
-use Rattle.kanal_events.specs.Steps.{Tells}
 use Rattle.kanal_state.proofs.Telling.{tells_step}
-use Rattle.kanal_state.specs.Counts.{ticket_of}
 use Rattle.kanal_state.proofs.Noting.{told-on}
 use Rattle.kanal_state.proofs.state.State.withdraw.Goals as goal
 

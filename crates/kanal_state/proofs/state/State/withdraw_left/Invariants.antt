@@ -1,5 +1,4 @@
-use Rattle.std.proofs.Common.{◌≤◌, length}
-use Rattle.kanal_state.specs.WaiterHandles.{HaveLeft}
+use Rattle.kanal_state.proofs.Common.{◌≤◌, length, HaveLeft}
 use Rattle.kanal_state.proofs.state.State.withdraw_left.Given as goal
 
 -- at most one is kept a round, and those that are kept have left

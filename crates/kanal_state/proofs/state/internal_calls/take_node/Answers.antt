@@ -1,5 +1,4 @@
-use Rattle.std.proofs.Common.{ap, sym, ◌∙◌}
-use Rattle.std.specs.Option.{option_copied_mut}
+use Rattle.kanal_state.proofs.Common.{ap, sym, ◌∙◌, option_copied_mut}
 use Rattle.kanal_state.proofs.Renewing.{line-with, takes_node}
 use Rattle.kanal_state.proofs.state.internal_calls.take_node.Goals as goal
 

@@ -1,7 +1,4 @@
-use Rattle.std.proofs.Common.{◌≡◌, ◌+◌, None, drop, refl, sym, ap, subst, ◌∙◌, arith}
-use Rattle.std.specs.Fn.{FnReturnsAt}
-use Rattle.kanal_core.specs.Links.{IsLinked, first_place}
-use Rattle.kanal_core.specs.Waiters.{IsFirstWhere}
+use Rattle.kanal_core.proofs.Common.{◌≡◌, ◌+◌, None, drop, refl, sym, ap, subst, ◌∙◌, arith, FnReturnsAt, IsLinked, first_place, IsFirstWhere}
 use Rattle.kanal_core.proofs.Walks.{stands_at, is_there, passes_at, fails_at, at_end, past}
 use Rattle.kanal_core.proofs.internal.wait_list.WaitList.first_from.Goals as goal
 

@@ -1,7 +1,4 @@
-use Rattle.std.proofs.Common.{◌≡◌, ◌+◌, ℕ, drop}
-use Rattle.kanal_core.specs.Links.{first_place}
-use Rattle.kanal_core.specs.Waiters.{IsFirstWhere}
-use Rattle.std.specs.Fn.{FnReturnsAt}
+use Rattle.kanal_core.proofs.Common.{◌≡◌, ◌+◌, ℕ, drop, first_place, IsFirstWhere, FnReturnsAt}
 use Rattle.kanal_core.proofs.internal.wait_list.WaitList.first_from.Given as goal
 
 -- wherever the walk began, it is at the first of those that are left, and what is left decides

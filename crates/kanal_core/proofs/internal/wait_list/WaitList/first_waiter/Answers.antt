@@ -1,5 +1,4 @@
-use Rattle.std.proofs.Common.{subst}
-use Rattle.kanal_core.specs.Links.{IsLinked}
+use Rattle.kanal_core.proofs.Common.{subst, IsLinked}
 use Rattle.kanal_core.proofs.internal.wait_list.WaitList.first_waiter.Goals as goal
 
 pub returns : goal.returns

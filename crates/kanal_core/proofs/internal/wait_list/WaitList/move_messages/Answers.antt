@@ -1,6 +1,4 @@
-use Rattle.std.proofs.Common.{◌+◌, ◌++◌, drop, subst, sym, ap, ◌∙◌, arith, vec_capacity, vec_len}
-use Rattle.kanal_core.specs.Links.{IsHeld, TakesMessageAt}
-use Rattle.kanal_core.specs.Waiters.{brought}
+use Rattle.kanal_core.proofs.Common.{◌+◌, ◌++◌, drop, subst, sym, ap, ◌∙◌, arith, vec_capacity, vec_len, IsHeld, TakesMessageAt, brought}
 use Rattle.kanal_core.proofs.Emptying.{all-emptied, moved-none, moved-one}
 use Rattle.kanal_core.proofs.Taking.{TakesNext, held_at, takes_next, walked_all}
 use Rattle.kanal_core.proofs.internal.wait_list.WaitList.move_messages.Goals as goal

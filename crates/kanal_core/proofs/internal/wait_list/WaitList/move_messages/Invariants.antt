@@ -1,6 +1,4 @@
-use Rattle.std.proofs.Common.{◌≡◌, ◌+◌, ◌-◌, ◌≤◌, ◌++◌, length, drop, vec_len, vec_capacity}
-use Rattle.kanal_core.specs.Links.{first_place}
-use Rattle.kanal_core.specs.Waiters.{brought}
+use Rattle.kanal_core.proofs.Common.{◌≡◌, ◌+◌, ◌-◌, ◌≤◌, ◌++◌, length, drop, vec_len, vec_capacity, first_place, brought}
 use Rattle.kanal_core.proofs.Emptying.{emptied_to}
 use Rattle.kanal_core.proofs.internal.wait_list.WaitList.move_messages.Given as goal
 

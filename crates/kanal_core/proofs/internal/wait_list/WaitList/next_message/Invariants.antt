@@ -1,5 +1,4 @@
-use Rattle.std.proofs.Common.{◌≡◌, length}
-use Rattle.kanal_core.specs.Waiters.{brought}
+use Rattle.kanal_core.proofs.Common.{◌≡◌, length, brought}
 use Rattle.kanal_core.proofs.internal.wait_list.WaitList.next_message.Given as goal
 
 -- those that left brought nothing

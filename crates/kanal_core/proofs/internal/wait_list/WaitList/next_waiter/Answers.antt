@@ -1,7 +1,4 @@
-use Rattle.std.proofs.Common.{sym, subst}
-use Rattle.std.specs.Fn.{FnReturnsAt}
-use Rattle.kanal_core.specs.Links.{IsLinked}
-use Rattle.kanal_core.specs.Waiters.{IsFirstWhere, behind}
+use Rattle.kanal_core.proofs.Common.{sym, subst, FnReturnsAt, IsLinked, IsFirstWhere, behind}
 use Rattle.kanal_core.proofs.Finding.{absent, replaced, not_true, not_false}
 use Rattle.kanal_core.proofs.Walks.{goes_on, none_behind}
 use Rattle.kanal_core.proofs.internal.wait_list.WaitList.next_waiter.Goals as goal

@@ -1,5 +1,4 @@
-use Rattle.std.proofs.Common.{sym, ◌∙◌, subst}
-use Rattle.kanal_core.specs.Links.{IsLinked}
+use Rattle.kanal_core.proofs.Common.{sym, ◌∙◌, subst, IsLinked}
 use Rattle.kanal_core.proofs.Finding.{popped}
 use Rattle.kanal_core.proofs.internal.wait_list.WaitList.pop_front.Goals as goal
 

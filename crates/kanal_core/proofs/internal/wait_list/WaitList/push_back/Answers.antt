@@ -1,5 +1,4 @@
-use Rattle.std.proofs.Common.{[], ◌∷◌, ◌++◌, Some, refl, sym, ◌∙◌, subst}
-use Rattle.kanal_core.specs.Links.{IsLinked}
+use Rattle.kanal_core.proofs.Common.{[], ◌∷◌, ◌++◌, Some, refl, sym, ◌∙◌, subst, IsLinked}
 use Rattle.kanal_core.proofs.Linking.{Updates-at, IsLinked-slots, linked_on, closes, walk_is}
 use Rattle.kanal_core.proofs.internal.wait_list.WaitList.push_back.Goals as goal
 

@@ -1,6 +1,4 @@
-use Rattle.std.proofs.Common.{◌≡◌, sym, ◌∙◌, subst}
-use Rattle.kanal_core.specs.Links.{IsLinked}
-use Rattle.kanal_core.specs.Waiters.{waiter_of, without}
+use Rattle.kanal_core.proofs.Common.{◌≡◌, sym, ◌∙◌, subst, IsLinked, waiter_of, without}
 use Rattle.kanal_core.proofs.Finding.{IsNotThere, absent, replaced, found, removed, not_true, not_false}
 use Rattle.kanal_core.proofs.internal.wait_list.WaitList.remove.Goals as goal
 

@@ -1,5 +1,4 @@
-use Rattle.std.proofs.Common.{None, sym, ◌∙◌, subst}
-use Rattle.kanal_core.specs.Links.{IsLinked, TakesMessageAt, with_waiter}
+use Rattle.kanal_core.proofs.Common.{None, sym, ◌∙◌, subst, IsLinked, TakesMessageAt, with_waiter}
 use Rattle.kanal_core.proofs.Linking.{closes, free_if_empty, walk_is}
 use Rattle.kanal_core.proofs.Changing.{Emptied, emptied_at}
 use Rattle.kanal_core.proofs.internal.wait_list.WaitList.take_message.Goals as goal

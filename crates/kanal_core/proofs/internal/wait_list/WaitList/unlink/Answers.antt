@@ -1,7 +1,5 @@
-use Rattle.std.proofs.Common.{sym, ◌∙◌}
+use Rattle.kanal_core.proofs.Common.{sym, ◌∙◌, slab_len, walk}
 use Rattle.kanal_core.proofs.Linking.{unlink, Unlinked, closes, walk_is, free_if_empty, IsOneOut-at}
-use Rattle.slab.specs.Slab.{slab_len}
-use Rattle.kanal_core.specs.Links.{walk}
 use Rattle.kanal_core.proofs.internal.wait_list.WaitList.unlink.Goals as goal
 
 pub returns-in_default-clause-none : goal.returns-in_default-clause-none

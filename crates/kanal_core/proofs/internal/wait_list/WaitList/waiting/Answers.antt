@@ -1,6 +1,4 @@
-use Rattle.std.proofs.Common.{refl, sym, ap, ◌∙◌, inl, inr, subst}
-use Rattle.slab.specs.Slab.{get}
-use Rattle.kanal_core.specs.Links.{IsLinked, put_w}
+use Rattle.kanal_core.proofs.Common.{refl, sym, ap, ◌∙◌, inl, inr, subst, get, IsLinked, put_w}
 use Rattle.kanal_core.proofs.Linking.{closes, walk_is}
 use Rattle.kanal_core.proofs.Finding.{IsNotThere}
 use Rattle.kanal_core.proofs.Changing.{linked_put, is_some_at, w_at, not_at}

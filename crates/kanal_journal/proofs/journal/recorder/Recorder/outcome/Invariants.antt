@@ -1,5 +1,4 @@
-use Rattle.std.proofs.Common.{◌≡◌, drop}
-use Rattle.kanal_journal.specs.Replays.{outcome_of}
+use Rattle.kanal_journal.proofs.Common.{◌≡◌, drop, outcome_of}
 use Rattle.kanal_journal.proofs.journal.recorder.Recorder.outcome.Given as goal
 
 -- the outcome is that of the settlements that are left

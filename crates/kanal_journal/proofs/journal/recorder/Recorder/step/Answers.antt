@@ -1,5 +1,4 @@
-use Rattle.std.proofs.Common.{◌≡◌, true, false, refl, length, ◌∙◌, rules}
-use Rattle.kanal_events.specs.Steps.{is_no_memory}
+use Rattle.kanal_journal.proofs.Common.{◌≡◌, true, false, refl, length, ◌∙◌, rules, is_no_memory}
 use Rattle.kanal_journal.proofs.Replaying.{step-made, step-still}
 use Rattle.kanal_journal.proofs.journal.recorder.Recorder.step.Goals as goal
 

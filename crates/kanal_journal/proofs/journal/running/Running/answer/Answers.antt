@@ -1,7 +1,4 @@
-use Rattle.std.proofs.Common.{◌≡◌, ◌+◌, ◌≤◌, [], length, arith, refl}
-use Rattle.kanal_core.specs.Line.{tickets, under}
-use Rattle.kanal_core.specs.Channel.{line_of}
-use Rattle.kanal_journal.specs.declared.journal.running.Running.{Running}
+use Rattle.kanal_journal.proofs.Common.{◌≡◌, ◌+◌, ◌≤◌, [], length, arith, refl, tickets, under, line_of, Running}
 use Rattle.kanal_journal.proofs.Numbering.{numbered-count, numbered-more}
 use Rattle.kanal_journal.proofs.Noting.{nobody-below, answered-counts, within-next}
 use Rattle.kanal_journal.proofs.journal.running.Running.answer.Goals as goal

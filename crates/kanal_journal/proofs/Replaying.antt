@@ -2,9 +2,8 @@
 use Rattle.kanal_journal.proofs.Common.{◌≡◌, ℕ, ◌+◌, true, false, List, [], ◌∷◌, ◌++◌, length, Option, refl, sym, ap, ◌∙◌, subst, inl, inr, arith, length-append, append-nil, length-map, false≢true, messages, line_of, Event, NoMemory, Reply, StepSpec, message_of, refused, no_memory, is_no_memory, Account, Leads, added, made, opening_account, Paired, until, rest, Recording, Replays, Records, events_of, replies_of, next_account, played, recorded_history, longer, RunningStep, IsWithinEvents, IsSame, account_of, Running}
 use Rattle.std.proofs.lemmas.List.{map-append}
 use Rattle.std.specs.Global.{Vec}
-use Rattle.kanal_journal.specs.declared.journal.recorder.Entry.{Entry}
-use Rattle.kanal_journal.specs.Recorders.{RecorderIsSound, journal_of, recording_of}
-use Rattle.kanal_journal.specs.declared.journal.recorder.Recorder.{Recorder}
+use Rattle.kanal_journal.specs.declared.journal.recorded_state.Entry.{Entry}
+use Rattle.kanal_journal.specs.RecordedInside.{JournalIsSound, journal_of}
 use Rattle.kanal_journal.proofs.Along.{told_history, holds-opening, holds-along, paired-at, rest-left}
 use Rattle.kanal_journal.proofs.Noting.{noted-all, noted-rest, within-same, same-told, same-within}
 use Rattle.kanal_journal.proofs.Reading.{refused-handles}
@@ -74,9 +73,9 @@ module _ {T : Type 0} where
       let f : Account T → Recording T = λ a. record { capacity = a.line.capacity; entries = entries; account = a } in
       ap f (same-told (replies_of entries) old new same)
 
-  module _ (old : Recorder T) (sound : RecorderIsSound old) (start : Running T) (entries : List (Entry T)) (same : IsSame old.running start) (kept : entries ≡ old.entries.items) where
-    start-journal : journal_of entries start ≡ recording_of old
-    start-journal = ap (λ es. journal_of es start) kept ∙ same-journal old.entries.items old.running start same
+  module _ (was : List (Entry T)) (old : Running T) (sound : JournalIsSound was old) (start : Running T) (entries : List (Entry T)) (same : IsSame old start) (kept : entries ≡ was) where
+    start-journal : journal_of entries start ≡ journal_of was old
+    start-journal = ap (λ es. journal_of es start) kept ∙ same-journal was old start same
 
     start-replays : Replays start.core.capacity entries (account_of (replies_of entries) start)
     start-replays = let P : Recording T → Type 0 = λ r. Replays r.capacity r.entries r.account in subst P (sym start-journal) sound.replays
@@ -94,9 +93,9 @@ module _ {T : Type 0} where
           let capacity : mid.core.capacity ≡ start.core.capacity = ap (λ (a : Account T). a.line.capacity) m.1 ∙ (told-regular (line_of start.core) start.handles e (made start.handles (line_of start.core) e) (inl refl)).capacity in
           longer-is start.core.capacity mid.core.capacity entries more (account_of (replies_of entries) start) (account_of (replies_of more) mid) party e reply capacity is end
 
-      -- a step of the recorder that found memory, and entered its call
+      -- a step that found memory, and entered its call
       pub step-made : (more : Vec (Entry T)) → is_no_memory reply ≡ false → more.items ≡ entries ++ record { party = party; event = e; reply = reply } ∷ []
-          → RecorderIsSound (record { running = mid; entries = more }) × Records (recording_of old) party e reply (journal_of more.items mid)
+          → JournalIsSound more.items mid × Records (journal_of was old) party e reply (journal_of more.items mid)
       step-made more said is =
           let m = noted-made (replies_of entries) start mid e reply counted said in
           let all = entered more.items said is in
@@ -111,15 +110,15 @@ module _ {T : Type 0} where
             subst Q start-journal (inr (m.0, all)),
           )
 
-      -- a step of the recorder that found no memory
-      pub step-still : (still : Vec (Entry T)) → is_no_memory reply ≡ true → still.items ≡ entries → RecorderIsSound (record { running = mid; entries = still }) × Records (recording_of old) party e reply (journal_of still.items mid)
+      -- a step that found no memory
+      pub step-still : (still : Vec (Entry T)) → is_no_memory reply ≡ true → still.items ≡ entries → JournalIsSound still.items mid × Records (journal_of was old) party e reply (journal_of still.items mid)
       step-still still said is =
           let m = noted-nothing (replies_of entries) start mid e reply counted said in
           let f : Account T → Recording T = λ a. record { capacity = a.line.capacity; entries = entries; account = a } in
-          let all : journal_of still.items mid ≡ recording_of old = ap (λ es. journal_of es mid) is ∙ (ap f m.1 ∙ start-journal) in
+          let all : journal_of still.items mid ≡ journal_of was old = ap (λ es. journal_of es mid) is ∙ (ap f m.1 ∙ start-journal) in
           let P : Recording T → Type 0 = λ r. Replays r.capacity r.entries r.account in
           let W : ℕ → Type 0 = λ k. IsWithinEvents k mid in
-          let now : IsWithinEvents (length entries) start = same-within (length entries) old.running start same (let V : List (Entry T) → Type 0 = λ es. IsWithinEvents (length es) old.running in subst V (sym kept) sound.within) in (
+          let now : IsWithinEvents (length entries) start = same-within (length entries) old start same (let V : List (Entry T) → Type 0 = λ es. IsWithinEvents (length es) old in subst V (sym kept) sound.within) in (
             record {
               replays = subst P (sym all) sound.replays;
               within = subst W (ap length (sym is)) (within-same (length entries) (replies_of entries) start mid m.1 within.tickets now);

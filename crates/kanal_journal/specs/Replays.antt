@@ -4,7 +4,7 @@ use Rattle.kanal_core.specs.declared.internal.outcome.Outcome.{Outcome}
 use Rattle.kanal_events.specs.declared.event.Event.{Event}
 use Rattle.kanal_journal.specs.declared.journal.report.Settlement.{Settlement}
 use Rattle.kanal_events.specs.declared.event.Reply.{Reply}
-use Rattle.kanal_journal.specs.declared.journal.recorder.Entry.{Entry}
+use Rattle.kanal_journal.specs.declared.journal.recorded_state.Entry.{Entry}
 use Rattle.kanal_events.specs.Steps.{no_memory}
 use Rattle.kanal_journal.specs.Runs.{Account, made, added, opening_account}
 use Rattle.kanal_journal.specs.Paired.{PairedHistory, history_from}

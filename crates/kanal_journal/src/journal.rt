@@ -17,13 +17,11 @@ mod calls;
 mod collect;
 mod handles;
 mod recorded_state;
-mod recorder;
 mod report;
 mod running;
 
 pub use kanal_events::event::{Ask, Event, Refusal, Reply, Side};
-pub use recorded_state::RecordedState;
-pub use recorder::{Entry, Journal};
+pub use recorded_state::{Entry, Journal, RecordedState};
 pub use report::{Report, Settlement};
 
 /// Makes one event, and adds its reply.

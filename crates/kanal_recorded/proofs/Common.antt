@@ -1,5 +1,5 @@
 -- The names that these proofs cite, passed on from one place. Declares nothing.
-pub use Rattle.kanal_journal.specs.declared.journal.recorder.Entry.{Entry}
+pub use Rattle.kanal_journal.specs.declared.journal.recorded_state.Entry.{Entry}
 pub use Rattle.kanal_recorded.specs.Comparing.{AreAtEnd, HasReached, HaveReached, NotesFit}
 pub use Rattle.kanal_recorded.specs.Merges.{IsMerged, IsNoteOf, IsOwn, NotesAmong, Placed, calls_of, placed}
 pub use Rattle.kanal_recorded.specs.Passes.{Calls}

@@ -1,7 +1,7 @@
 -- How far the passes' lists were compared with a journal.
 use Rattle.std.specs.Prelude.{◌≡◌, ℕ, ◌<◌, ◌≤◌, List, length, map, take, slice_index_or}
 use Rattle.std.specs.List.{AllWithin}
-use Rattle.kanal_journal.specs.declared.journal.recorder.Entry.{Entry}
+use Rattle.kanal_journal.specs.declared.journal.recorded_state.Entry.{Entry}
 use Rattle.kanal_recorded.specs.declared.finish.Reached.{Reached}
 use Rattle.kanal_recorded.specs.Passes.{Calls}
 use Rattle.kanal_recorded.specs.Merges.{Placed, placed, calls_of}

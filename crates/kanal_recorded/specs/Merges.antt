@@ -3,9 +3,9 @@ use Rattle.std.specs.Prelude.{◌≡◌, ◌≢◌, ℕ, ◌+◌, ◌<◌, ◌�
 use Rattle.std.specs.List.{All, AllPairs, Any}
 use Rattle.kanal_events.specs.declared.event.Event.{Event}
 use Rattle.kanal_events.specs.declared.event.Reply.{Reply}
-use Rattle.kanal_journal.specs.declared.journal.recorder.Entry.{Entry}
+use Rattle.kanal_journal.specs.declared.journal.recorded_state.Entry.{Entry}
 use Rattle.kanal_recorded.specs.declared.pass.Note.{Note}
-use Rattle.kanal_journal.specs.declared.journal.recorder.Journal.{Journal}
+use Rattle.kanal_journal.specs.declared.journal.recorded_state.Journal.{Journal}
 use Rattle.kanal_journal.specs.Runs.{Account, Leads, opening_account}
 use Rattle.kanal_journal.specs.Paired.{PairedHistory, history_from}
 use Rattle.kanal_journal.specs.Laws.{told_history}

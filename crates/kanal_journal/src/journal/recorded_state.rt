@@ -1,20 +1,75 @@
 //! The recorded channel's state: a channel that keeps a journal of every call made on it.
 //!
 //! That the journal explains what is there is a fact of the type, so it holds each time that the state is got, from
-//! under a lock too.
-ghost use Rattle.std.specs.Prelude.{◌≡◌, ◌↔◌, ℕ, IfOk, IsErrOf, Some, length};
+//! under a lock too. Room for all that a step may add is made before the step.
+ghost use Rattle.std.specs.Prelude.{◌≡◌, ◌↔◌, ℕ, ◌+◌, ◌<◌, [], ◌∷◌, ◌++◌, IfOk, IsErrOf, Some, length, vec_len, vec_capacity};
 ghost use Rattle.kanal_core.specs.Line.{last_word, messages};
 ghost use Rattle.kanal_journal.specs.Paired.{Paired, until, rest};
 ghost use Rattle.kanal_journal.specs.Replays.{Records, Replays, opened_recording, outcome_of, recorded_history, events_of};
+ghost use Rattle.kanal_journal.specs.RecordedInside.{JournalIsSound, journal_of};
+ghost use Rattle.kanal_journal.specs.Running.{IsSame, HasRoom};
 ghost use Rattle.kanal_journal.specs.Runs.{Leads, opening_account};
-ghost use Rattle.kanal_journal.specs.Recorders.{RecorderIsSound};
 
-use super::recorder::{Entry, Journal, Recorder};
+use super::report::Settlement;
+use super::running::{Running, make_room};
 use kanal_core::error::NewError;
 use kanal_core::internal::Outcome;
-use kanal_events::event::{Event, Reply};
-use std::alloc::Global;
+use kanal_events::event::{Event, Refusal, Reply};
+use std::alloc::{AllocError, Global};
 use std::marker::Model;
+
+/// One call of a journal: the party that made it, its event, and what it was replied.
+#[derive(Clone, Copy, Debug, PartialEq, Eq, Drop)]
+pub struct Entry<T> {
+    /// Who made the call.
+    pub party: u32,
+    /// What was asked.
+    pub event: Event<T>,
+    /// What was answered.
+    pub reply: Reply<T>,
+}
+
+/// A journal at its end, with all that was told along it.
+#[derive(Drop)]
+pub struct Journal<T> {
+    /// The capacity of the channel, `None` being no limit.
+    pub capacity: Option<usize>,
+    /// The calls, in the order in which they were made.
+    pub entries: Vec<Entry<T>>,
+    /// Every wait that was settled, in order; a step's number is the place of its entry.
+    pub settled: Vec<Settlement<T>>,
+    /// The messages of all drains, in order.
+    pub drained: Vec<T>,
+    /// The messages that a close cleared, in order.
+    pub cleared: Vec<T>,
+}
+
+/// Puts the call at the journal's end, which has room for it.
+fn enter<T: Copy>(entries: &mut Vec<Entry<T>>, party: u32, event: Event<T>, reply: Reply<T>)
+    requires { vec_len entries.old < vec_capacity entries.old }
+    ensures { entries.new.items ≡ entries.old.items
+        ++ record { party = party; event = event; reply = reply } ∷ [] }
+{
+    let entry = Entry {
+        party,
+        event,
+        reply,
+    };
+    entries.push_reserved(entry);
+}
+
+/// Makes room in each list for one item more than there are entries, which is all that a step may
+/// need.
+fn reserve<T: Copy>(running: &mut Running<T>, entries: &mut Vec<Entry<T>>) -> Result<(), AllocError>
+    ensures same { IsSame running.old running.new }
+    ensures entries { entries.new.items ≡ entries.old.items }
+    ensures room { IfOk result (λ _. HasRoom (vec_len entries.new + 1) running.new) }
+    ensures entry { IfOk result (λ _. vec_len entries.new < vec_capacity entries.new) }
+{
+    let total = entries.len() + 1;
+    make_room(entries, total)?;
+    running.reserve(total)
+}
 
 /// A channel with its journal: one entry for each call, in the order in which the calls were made.
 ///
@@ -23,7 +78,8 @@ use std::marker::Model;
 /// there.
 #[derive(Drop)]
 pub struct RecordedState<T: Copy> {
-    recorder: Recorder<T>,
+    running: Running<T>,
+    entries: Vec<Entry<T>>,
     capacity: Option<usize>,
 }
 
@@ -56,8 +112,35 @@ impl<T: Copy> RecordedState<T> {
         ensures opened { IfOk result (λ s. s ≡ opened_recording capacity) }
         ensures large { IsErrOf result NewError.TooLarge ↔ (capacity ≡ Some last_word) }
     {
-        let recorder = Recorder::new(alloc, capacity)?;
-        Ok(RecordedState { recorder, capacity })
+        let running = Running::new(alloc, capacity)?;
+        Ok(RecordedState {
+            running,
+            entries: Vec::new(alloc),
+            capacity,
+        })
+    }
+
+    /// Makes the event for the party, and puts its entry at the journal's end; or finds no memory and
+    /// changes nothing.
+    fn record(
+        running: &mut Running<T>,
+        entries: &mut Vec<Entry<T>>,
+        party: u32,
+        event: Event<T>,
+    ) -> Reply<T>
+        requires { JournalIsSound entries.old.items running.old }
+        ensures sound { JournalIsSound entries.new.items running.new }
+        ensures records { Records (journal_of entries.old.items running.old) party event result
+            (journal_of entries.new.items running.new) }
+    {
+        if reserve(running, entries).is_err() {
+            return event.refused(Refusal::NoMemory);
+        }
+        let reply = running.answer(entries.len(), event);
+        if !reply.is_no_memory() {
+            enter(entries, party, event, reply);
+        }
+        reply
     }
 
     /// Makes one event for the party, and puts one entry at the journal's end: the party, the event,
@@ -79,7 +162,7 @@ impl<T: Copy> RecordedState<T> {
     pub fn step(&mut self, party: u32, event: Event<T>) -> Reply<T>
         ensures { Records self.old party event result self.new }
     {
-        self.recorder.step(party, event)
+        Self::record(&mut self.running, &mut self.entries, party, event)
     }
 
     /// What the journal says, for a caller's proof; it does nothing when it runs.
@@ -96,7 +179,7 @@ impl<T: Copy> RecordedState<T> {
         ensures paired { (n : ℕ) → Paired (until n (recorded_history self.now)) }
         ensures left { messages self.now.account.line.line ≡ rest (recorded_history self.now) }
     {
-        let _ = &self.recorder;
+        let _ = &self.running;
     }
 
     /// The capacity that `new` was given.
@@ -120,7 +203,7 @@ impl<T: Copy> RecordedState<T> {
     pub fn entries(&self) -> &[Entry<T>]
         ensures { result.now ≡ self.now.entries }
     {
-        self.recorder.entries()
+        self.entries.as_slice()
     }
 
     /// How many entries the journal has.
@@ -132,7 +215,7 @@ impl<T: Copy> RecordedState<T> {
     pub fn len(&self) -> usize
         ensures { result ≡ length self.now.entries }
     {
-        self.entries().len()
+        self.entries.len()
     }
 
     /// What became of the wait with this ticket's number so far: `None` where it waits, was withdrawn
@@ -147,7 +230,12 @@ impl<T: Copy> RecordedState<T> {
     pub fn outcome(&self, ticket: u64) -> Option<Outcome<T>>
         ensures { result ≡ outcome_of ticket self.now.account.settled }
     {
-        self.recorder.outcome(ticket)
+        for settlement in self.running.settled.as_slice() {
+            if settlement.ticket == ticket {
+                return Some(settlement.outcome);
+            }
+        }
+        None
     }
 
     /// The journal, moved out with all that was told along it. Its events lead from a new channel to
@@ -167,7 +255,17 @@ impl<T: Copy> RecordedState<T> {
         ensures leads { Leads (opening_account self.capacity) (events_of self.entries) self.account }
         ensures paired { (n : ℕ) → Paired (until n (recorded_history self)) }
     {
-        let RecordedState { recorder, capacity } = self;
-        recorder.into_journal(capacity)
+        let RecordedState {
+            running,
+            entries,
+            capacity,
+        } = self;
+        Journal {
+            capacity,
+            entries,
+            settled: running.settled,
+            drained: running.drained,
+            cleared: running.cleared,
+        }
     }
 }

@@ -1,7 +1,7 @@
 //! A core on which events are made, and all that it told along them but for the replies.
 //!
-//! `run` and the recorder keep the replies, each in its own list, and make every event through `Running::answer`: no
-//! other module makes an event, notes what it told or writes to a field here.
+//! `run` and the recorded state keep the replies, each in its own list, and make every event through
+//! `Running::answer`: no other module makes an event, notes what it told or writes to a field here.
 ghost use Rattle.std.specs.Prelude.{◌≡◌, ◌↔◌, ◌+◌, ◌≤◌, IfOk, IsErrOf, Some, vec_capacity};
 ghost use Rattle.kanal_core.specs.Channel.{opening};
 ghost use Rattle.kanal_core.specs.Line.{last_word};

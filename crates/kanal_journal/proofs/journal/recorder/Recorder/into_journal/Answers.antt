@@ -1,5 +1,0 @@
-use Rattle.std.proofs.Common.{rules}
-use Rattle.kanal_journal.proofs.journal.recorder.Recorder.into_journal.Goals as goal
-
-pub returns : goal.returns
-returns g c = search rules

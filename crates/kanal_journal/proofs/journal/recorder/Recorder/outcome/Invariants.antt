@@ -1,6 +1,0 @@
-use Rattle.kanal_journal.proofs.Common.{◌≡◌, drop, outcome_of}
-use Rattle.kanal_journal.proofs.journal.recorder.Recorder.outcome.Given as goal
-
--- the outcome is that of the settlements that are left
-abbrev pub invariant-loop-settlement : goal.invariant-loop-settlement
-invariant-loop-settlement g l = outcome_of l.ticket (drop l.settlement-index l.self.running.settled.items) ≡ outcome_of l.ticket l.self.running.settled.items

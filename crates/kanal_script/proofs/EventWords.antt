@@ -24,70 +24,24 @@ name Terminated = codes "terminated"
 abbrev pub behind : Event ℕ → List ℕ
 behind (Send n) = 32 ∷ decimal n
 behind (TrySend n) = 32 ∷ decimal n
-behind Recv = []
-behind RecvLate = []
-behind TryRecv = []
-behind Drain = []
 behind (Withdraw n) = 32 ∷ decimal n
-behind CloneTx = []
-behind CloneRx = []
-behind DropTx = []
-behind DropRx = []
-behind Seal = []
-behind Close = []
 behind (Asks side ask) = 32 ∷ (side_word side ++ (32 ∷ ask_word ask))
-behind Terminated = []
+behind event = []
 
 pub words_cut : (event : Event ℕ) (s : List ℕ) → event_words event ++ s ≡ name event ++ (behind event ++ s)
 words_cut (Send n) s = refl
-words_cut (TrySend n) s = refl
-words_cut Recv s = refl
-words_cut RecvLate s = refl
-words_cut TryRecv s = refl
-words_cut Drain s = refl
-words_cut (Withdraw n) s = refl
-words_cut CloneTx s = refl
-words_cut CloneRx s = refl
-words_cut DropTx s = refl
-words_cut DropRx s = refl
-words_cut Seal s = refl
-words_cut Close s = refl
-words_cut (Asks side ask) s = refl
-words_cut Terminated s = refl
+words_cut event s = refl
 
 pub name_word : (event : Event ℕ) → IsWord (name event)
 name_word (Send n) = letters (codes "send") refl
-name_word (TrySend n) = letters (codes "try_send") refl
-name_word Recv = letters (codes "recv") refl
-name_word RecvLate = letters (codes "recv_late") refl
-name_word TryRecv = letters (codes "try_recv") refl
-name_word Drain = letters (codes "drain") refl
-name_word (Withdraw n) = letters (codes "withdraw") refl
-name_word CloneTx = letters (codes "clone_tx") refl
-name_word CloneRx = letters (codes "clone_rx") refl
-name_word DropTx = letters (codes "drop_tx") refl
-name_word DropRx = letters (codes "drop_rx") refl
-name_word Seal = letters (codes "seal") refl
-name_word Close = letters (codes "close") refl
-name_word (Asks side ask) = letters (codes "ask") refl
-name_word Terminated = letters (codes "terminated") refl
+name_word event = letters (name event) refl
 
 pub behind_end : (event : Event ℕ) (s : List ℕ) → EndsWord s → EndsWord (behind event ++ s)
 behind_end (Send n) s end = inl refl
 behind_end (TrySend n) s end = inl refl
-behind_end Recv s end = end
-behind_end RecvLate s end = end
-behind_end TryRecv s end = end
-behind_end Drain s end = end
 behind_end (Withdraw n) s end = inl refl
-behind_end CloneTx s end = end
-behind_end CloneRx s end = end
-behind_end DropTx s end = end
-behind_end DropRx s end = end
-behind_end Seal s end = end
-behind_end Close s end = end
 behind_end (Asks side ask) s end = inl refl
-behind_end Terminated s end = end
+behind_end event s end = end
 
 -- a word that is no event's name
 pub record IsNoName (w : List ℕ) : Type 0 where

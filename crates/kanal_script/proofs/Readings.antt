@@ -5,7 +5,7 @@ use Rattle.kanal_events.specs.declared.event.Side.TheVariants.{Tx, Rx}
 use Rattle.kanal_events.specs.declared.event.Ask.{Ask}
 use Rattle.kanal_events.specs.declared.event.Ask.TheVariants.{IsBounded}
 use Rattle.kanal_script.proofs.Words.{cap_word, decimal_word, letters}
-use Rattle.kanal_script.proofs.EventWords.{name_word}
+use Rattle.kanal_script.proofs.EventWords.{name, name_word}
 
 -- no line feed is among the bytes
 abbrev NoFeed : List ℕ → Type 0
@@ -30,31 +30,14 @@ side_is_word Rx = letters (codes "rx") refl
 
 ask_is_word : (ask : Ask) → IsWord (ask_word ask)
 ask_is_word IsBounded = letters (codes "is_bounded") refl
-ask_is_word Len = letters (codes "len") refl
-ask_is_word IsEmpty = letters (codes "is_empty") refl
-ask_is_word IsFull = letters (codes "is_full") refl
-ask_is_word Capacity = letters (codes "capacity") refl
-ask_is_word ReceiverCount = letters (codes "receiver_count") refl
-ask_is_word SenderCount = letters (codes "sender_count") refl
-ask_is_word IsClosed = letters (codes "is_closed") refl
-ask_is_word IsDisconnected = letters (codes "is_disconnected") refl
+ask_is_word ask = letters (ask_word ask) refl
 
 event_no_feed : (event : Event ℕ) → EventFits event → NoFeed (event_words event)
 event_no_feed (Send n) fits = spaced (codes "send") (decimal n) (name_word (Send n)) (word_no_feed (decimal n) (decimal_word n fits))
 event_no_feed (TrySend n) fits = spaced (codes "try_send") (decimal n) (name_word (TrySend n)) (word_no_feed (decimal n) (decimal_word n fits))
-event_no_feed Recv fits = word_no_feed (codes "recv") (name_word Recv)
-event_no_feed RecvLate fits = word_no_feed (codes "recv_late") (name_word RecvLate)
-event_no_feed TryRecv fits = word_no_feed (codes "try_recv") (name_word TryRecv)
-event_no_feed Drain fits = word_no_feed (codes "drain") (name_word Drain)
 event_no_feed (Withdraw n) fits = spaced (codes "withdraw") (decimal n) (name_word (Withdraw n)) (word_no_feed (decimal n) (decimal_word n fits))
-event_no_feed CloneTx fits = word_no_feed (codes "clone_tx") (name_word CloneTx)
-event_no_feed CloneRx fits = word_no_feed (codes "clone_rx") (name_word CloneRx)
-event_no_feed DropTx fits = word_no_feed (codes "drop_tx") (name_word DropTx)
-event_no_feed DropRx fits = word_no_feed (codes "drop_rx") (name_word DropRx)
-event_no_feed Seal fits = word_no_feed (codes "seal") (name_word Seal)
-event_no_feed Close fits = word_no_feed (codes "close") (name_word Close)
 event_no_feed (Asks side ask) fits = spaced (codes "ask") (side_word side ++ (32 ∷ ask_word ask)) (name_word (Asks side ask)) (spaced (side_word side) (ask_word ask) (side_is_word side) (word_no_feed (ask_word ask) (ask_is_word ask)))
-event_no_feed Terminated fits = word_no_feed (codes "terminated") (name_word Terminated)
+event_no_feed event fits = word_no_feed (name event) (name_word event)
 
 capacity_no_feed : (capacity : Option ℕ) → FitsWord capacity → NoFeed (capacity_words capacity)
 capacity_no_feed None fits = spaced (codes "cap") (codes "unbounded") cap_word (word_no_feed (codes "unbounded") (letters (codes "unbounded") refl))

@@ -15,37 +15,13 @@ module _ {T : Type 0} where
   drop_told l DropTx told drops (inr m) = absurd m.0
   drop_told l DropRx told drops (inl is) = is
   drop_told l DropRx told drops (inr m) = absurd m.0
-  drop_told l (Send m) told drops tells = absurd drops
-  drop_told l (TrySend m) told drops tells = absurd drops
-  drop_told l Recv told drops tells = absurd drops
-  drop_told l RecvLate told drops tells = absurd drops
-  drop_told l TryRecv told drops tells = absurd drops
-  drop_told l Drain told drops tells = absurd drops
-  drop_told l (Withdraw t) told drops tells = absurd drops
-  drop_told l CloneTx told drops tells = absurd drops
-  drop_told l CloneRx told drops tells = absurd drops
-  drop_told l Seal told drops tells = absurd drops
-  drop_told l Close told drops tells = absurd drops
-  drop_told l (Ask side ask) told drops tells = absurd drops
-  drop_told l Terminated told drops tells = absurd drops
+  drop_told l e told drops tells = absurd drops
 
   -- it is silent
   pub drop_moves_none : (e : Event T) → IsDrop e → MovesNoMessage e
   drop_moves_none DropTx drops = tt
   drop_moves_none DropRx drops = tt
-  drop_moves_none (Send m) drops = absurd drops
-  drop_moves_none (TrySend m) drops = absurd drops
-  drop_moves_none Recv drops = absurd drops
-  drop_moves_none RecvLate drops = absurd drops
-  drop_moves_none TryRecv drops = absurd drops
-  drop_moves_none Drain drops = absurd drops
-  drop_moves_none (Withdraw t) drops = tt
-  drop_moves_none CloneTx drops = tt
-  drop_moves_none CloneRx drops = tt
-  drop_moves_none Seal drops = tt
-  drop_moves_none Close drops = absurd drops
-  drop_moves_none (Ask side ask) drops = tt
-  drop_moves_none Terminated drops = tt
+  drop_moves_none e drops = absurd drops
 
 module _ {T : Type 0} where
   -- the drop of a sender that is not the last settles nobody's wait

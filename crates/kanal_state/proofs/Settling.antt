@@ -182,28 +182,8 @@ module _ {T : Type 0} where
   free-never l (TrySend m) free may = off free
   free-never l Recv free may = off free
   free-never l Drain free may = off free
-  free-never l RecvLate free (inl may) = may
-  free-never l RecvLate free (inr may) = may
-  free-never l TryRecv free (inl may) = may
-  free-never l TryRecv free (inr may) = may
-  free-never l (Withdraw t) free (inl may) = may
-  free-never l (Withdraw t) free (inr may) = may
-  free-never l CloneTx free (inl may) = may
-  free-never l CloneTx free (inr may) = may
-  free-never l CloneRx free (inl may) = may
-  free-never l CloneRx free (inr may) = may
-  free-never l DropTx free (inl may) = may
-  free-never l DropTx free (inr may) = may
-  free-never l DropRx free (inl may) = may
-  free-never l DropRx free (inr may) = may
-  free-never l Seal free (inl may) = may
-  free-never l Seal free (inr may) = may
-  free-never l Close free (inl may) = may
-  free-never l Close free (inr may) = may
-  free-never l (Asks side ask) free (inl may) = may
-  free-never l (Asks side ask) free (inr may) = may
-  free-never l Terminated free (inl may) = may
-  free-never l Terminated free (inr may) = may
+  free-never l event free (inl may) = may
+  free-never l event free (inr may) = may
 
   -- the answer of a call to which memory is never refused
   pub free_replied : {P R : Type 0} (w : HistoryRelations T P) (old new : P) (event : Event T) (read : Reply T → R) (answer : R) (reply : Reply T)

@@ -31,20 +31,16 @@ const NAP: u64 = 1_000_000;
 /// Whether the cell knows that the blocked call sleeps.
 #[derive(Drop)]
 enum Watch<P> {
-    /// It doesn't.
     Awake(Awake<P>),
     /// It does, or the outcome was there.
     Asleep(Asleep<P>),
 }
 
-/// What looking at a cell came to.
 #[derive(Drop)]
 enum Looked<P> {
-    /// The outcome.
     Outcome(P),
     /// The clock answered this moment, which is not before the deadline.
     Late(Awake<P>, u64),
-    /// Neither yet.
     Early(Awake<P>),
 }
 
@@ -120,7 +116,6 @@ impl<P: Drop> Waiting<P> {
     }
 }
 
-/// Sleeps until the outcome is there.
 #[cold]
 fn sleep<P: Drop, R: Wait>(rt: &R, awake: Awake<P>) -> P {
     match awake.sleep() {
@@ -129,7 +124,6 @@ fn sleep<P: Drop, R: Wait>(rt: &R, awake: Awake<P>) -> P {
     }
 }
 
-/// Sleeps until the outcome is there or the deadline has come.
 #[cold]
 fn sleep_until<P: Drop, R: Wait + time::Clock, C: Clock>(
     rt: &R,
@@ -146,7 +140,6 @@ fn sleep_until<P: Drop, R: Wait + time::Clock, C: Clock>(
     }
 }
 
-/// Looks for the outcome, as the channel's policy says.
 fn look<P: Drop>(policy: &WaitPolicy, awake: Awake<P>) -> Result<P, Awake<P>> {
     let mut backoff = Backoff::new(policy);
     let mut awake = awake;
@@ -197,7 +190,6 @@ fn look_until<P: Drop, C: Clock>(
     Looked::Early(awake)
 }
 
-/// Sleeps until the outcome is there.
 fn park<P: Drop, R: Wait>(rt: &R, asleep: Asleep<P>) -> P {
     let mut asleep = asleep;
     for _ in rt.forever() {

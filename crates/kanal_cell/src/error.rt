@@ -1,6 +1,4 @@
 //! The one error of a cell, with its exact text.
-//!
-//! The errors of a channel stand in `kanal_core`.
 ghost use Rattle.std.specs.Prelude.{Some};
 ghost use Rattle.kanal_cell.specs.Texts.{no_memory_text};
 

@@ -17,11 +17,6 @@ const GROWTH: u32 = 2;
 const SECOND_LOOK: u32 = 80;
 
 /// Spins for two to this power times, and for 1,024 times at most.
-///
-/// # Examples
-/// ```text
-/// pause(6)   spins 64 times
-/// ```
 pub fn pause(power: u32) {
     for _ in 0..1u32 << power.min(LONGEST) {
         hint::spin_loop();
@@ -29,11 +24,7 @@ pub fn pause(power: u32) {
 }
 
 /// Spins once before a blocked call looks again for a place or a message, where there is a buffer.
-///
-/// # Examples
-/// ```text
-/// pause_once()   spins 80 times
-/// ```
+/// Example: `pause_once()` spins 80 times.
 pub fn pause_once() {
     for _ in 0..SECOND_LOOK {
         hint::spin_loop();

@@ -12,7 +12,6 @@ pub(crate) type SharedSlot<P> = Shared<Option<Held<P>>, CellView, (), SignalRule
 
 type Place<P> = Seat<Option<Held<P>>, CellView>;
 
-/// Puts the outcome into its slot, which is lent and empty.
 pub(crate) fn put_outcome<P: Drop>(cell: &SharedSlot<P>, seat: &mut Place<P>, outcome: P)
     requires table { seat.old.table_id ≡ cell.now.table_id }
     requires empty { seat.old.me.1 ≡ (0, None) ∷ rest seat.old.me.1 }
@@ -25,7 +24,6 @@ pub(crate) fn put_outcome<P: Drop>(cell: &SharedSlot<P>, seat: &mut Place<P>, ou
     };
 }
 
-/// Takes the outcome out of its slot, which is lent and holds it.
 pub(crate) fn take_outcome<P: Drop>(cell: &SharedSlot<P>, seat: &mut Place<P>) -> P
     requires table { seat.old.table_id ≡ cell.now.table_id }
     requires full { Carries 0 IsOutcome seat.old.me.1 }
@@ -39,7 +37,6 @@ pub(crate) fn take_outcome<P: Drop>(cell: &SharedSlot<P>, seat: &mut Place<P>) -
     outcome
 }
 
-/// Puts the sleeper into its slot, which is lent and empty.
 pub(crate) fn put_sleeper<P: Drop>(cell: &SharedSlot<P>, seat: &mut Place<P>, sleeper: Sleeper)
     requires table { seat.old.table_id ≡ cell.now.table_id }
     requires empty { seat.old.me.1 ≡ (1, None) ∷ rest seat.old.me.1 }
@@ -52,7 +49,6 @@ pub(crate) fn put_sleeper<P: Drop>(cell: &SharedSlot<P>, seat: &mut Place<P>, sl
     };
 }
 
-/// Takes the sleeper out of its slot, which is lent and holds it.
 pub(crate) fn take_sleeper<P: Drop>(cell: &SharedSlot<P>, seat: &mut Place<P>) -> Sleeper
     requires table { seat.old.table_id ≡ cell.now.table_id }
     requires full { Carries 1 IsSleeper seat.old.me.1 }

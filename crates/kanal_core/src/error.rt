@@ -1,6 +1,4 @@
 //! The errors of a channel, each with its exact text.
-//!
-//! No other module of this crate writes the text of an error.
 ghost use Rattle.std.specs.Prelude.{Some};
 ghost use Rattle.kanal_core.specs.Texts.{close_error_text, new_error_text, receive_error_text, receive_error_timeout_text, send_error_text, send_error_timeout_text, too_many_text};
 

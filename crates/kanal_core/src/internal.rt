@@ -1,8 +1,7 @@
 //! The core: one channel as plain data, to be used by one caller at a time. Each call is one step of a line of
 //! messages: those of the buffer, then those of waiting senders. Where it is empty, receivers may wait.
 //!
-//! No other module uses `buffer` and `wait_list`. Whoever shares a core settles or drops what a call hands out only
-//! after the lock was released.
+//! Whoever shares a core settles or drops what a call hands out only after the lock was released.
 ghost use Rattle.std.specs.Prelude.{◌≡◌, ◌≢◌, ◌⊎◌, ◌≤◌, ℕ, false, ◌↔◌, [], true, length, map, IfOk, IfErr, IfNone, IsErr, IsErrOf, IsOk, IsSome, Some, None};
 ghost use Rattle.std.specs.Borrow.{sem};
 ghost use Rattle.std.specs.Fn.{FnReturnsAt};
@@ -39,7 +38,6 @@ pub use outcome::{Offer, Outcome, Reason, Settled, Take, Ticket, Waiter};
 pub use steps::Steps;
 use wait_list::WaitList;
 
-/// Gives the message to the oldest waiting receiver.
 #[cold]
 fn hand_over<T, W>(waiters: &mut WaitList<T, W>, message: T) -> Settled<T, W>
     requires one { receiver_first waiters.old ≡ true }
@@ -51,7 +49,6 @@ fn hand_over<T, W>(waiters: &mut WaitList<T, W>, message: T) -> Settled<T, W>
     }
 }
 
-/// Takes the oldest waiting sender's message.
 #[cold]
 fn pop_sender<T, W>(waiters: &mut WaitList<T, W>) -> (T, Settled<T, W>)
     requires one { sender_first waiters.old ≡ true }
@@ -63,7 +60,6 @@ fn pop_sender<T, W>(waiters: &mut WaitList<T, W>) -> (T, Settled<T, W>)
     }
 }
 
-/// Moves the oldest waiting sender's message to the buffer's back, where it has a place.
 #[inline(always)]
 fn let_in<T, W>(buffer: &mut Buffer<T>, waiters: &mut WaitList<T, W>) -> Option<Settled<T, W>>
     requires { sender_first waiters.old ≡ true → HasOnePlace buffer.old }
@@ -184,7 +180,6 @@ impl<T, W> ChannelInternal<T, W> {
         Ok(core)
     }
 
-    /// A channel over this empty buffer.
     fn empty(alloc: Global, buffer: Buffer<T>, capacity: Option<usize>) -> Self
         requires { buffer ≡ record { messages = []; limit = capacity } }
         ensures { result ≡ opening capacity }
@@ -269,7 +264,6 @@ impl<T, W> ChannelInternal<T, W> {
         }
     }
 
-    /// Takes the oldest waiting sender's message, where the buffer is empty.
     #[cold]
     fn take_waiting(&mut self) -> Take<T, W>
         requires open { self.old.receivers ≢ 0 }
@@ -416,11 +410,7 @@ impl<T, W> ChannelInternal<T, W> {
     }
 
     /// The ticket of the oldest waiter whose W passes the test.
-    ///
-    /// # Examples
-    /// ```text
-    /// core.first_waiter(|w| w.has_left())   answers  the ticket of the oldest that has left, or None
-    /// ```
+    /// Example: `core.first_waiter(|w| w.has_left())` answers the ticket of the oldest that has left, or None.
     pub fn first_waiter<F: Fn(&W) -> bool + Drop>(&self, test: F) -> Option<Ticket>
         requires { F.IsAlwaysCallable test }
         ensures { IsFirstWhere (FnReturnsAt F.Fn test) self.now.waiters result }

@@ -48,11 +48,7 @@ impl<T> Mutex<T> {
     }
 
     /// The value, after the lock's life.
-    ///
-    /// # Examples
-    /// ```text
-    /// Mutex::new(7).into_inner()   answers  7
-    /// ```
+    /// Example: `Mutex::new(7).into_inner()` answers `7`.
     pub fn into_inner(self) -> T {
         self.inner.into_inner()
     }

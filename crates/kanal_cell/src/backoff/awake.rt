@@ -25,7 +25,6 @@ pub(super) struct Asleep<P> {
 }
 
 impl<P: Drop> Awake<P> {
-    /// Over an end that may still sleep.
     pub(super) fn new(end: WaitEnd<P>) -> Self
         requires { MaySleep (wait_view end) }
         ensures { result.end ≡ end }
@@ -33,13 +32,11 @@ impl<P: Drop> Awake<P> {
         Awake { end }
     }
 
-    /// Whether the outcome is worth a poll.
     #[inline(always)]
     pub(super) fn is_settled(&self) -> bool {
         self.end.is_settled()
     }
 
-    /// The outcome, or the end back.
     pub(super) fn poll(self) -> Result<P, Self> {
         let Awake { mut end } = self;
         match end.poll() {
@@ -48,7 +45,6 @@ impl<P: Drop> Awake<P> {
         }
     }
 
-    /// The outcome, or the end that the settle will wake.
     pub(super) fn sleep(self) -> Result<P, Asleep<P>> {
         let Awake { mut end } = self;
         match end.sleep_here() {
@@ -59,7 +55,6 @@ impl<P: Drop> Awake<P> {
 }
 
 impl<P: Drop> Asleep<P> {
-    /// The outcome, if it is there.
     pub(super) fn poll(&mut self) -> Option<P> {
         self.end.poll()
     }
@@ -69,7 +64,6 @@ impl<P: Drop> Asleep<P> {
         self.end.park(rt);
     }
 
-    /// Sleeps for no longer than the duration.
     pub(super) fn park_timeout<R: Wait>(&self, rt: &R, duration: Duration) {
         self.end.park_timeout(rt, duration);
     }

@@ -8,7 +8,6 @@ use std::sync::Wait;
 use std::thread::Parker;
 use std::time::Duration;
 
-/// How many tries a round has.
 const ROUND: u32 = 5;
 
 /// How long a call naps at first, in nanoseconds; the system makes that some fifty thousand.

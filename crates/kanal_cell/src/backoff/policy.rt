@@ -20,11 +20,9 @@ const PAUSES: u32 = 23;
 /// How often it pauses where the buffer is long: whoever has the processor meanwhile fills it or empties it.
 const FEW_PAUSES: u32 = 14;
 
-/// How often a call yields at most.
 const YIELDS: u32 = 4;
 
-/// How much credit a call needs to yield, where the buffer is short. A wait that ended before it slept
-/// gives 1.
+/// How much credit a call needs to yield, where the buffer is short. A wait that ended before it slept gives 1.
 const COST: u64 = 8;
 
 /// How much credit it needs where the buffer is long.
@@ -72,12 +70,10 @@ impl WaitPolicy {
         }
     }
 
-    /// The first pause of a call that finds the lock held, as a power of two of spins.
     pub(super) fn first_pause(&self) -> u32 {
         self.first_pause
     }
 
-    /// Adds the credit of a wait that ended before it slept.
     fn add_credit(&self) {
         let credit = self.credit.load(SeqCst);
         if credit < MOST {
@@ -85,7 +81,6 @@ impl WaitPolicy {
         }
     }
 
-    /// Takes the credit that a call needs to yield, and answers whether there was so much.
     fn take_credit(&self) -> bool {
         let credit = self.credit.load(SeqCst);
         if credit < self.cost {
@@ -104,7 +99,6 @@ pub(super) struct Backoff<'a> {
 }
 
 impl<'a> Backoff<'a> {
-    /// Of a call that has not looked yet.
     pub(super) fn new(policy: &'a WaitPolicy) -> Self {
         Backoff { policy, count: 0 }
     }

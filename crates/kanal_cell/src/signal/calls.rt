@@ -1,7 +1,6 @@
 //! The calls on a running cell.
 //!
-//! A put comes before the step that gives its slot to the other end, and a take after the step that brought the
-//! slot.
+//! A put comes before the step that gives its slot to the other end, and a take after the step that brought the slot.
 ghost use Rattle.std.specs.Prelude.{◌≡◌, ◌↔◌, ◌∷◌, [], true, false, Some, None, if◌then◌else◌, IfOk, IsSome};
 ghost use Rattle.kanal_cell.specs.CellRule.{fresh, after_poll, after_sleep, after_leave, after_settle, HasNotLeft, HasNotSettled, MaySleep};
 ghost use Rattle.kanal_cell.specs.CellEnds.{AreOfOneCell, FindsOutcome, GoesOn, WasSettled, StaysAtCell, wait_view, settle_view, kept_waker};
@@ -29,8 +28,6 @@ const ASLEEP: u32 = 1;
 
 type TableWithSeats<P> = (CellTable<P>, EndSeat<P>, EndSeat<P>);
 
-/// A table for a cell, with the waiter's seat, which is lent the sleeper's slot, and the settler's, which
-/// is lent the outcome's.
 fn table_with_seats<P: Drop>(alloc: Global) -> Result<TableWithSeats<P>, NoMemory>
     ensures sized { IfOk result (λ made. (made.0.shared.table_id.words ≡ 1)
         × (made.0.shared.table_id.slots ≡ 2)) }
@@ -126,12 +123,10 @@ impl<P: Drop> WaitEnd<P> {
         self.signal.table.shared.peek(0) & ENDED != 0
     }
 
-    /// Registers a sleeper, by one atomic step, unless the outcome is there: then it is answered.
-    /// None: the settle that comes later will wake the sleeper, and a `poll` after that finds the
-    /// outcome.
+    /// Registers a sleeper, by one atomic step, unless the outcome is there: then it is answered. None: the settle
+    /// that comes later will wake the sleeper, and a `poll` after that finds the outcome.
     ///
-    /// It never waits: the caller parks after it. The end must not have left, slept or answered
-    /// the outcome.
+    /// It never waits: the caller parks after it. The end must not have left, slept or answered the outcome.
     ///
     /// ```
     /// let parker = Parker::new(alloc)?;
@@ -147,8 +142,7 @@ impl<P: Drop> WaitEnd<P> {
         self.register(Sleeper::Parker(sleeper))
     }
 
-    /// Registers a thread that then sleeps on the cell's own word, by `park` or `park_timeout`. It
-    /// needs no parker.
+    /// Registers a thread that then sleeps on the cell's own word, by `park` or `park_timeout`. It needs no parker.
     ///
     /// It never waits. The end must not have left, slept or answered the outcome.
     ///
@@ -190,7 +184,6 @@ impl<P: Drop> WaitEnd<P> {
             .park_timeout(rt, 0, ASLEEP, duration);
     }
 
-    /// Registers a sleeper of either kind.
     fn register(&mut self, sleeper: Sleeper) -> Option<P>
         requires unspent { MaySleep (wait_view self.old) }
         ensures step { GoesOn after_sleep (wait_view self.old) (wait_view self.new) }
@@ -315,7 +308,6 @@ impl<P: Drop> SettleEnd<P> {
         self.waker.replace(waker)
     }
 
-    /// Makes the step of a settle, and hands out whom it has to wake and the outcome that it took.
     fn end(&mut self, outcome: P) -> (Waking, Option<P>)
         requires unspent { HasNotSettled (settle_view self.old) }
         ensures step { GoesOn after_settle (settle_view self.old) (settle_view self.new) }

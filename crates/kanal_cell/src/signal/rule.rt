@@ -98,7 +98,6 @@ impl<P> Play<Option<Held<P>>, CellView> for SettlerBegins {
     ghost then = { settler_began };
 }
 
-/// The two ends part.
 pub(crate) struct CellParts;
 
 impl Split<CellView> for CellParts {
@@ -110,7 +109,6 @@ impl Split<CellView> for CellParts {
     ghost right = { λ _. fresh SettlerToBe };
 }
 
-/// The step of a sleep.
 pub(crate) struct Sleeps;
 
 impl<P> Play<Option<Held<P>>, CellView> for Sleeps {
@@ -119,7 +117,6 @@ impl<P> Play<Option<Held<P>>, CellView> for Sleeps {
     ghost then = { slept };
 }
 
-/// The step of a poll.
 pub(crate) struct Polls;
 
 impl<P> Play<Option<Held<P>>, CellView> for Polls {
@@ -128,7 +125,6 @@ impl<P> Play<Option<Held<P>>, CellView> for Polls {
     ghost then = { polled };
 }
 
-/// The step of a leave.
 pub(crate) struct Leaves;
 
 impl<P> Play<Option<Held<P>>, CellView> for Leaves {
@@ -137,7 +133,6 @@ impl<P> Play<Option<Held<P>>, CellView> for Leaves {
     ghost then = { quit };
 }
 
-/// The step of a settle.
 pub(crate) struct Settles;
 
 impl<P> Play<Option<Held<P>>, CellView> for Settles {
@@ -149,7 +144,6 @@ impl<P> Play<Option<Held<P>>, CellView> for Settles {
 /// One word and two slots, under the rule.
 pub(crate) type CellTable<P> = Table<Option<Held<P>>, CellView, (), SignalRule, Global>;
 
-/// The seat of an end at the table of its cell.
 pub(crate) type EndSeat<P> = Seat<Option<Held<P>>, CellView>;
 
 /// What the two ends share.

@@ -8,7 +8,7 @@ use super::SettleEnd;
 use super::waking::Woken;
 use std::snapshot::Snapshot;
 
-/// That a settler has settled its cell with an outcome, and has woken whom it had to. It has no bytes.
+/// That a settler has settled its cell with an outcome, and has woken whom it had to.
 #[derive(Drop)]
 pub struct SettleProof<P> {
     end: Snapshot<SettleEnd<P>>,
@@ -16,7 +16,6 @@ pub struct SettleProof<P> {
 }
 
 impl<P> SettleProof<P> {
-    /// Of the settler that has made its step, and of the outcome that it had.
     pub(super) fn new(end: &SettleEnd<P>, outcome: Snapshot<P>, woken: Woken) -> Self
         requires ended { (settle_view end.now).set.ended ≡ true }
         ensures { WasSettled result end.now outcome.value }

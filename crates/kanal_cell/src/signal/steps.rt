@@ -184,7 +184,6 @@ impl CellCore {
         }
     }
 
-    /// Gives the outcome to the waiter, if it stands in the cell.
     fn give(&mut self) -> Option<u64>
         ensures given { result ≡ (if is_home self.old then Some self.old.value else None) }
         ensures state { self.new ≡ record self.old { had = self.old.had || is_home self.old } }

@@ -8,7 +8,6 @@ use super::rule::{EndSeat, Sleeper};
 use crate::pointer::SharedSlot;
 use futures::task::Waker;
 
-/// Takes the kept waker out, to be woken with the sleeper. The settler of the seat has made its step.
 pub(super) fn take_out<P>(
     kept: &mut Option<Waker>,
     settler: &EndSeat<P>,
@@ -53,7 +52,6 @@ impl Drop for Waking {
 pub(super) struct Woken(());
 
 impl Waking {
-    /// Wakes the sleeper and the waker, at the cell that was settled.
     pub(super) fn wake<P>(self, cell: &SharedSlot<P>) -> Woken
         requires word { 0 < cell.now.table_id.words }
     {

@@ -1,7 +1,6 @@
 //! The buffer: a first-in first-out queue of messages, with a limit or without.
 //!
-//! A limited buffer has all its memory from the start, so that entering it is never refused for memory. Only the
-//! core holds one.
+//! A limited buffer has all its memory from the start, so that entering it is never refused for memory.
 ghost use Rattle.std.specs.Prelude.{◌≡◌, ◌+◌, ◌^◌, ◌<◌, ◌≤◌, [], ◌∷◌, ◌++◌, length, true, IfOk, IfErr, IsOk, OnOk, MatchOption, None, Some};
 ghost use Rattle.std.specs.Vec.{vec_capacity, vec_len};
 ghost use Rattle.kanal_core.specs.Line.{is_below};
@@ -12,18 +11,15 @@ use std::collections::VecDeque;
 use std::marker::Model;
 use std::mem;
 
-/// Where the messages lie.
+/// Where the messages lie: nowhere for a limit of 0, else in a ring of exactly so many places; without a limit
+/// in a deque.
 #[derive(Drop)]
 enum Store<T> {
-    /// For a limit of 0: nowhere.
     Nothing,
-    /// For a limit above 0: a ring of exactly so many places.
     Ring(HeapCircularBuffer<T>),
-    /// Without a limit: a deque that grows.
     Deque(VecDeque<T>),
 }
 
-/// Messages, oldest first.
 #[derive(Drop)]
 pub struct Buffer<T> {
     store: Store<T>,
@@ -40,7 +36,6 @@ impl<T> Model for Buffer<T> {
 }
 
 impl<T> Buffer<T> {
-    /// An empty buffer with room for so many messages; for none it asks for no memory.
     pub fn bounded(alloc: Global, limit: usize) -> Result<Self, AllocError>
         ensures new { IfOk result (λ b. b ≡ record { messages = []; limit = Some limit }) }
         ensures without_places { limit ≡ 0 → IsOk result }
@@ -56,7 +51,6 @@ impl<T> Buffer<T> {
         })
     }
 
-    /// An empty buffer without limit, which has no memory yet.
     pub fn unbounded(alloc: Global) -> Self
         ensures { result ≡ record { messages = []; limit = None } }
     {
@@ -65,7 +59,6 @@ impl<T> Buffer<T> {
         }
     }
 
-    /// How many messages there are.
     pub fn len(&self) -> usize
         ensures len { result ≡ length self.now.messages }
         ensures small { result < 2 ^ 63 }
@@ -77,7 +70,6 @@ impl<T> Buffer<T> {
         }
     }
 
-    /// Whether one more message is within the limit.
     #[inline]
     pub fn has_place(&self) -> bool
         ensures { result ≡ is_below (length self.now.messages) self.now.limit }
@@ -89,7 +81,6 @@ impl<T> Buffer<T> {
         }
     }
 
-    /// Puts a message at the back, or gives it back where an unlimited buffer finds no memory.
     #[inline(always)]
     pub fn push_back(&mut self, message: T) -> Result<(), T>
         requires { is_below (length self.old.messages) self.old.limit ≡ true }
@@ -114,7 +105,6 @@ impl<T> Buffer<T> {
         }
     }
 
-    /// Takes the front message out.
     #[inline]
     pub fn pop_front(&mut self) -> Option<T>
         ensures { MatchOption result ((self.old.messages ≡ []) × (self.new ≡ self.old))
@@ -127,7 +117,6 @@ impl<T> Buffer<T> {
         }
     }
 
-    /// Moves all messages to the vector's end, which has the room.
     pub fn move_into(&mut self, into: &mut Vec<T>)
         requires { vec_len into.old + length self.old.messages ≤ vec_capacity into.old }
         ensures moved { into.new.items ≡ into.old.items ++ self.old.messages }
@@ -140,7 +129,6 @@ impl<T> Buffer<T> {
         }
     }
 
-    /// Moves the whole buffer out, and leaves one that takes nothing.
     pub fn take_all(&mut self) -> Buffer<T>
         ensures out { result ≡ self.old }
         ensures left { self.new ≡ record { messages = []; limit = Some 0 } }

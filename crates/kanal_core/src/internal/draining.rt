@@ -13,7 +13,6 @@ use super::ChannelInternal;
 use super::leaving::Ended;
 use crate::error::DrainError;
 
-/// Gets room for so many more at the vector's end, and asks for memory only where there is less.
 fn reserve<T>(into: &mut Vec<T>, count: usize) -> Result<(), DrainError>
     ensures items { into.new.items ≡ into.old.items }
     ensures len { vec_len into.new ≡ vec_len into.old }
@@ -34,9 +33,8 @@ fn reserve<T>(into: &mut Vec<T>, count: usize) -> Result<(), DrainError>
 }
 
 impl<T, W> ChannelInternal<T, W> {
-    /// Moves the whole line to the vector's end: the buffer, front first, and then the messages of
-    /// the senders that wait, who are settled as taken. The answer is how many messages that were,
-    /// and those senders.
+    /// Moves the whole line to the vector's end: the buffer, front first, and then the messages of the senders that
+    /// wait, who are settled as taken. The answer is how many messages that were, and those senders.
     ///
     /// What the vector had stays its beginning. Receivers that wait stay, too: there is no message
     /// then, and the answer is 0.

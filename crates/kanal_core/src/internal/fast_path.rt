@@ -12,8 +12,7 @@ impl<T, W> ChannelInternal<T, W> {
     /// Puts the message at the buffer's end, where a receiver and a sender are left, nobody waits and there
     /// is a place.
     ///
-    /// Otherwise, and where a buffer without limit can't grow, it comes back, and nothing changes: `offer`
-    /// says why.
+    /// Otherwise, and where a buffer without limit can't grow, it comes back, and nothing changes: `offer` says why.
     ///
     /// # Examples
     /// ```text

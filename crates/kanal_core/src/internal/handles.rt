@@ -12,7 +12,6 @@ use super::leaving::{Cleared, Closing, Ended};
 use super::outcome::Reason;
 use crate::error::{CloseError, TooMany};
 
-/// The count with one more handle, where what is 0 stays 0.
 fn one_more(count: u32) -> Result<u32, TooMany>
     ensures more { IfOk result (λ n. n ≡ raised count) }
     ensures most { IsErr result ↔ (count ≡ last_count) }

@@ -1,7 +1,6 @@
 //! What moves out of the core: ended waits, cleared messages, and what is left at a channel's end.
 //!
-//! It moves as it stood and asks for no memory: waiters are settled and messages dropped after the lock was
-//! released.
+//! It moves as it stood and asks for no memory: waiters are settled and messages dropped after the lock was released.
 ghost use Rattle.std.specs.Prelude.{◌≡◌, ◌+◌, ◌≤◌, [], ◌∷◌, ◌++◌, cond, length, map};
 ghost use Rattle.std.specs.Vec.{vec_capacity, vec_len};
 ghost use Rattle.kanal_core.specs.Calls.{TakesFirst};
@@ -15,17 +14,14 @@ use super::wait_list::WaitList;
 use std::alloc::Global;
 use std::marker::Model;
 
-/// What became of all waiters of one step.
 #[derive(Clone, Copy)]
 enum Ending {
     /// The senders' messages were taken, and have moved out already.
     Taken,
-    /// The waits ended for this reason.
     For(Reason),
 }
 
 impl Ending {
-    /// The waiter with what became of it.
     fn settle<T, W>(self, waiter: Waiter<T, W>) -> Settled<T, W>
         requires { HaveMovedOut self (waiter ∷ []) }
         ensures { result ≡ settled_by self waiter }
@@ -63,7 +59,6 @@ impl<T, W> Model for Ended<T, W> {
 }
 
 impl<T, W> Ended<T, W> {
-    /// Moves all waiters out of the list, ended for this reason.
     pub(crate) fn all(waiters: &mut WaitList<T, W>, reason: Reason, alloc: Global) -> Self
         ensures ended { result ≡ map (ended_by reason) waiters.old }
         ensures left { waiters.new ≡ [] }
@@ -74,8 +69,6 @@ impl<T, W> Ended<T, W> {
         }
     }
 
-    /// Moves the messages of waiting senders to the vector's end, which has the room, and the
-    /// senders out of the list. Receivers stay.
     pub(crate) fn taken(waiters: &mut WaitList<T, W>, into: &mut Vec<T>, alloc: Global) -> Self
         requires room { vec_len into.old + cond (sender_first waiters.old) (length waiters.old) 0
             ≤ vec_capacity into.old }
@@ -95,7 +88,6 @@ impl<T, W> Ended<T, W> {
         }
     }
 
-    /// No wait ended.
     pub(crate) fn nobody(alloc: Global) -> Self
         ensures { result ≡ [] }
     {
@@ -132,7 +124,6 @@ impl<T> Model for Cleared<T> {
 }
 
 impl<T> Cleared<T> {
-    /// The messages of this buffer.
     pub(crate) fn new(buffer: Buffer<T>) -> Self
         ensures { result ≡ buffer.messages }
     {
@@ -172,7 +163,6 @@ impl<T, W> Model for Remaining<T, W> {
 }
 
 impl<T: Drop, W: Drop> Remaining<T, W> {
-    /// What this buffer holds and these waiters brought.
     pub(crate) fn new(buffer: Buffer<T>, waiters: WaitList<T, W>) -> Self
         ensures { result ≡ buffer.messages ++ brought waiters }
     {

@@ -1,6 +1,4 @@
 //! The links between slots: each names the place before it and the place after it.
-//!
-//! Only the list of waiters links them.
 ghost use Rattle.std.specs.Prelude.{◌≡◌, ℕ};
 ghost use Rattle.slab.specs.Slab.{get, slab_len};
 ghost use Rattle.kanal_core.specs.Links.{end_after, front_with, link_after, link_before};
@@ -10,7 +8,6 @@ use super::slots::Slots;
 use super::steps::Steps;
 use std::sync::ledger::Ledger;
 
-/// Writes which place is after the slot at `at`, if a slot is there.
 pub fn set_after<T, W, L: Ledger>(
     slots: &mut Slots<T, W>,
     at: Option<usize>,
@@ -28,7 +25,6 @@ pub fn set_after<T, W, L: Ledger>(
     }
 }
 
-/// Writes which place is before the slot at `at`, if a slot is there.
 pub fn set_before<T, W, L: Ledger>(
     slots: &mut Slots<T, W>,
     at: Option<usize>,

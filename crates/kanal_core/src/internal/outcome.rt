@@ -33,7 +33,6 @@ pub struct Waiter<T, W> {
 }
 
 impl<T, W> Waiter<T, W> {
-    /// A waiting receiver is given the message.
     pub(crate) fn given(self, message: T) -> Settled<T, W>
         requires { self.message ≡ None }
         ensures { result
@@ -54,7 +53,6 @@ impl<T, W> Waiter<T, W> {
         }
     }
 
-    /// A waiting sender's message is taken.
     pub(crate) fn taken(self) -> (T, Settled<T, W>)
         requires { IsSome self.message }
         ensures message { self.message ≡ Some result.0 }

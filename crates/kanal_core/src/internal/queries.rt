@@ -9,11 +9,7 @@ use super::ChannelInternal;
 
 impl<T, W> ChannelInternal<T, W> {
     /// How many messages are in the buffer.
-    ///
-    /// # Examples
-    /// ```text
-    /// core.len()   answers  1   after one message entered a bounded channel for two
-    /// ```
+    /// Example: `core.len()` answers `1` after one message entered a bounded channel for two.
     pub fn len(&self) -> usize
         ensures { result ≡ buffered (line_of self.now) }
     {
@@ -21,11 +17,7 @@ impl<T, W> ChannelInternal<T, W> {
     }
 
     /// Whether no message is in the buffer, whoever waits.
-    ///
-    /// # Examples
-    /// ```text
-    /// core.is_empty()   answers  false   after one message entered
-    /// ```
+    /// Example: `core.is_empty()` answers `false` after one message entered.
     pub fn is_empty(&self) -> bool
         ensures { result ≡ buffered (line_of self.now) == 0 }
     {
@@ -33,11 +25,7 @@ impl<T, W> ChannelInternal<T, W> {
     }
 
     /// Whether the buffer is at the capacity: always at capacity 0, and never without a limit.
-    ///
-    /// # Examples
-    /// ```text
-    /// core.is_full()   answers  true   after one message entered a bounded channel for one
-    /// ```
+    /// Example: `core.is_full()` answers `true` after one message entered a bounded channel for one.
     pub fn is_full(&self) -> bool
         ensures { result ≡ is_at (buffered (line_of self.now)) self.now.capacity }
     {
@@ -48,11 +36,7 @@ impl<T, W> ChannelInternal<T, W> {
     }
 
     /// Whether the channel has a limit.
-    ///
-    /// # Examples
-    /// ```text
-    /// core.is_bounded()   answers  true   for a channel that `new` made
-    /// ```
+    /// Example: `core.is_bounded()` answers `true` for a channel that `new` made.
     pub fn is_bounded(&self) -> bool
         ensures { result ≡ is_bounded self.now.capacity }
     {
@@ -76,11 +60,7 @@ impl<T, W> ChannelInternal<T, W> {
     }
 
     /// How many receivers there are.
-    ///
-    /// # Examples
-    /// ```text
-    /// core.receiver_count()   answers  1   for a new channel
-    /// ```
+    /// Example: `core.receiver_count()` answers `1` for a new channel.
     pub fn receiver_count(&self) -> u32
         ensures { result ≡ self.now.receivers }
     {
@@ -88,11 +68,7 @@ impl<T, W> ChannelInternal<T, W> {
     }
 
     /// How many senders there are.
-    ///
-    /// # Examples
-    /// ```text
-    /// core.sender_count()   answers  1   for a new channel
-    /// ```
+    /// Example: `core.sender_count()` answers `1` for a new channel.
     pub fn sender_count(&self) -> u32
         ensures { result ≡ self.now.senders }
     {
@@ -100,11 +76,7 @@ impl<T, W> ChannelInternal<T, W> {
     }
 
     /// Whether both sides are gone.
-    ///
-    /// # Examples
-    /// ```text
-    /// core.is_closed()   answers  true   after a close
-    /// ```
+    /// Example: `core.is_closed()` answers `true` after a close.
     pub fn is_closed(&self) -> bool
         ensures { result ≡ (self.now.senders == 0) && (self.now.receivers == 0) }
     {
@@ -112,11 +84,7 @@ impl<T, W> ChannelInternal<T, W> {
     }
 
     /// Whether no sender is left.
-    ///
-    /// # Examples
-    /// ```text
-    /// core.send_side_gone()   answers  true   after the last sender was dropped
-    /// ```
+    /// Example: `core.send_side_gone()` answers `true` after the last sender was dropped.
     pub fn send_side_gone(&self) -> bool
         ensures { result ≡ self.now.senders == 0 }
     {
@@ -124,11 +92,7 @@ impl<T, W> ChannelInternal<T, W> {
     }
 
     /// Whether no receiver is left.
-    ///
-    /// # Examples
-    /// ```text
-    /// core.receive_side_gone()   answers  true   after the last receiver was dropped
-    /// ```
+    /// Example: `core.receive_side_gone()` answers `true` after the last receiver was dropped.
     pub fn receive_side_gone(&self) -> bool
         ensures { result ≡ self.now.receivers == 0 }
     {
@@ -137,11 +101,7 @@ impl<T, W> ChannelInternal<T, W> {
 
     /// Whether no sender is left and no message is in the line, those of waiting senders included, so
     /// that no message will come.
-    ///
-    /// # Examples
-    /// ```text
-    /// core.is_terminated()   answers  true   after the last sender was dropped and the buffer taken
-    /// ```
+    /// Example: `core.is_terminated()` answers `true` after the last sender was dropped and the buffer taken.
     pub fn is_terminated(&self) -> bool
         ensures { result ≡ (self.now.senders == 0) && (length (line_of self.now).line == 0) }
     {
@@ -149,11 +109,7 @@ impl<T, W> ChannelInternal<T, W> {
     }
 
     /// Whether a further wait gets a ticket. Where it doesn't, the wait is refused as `TooMany`.
-    ///
-    /// # Examples
-    /// ```text
-    /// core.has_ticket()   answers  true   in a new core
-    /// ```
+    /// Example: `core.has_ticket()` answers `true` in a new core.
     pub fn has_ticket(&self) -> bool
         ensures { result ≡ not (self.now.next == last_word) }
     {

@@ -1,7 +1,7 @@
 //! The slots that waiters stand in, each way to one of them counted.
 //!
-//! Only the list of waiters holds slots. A slot in use is reached by `get`, `get_mut` and `try_remove` alone, and
-//! each of them is a visit, which raises the count that it is lent by one.
+//! A slot in use is reached by `get`, `get_mut` and `try_remove` alone. Each is a visit, which raises the lent
+//! count by one.
 ghost use Rattle.std.specs.Prelude.{◌≡◌, ◌+◌, [], IsSome, IfNone, OnOk, OnSome, None, Some, option_copied};
 ghost use Rattle.std.specs.Borrow.{sem};
 ghost use Rattle.std.specs.Option.{option_copied_mut, option_map};
@@ -15,7 +15,6 @@ use slab::Slab;
 use std::alloc::{AllocError, Global};
 use std::sync::ledger::Ledger;
 
-/// A waiter, and the places of those before and after it.
 #[derive(Drop)]
 pub struct Slot<T, W> {
     pub waiter: Waiter<T, W>,
@@ -26,7 +25,6 @@ pub struct Slot<T, W> {
 impl<T, W> Slot<T, W> {
     ghost use Rattle.kanal_core.specs.SlotLends.{lends_own_w};
 
-    /// Lends the W of the waiter.
     fn w_mut(&mut self) -> &mut W
         ensures* writes_back { sem 𝓛 (lends_own_w T.row W.row self.entry result) }
         ensures value { result.now ≡ self.old.waiter.w }
@@ -45,7 +43,6 @@ pub struct Slots<T, W> {
 impl<T, W> Slots<T, W> {
     ghost use Rattle.kanal_core.specs.SlotsLends.{lends_slot, slots_lends_w};
 
-    /// No slots, which have no memory yet.
     pub fn new(alloc: Global) -> Self
         ensures { result.slab.slots ≡ [] }
     {
@@ -54,7 +51,6 @@ impl<T, W> Slots<T, W> {
         }
     }
 
-    /// How many slots are in use.
     #[inline(always)]
     pub fn len(&self) -> usize
         ensures { result ≡ slab_len self.now.slab }
@@ -62,7 +58,6 @@ impl<T, W> Slots<T, W> {
         self.slab.len()
     }
 
-    /// Gets room for one slot more.
     pub fn reserve(&mut self) -> Result<(), AllocError>
         ensures room { OnOk result (HasRoomFor self.new.slab 1) }
         ensures slots { self.new.slab.slots ≡ self.old.slab.slots }
@@ -71,7 +66,6 @@ impl<T, W> Slots<T, W> {
         self.slab.reserve(1)
     }
 
-    /// The place of the next slot that is put in.
     pub fn vacant_place(&self) -> usize
         ensures value { result ≡ self.now.slab.vacant_key }
         ensures vacant { get self.now.slab result ≡ None }
@@ -79,7 +73,6 @@ impl<T, W> Slots<T, W> {
         self.slab.vacant_key()
     }
 
-    /// Puts a slot in, where there is room for it.
     pub fn insert(&mut self, slot: Slot<T, W>)
         requires { HasRoomFor self.old.slab 1 }
         ensures updates { Updates self.old.slab self.new.slab self.old.slab.vacant_key (Some slot) }
@@ -88,7 +81,6 @@ impl<T, W> Slots<T, W> {
         self.slab.insert_reserved(slot);
     }
 
-    /// Visits the slot at the place.
     pub fn get<L: Ledger>(&self, place: usize, steps: &mut Steps<L>) -> Option<&Slot<T, W>>
         ensures value { option_copied result ≡ get self.now.slab place }
         ensures step { steps.new ≡ one_visit_more steps.old }
@@ -97,7 +89,6 @@ impl<T, W> Slots<T, W> {
         self.slab.get(place)
     }
 
-    /// Visits the slot at the place, to change it.
     pub fn get_mut<L: Ledger>(
         &mut self,
         place: usize,
@@ -111,7 +102,6 @@ impl<T, W> Slots<T, W> {
         self.slab.get_mut(place)
     }
 
-    /// Lends the W of the waiter at the place.
     pub fn w_mut<L: Ledger>(&mut self, place: usize, steps: &mut Steps<L>) -> &mut W
         requires { IsSome (get self.old.slab place) }
         ensures* writes_back { sem 𝓛 (slots_lends_w T.row W.row self.entry place result) }
@@ -125,7 +115,6 @@ impl<T, W> Slots<T, W> {
         }
     }
 
-    /// Visits the slot at the place, and takes it out.
     pub fn try_remove<L: Ledger>(
         &mut self,
         place: usize,

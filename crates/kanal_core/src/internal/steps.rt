@@ -25,7 +25,6 @@ impl<L: Ledger> Model for Tokens<L> {
 }
 
 impl<L: Ledger> Tokens<L> {
-    /// One token more.
     fn tick(&mut self)
         ensures { self.new ≡ self.old + 1 }
     {
@@ -79,7 +78,6 @@ impl<L: Ledger> Steps<L> {
         Steps { tokens: None }
     }
 
-    /// Takes one step.
     pub(crate) fn tick(&mut self)
         ensures { self.new ≡ one_visit_more self.old }
     {

@@ -1,7 +1,6 @@
 //! The list of those that wait, oldest first.
 //!
-//! A ticket has the place of its waiter's slot, which no other module reads. A place is used again, and the
-//! ticket's number then tells the two apart.
+//! A ticket has the place of its waiter's slot. A place is used again; the ticket's number then tells the two apart.
 ghost use Rattle.std.specs.Prelude.{◌≡◌, ◌+◌, ◌≤◌, ◌↔◌, ℕ, [], ◌++◌, cond, true, drop, length, map, slice_get, IfErr, IfNone, IfOk, IfSome, option_copied};
 ghost use Rattle.std.specs.Vec.{vec_capacity, vec_len};
 ghost use Rattle.std.specs.Borrow.{sem};
@@ -22,7 +21,6 @@ use std::marker::{Brand, Model};
 use std::mem;
 use std::sync::ledger::Ledger;
 
-/// Waiters, oldest first.
 #[derive(Drop)]
 pub struct WaitList<T, W> {
     slots: Slots<T, W>,
@@ -45,7 +43,6 @@ impl<T, W> Model for WaitList<T, W> {
         (walk (slab_len l.slots.slab) l.slots.slab l.first) };
 }
 
-/// Whether the waiter with the ticket stands at the ticket's place.
 fn is_at<T, W, L: Ledger>(slots: &Slots<T, W>, ticket: Ticket, steps: &mut Steps<L>) -> bool
     ensures value { result ≡ has_ticket ticket (get slots.now.slab ticket.place) }
     ensures step { steps.new ≡ one_visit_more steps.old }
@@ -56,7 +53,6 @@ fn is_at<T, W, L: Ledger>(slots: &Slots<T, W>, ticket: Ticket, steps: &mut Steps
     }
 }
 
-/// What the test answers of a W.
 fn passes<W, F: Fn(&W) -> bool>(test: &F, w: &W) -> bool
     requires { F.IsAlwaysCallable test.now }
     ensures { FnReturnsAt F.Fn test.now w.now result }
@@ -68,7 +64,6 @@ impl<T, W> WaitList<T, W> {
     ghost use Rattle.kanal_core.specs.ListLends.{list_lends_w};
     ghost use Rattle.kanal_core.specs.declared.internal.outcome.Waiter.{Waiter};
 
-    /// A list that nobody waits in, which has no memory yet.
     pub fn new(alloc: Global) -> Self
         ensures { result ≡ [] }
     {
@@ -79,7 +74,6 @@ impl<T, W> WaitList<T, W> {
         }
     }
 
-    /// The oldest waiter.
     #[inline]
     fn front(&self) -> Option<&Waiter<T, W>>
         ensures { option_copied result ≡ slice_get self.now 0 }
@@ -89,7 +83,6 @@ impl<T, W> WaitList<T, W> {
         Some(&slot.waiter)
     }
 
-    /// Whether nobody waits.
     #[inline(always)]
     pub fn is_empty(&self) -> bool
         ensures { (result ≡ true) ↔ (self.now ≡ []) }
@@ -97,7 +90,6 @@ impl<T, W> WaitList<T, W> {
         self.len() == 0
     }
 
-    /// Whether receivers wait, where all that wait are of one side.
     #[inline]
     pub fn receiver_first(&self) -> bool
         ensures { result ≡ receiver_first self.now }
@@ -108,7 +100,6 @@ impl<T, W> WaitList<T, W> {
         }
     }
 
-    /// Whether senders wait, where all that wait are of one side.
     #[inline]
     pub fn sender_first(&self) -> bool
         ensures { result ≡ sender_first self.now }
@@ -119,7 +110,6 @@ impl<T, W> WaitList<T, W> {
         }
     }
 
-    /// How many wait.
     #[inline(always)]
     fn len(&self) -> usize
         ensures { result ≡ length self.now }
@@ -127,15 +117,12 @@ impl<T, W> WaitList<T, W> {
         self.slots.len()
     }
 
-    /// How many senders wait, where all that wait are of one side.
     pub fn senders_len(&self) -> usize
         ensures { result ≡ cond (sender_first self.now) (length self.now) 0 }
     {
         if self.sender_first() { self.len() } else { 0 }
     }
 
-    /// Puts a waiter at the end under a ticket with this number, or gives message and W back where
-    /// there is no memory.
     pub fn push_back(
         &mut self,
         number: u64,
@@ -164,7 +151,6 @@ impl<T, W> WaitList<T, W> {
         Ok(ticket)
     }
 
-    /// Takes the waiter at the place out, and links those before and after it to each other.
     fn unlink<L: Ledger>(&mut self, place: usize, steps: &mut Steps<L>) -> Option<Waiter<T, W>>
         ensures some { IfSome result (λ w. (w.ticket.place ≡ place)
             × IsOneOut self.old self.new w) }
@@ -186,7 +172,6 @@ impl<T, W> WaitList<T, W> {
         Some(waiter)
     }
 
-    /// Takes the oldest waiter out.
     pub fn pop_front(&mut self) -> Option<Waiter<T, W>>
         ensures { TakesFirst result self.old self.new }
     {
@@ -230,8 +215,6 @@ impl<T, W> WaitList<T, W> {
         }
     }
 
-    /// Moves what the waiters brought to the vector's end, which has the room, and leaves them
-    /// without a message.
     pub fn move_messages(&mut self, into: &mut Vec<T>)
         requires { vec_len into.old + length self.old ≤ vec_capacity into.old }
         ensures moved { into.new.items ≡ into.old.items ++ brought self.old }
@@ -251,7 +234,6 @@ impl<T, W> WaitList<T, W> {
         }
     }
 
-    /// Moves the whole list out, and leaves one that nobody waits in.
     pub fn take_all(&mut self, alloc: Global) -> WaitList<T, W>
         ensures out { result ≡ self.old }
         ensures left { self.new ≡ [] }
@@ -259,7 +241,6 @@ impl<T, W> WaitList<T, W> {
         mem::replace(self, WaitList::new(alloc))
     }
 
-    /// Takes the waiter with the ticket out, if it is there. It visits four slots at most.
     pub fn remove<L: Ledger>(
         &mut self,
         ticket: Ticket,
@@ -276,7 +257,6 @@ impl<T, W> WaitList<T, W> {
         self.unlink(ticket.place, steps)
     }
 
-    /// Lends the W of the waiter with the ticket, if it is there.
     pub fn waiting(&mut self, ticket: Ticket) -> Option<&mut W>
         ensures* writes_back { sem 𝓛 (list_lends_w T.row W.row self.entry ticket result) }
         ensures value { option_copied_mut result
@@ -289,7 +269,6 @@ impl<T, W> WaitList<T, W> {
         Some(self.slots.w_mut(ticket.place, &mut steps))
     }
 
-    /// The ticket of the first waiter, from the one at this place on, whose W passes the test.
     fn first_from<F: Fn(&W) -> bool + Drop>(&self, from: Option<usize>, test: F) -> Option<Ticket>
         requires { F.IsAlwaysCallable test }
         ensures { (i : ℕ) → from ≡ first_place (drop i self.now)
@@ -312,7 +291,6 @@ impl<T, W> WaitList<T, W> {
         None
     }
 
-    /// The ticket of the oldest waiter whose W passes the test.
     pub fn first_waiter<F: Fn(&W) -> bool + Drop>(&self, test: F) -> Option<Ticket>
         requires { F.IsAlwaysCallable test }
         ensures { IsFirstWhere (FnReturnsAt F.Fn test) self.now result }
@@ -320,7 +298,6 @@ impl<T, W> WaitList<T, W> {
         self.first_from(self.first, test)
     }
 
-    /// The ticket of the oldest waiter behind the one with this ticket whose W passes the test.
     pub fn next_waiter<F: Fn(&W) -> bool + Drop>(&self, ticket: Ticket, test: F) -> Option<Ticket>
         requires { F.IsAlwaysCallable test }
         ensures { IsFirstWhere (FnReturnsAt F.Fn test) (behind ticket self.now) result }

@@ -1,7 +1,6 @@
 //! The events that a channel can be put through, and what it replies to each.
 //!
-//! Plain data: no other module defines an event or a reply. What an event does to a channel, and what it
-//! tells, is said by `step` and `Tells` of `specs/Steps.antt`.
+//! What an event does to a channel, and what it tells, is said by `step` and `Tells` of `specs/Steps.antt`.
 ghost use Rattle.std.specs.Prelude.{◌≡◌};
 ghost use Rattle.kanal_events.specs.Steps.{is_done as tells_done, is_no_memory as tells_no_memory, message_of};
 
@@ -133,7 +132,6 @@ pub enum Reply<T> {
 
 impl<T: Drop> Event<T> {
     /// The refusal of this event, which gives its message back where it has one.
-    /// Example: `Event::Send(7).refused(Refusal::Closed)` answers `Refused(Closed, Some(7))`.
     pub fn refused(self, reason: Refusal) -> Reply<T>
         ensures { result ≡ Reply.Refused reason (message_of self) }
     {
@@ -146,7 +144,6 @@ impl<T: Drop> Event<T> {
 
 impl<T> Reply<T> {
     /// Whether the reply says that there was no memory.
-    /// Example: `Reply::Refused(Refusal::NoMemory, Some(7)).is_no_memory()` answers `true`.
     pub fn is_no_memory(&self) -> bool
         ensures { result ≡ tells_no_memory self.now }
     {
@@ -154,7 +151,6 @@ impl<T> Reply<T> {
     }
 
     /// Whether the reply says that what was asked was done: a clone, a drop or a seal.
-    /// Example: `Reply::Done.is_done()` answers `true`.
     pub fn is_done(&self) -> bool
         ensures { result ≡ tells_done self.now }
     {

@@ -14,9 +14,7 @@ use std::snapshot::Snapshot;
 /// What a vector held before a drain and after it, for proofs alone. It has no bytes.
 #[derive(Drop)]
 pub struct DrainSnapshot<T> {
-    /// What it held before.
     pub before: Snapshot<Vec<T>>,
-    /// What it held after.
     pub after: Snapshot<Vec<T>>,
 }
 
@@ -66,7 +64,6 @@ impl<T: Drop, W: Drop> Drop for Wakeup<T, W> {
 }
 
 impl<T: Drop, W: Drop> Wakeup<T, W> {
-    /// A wait that was settled, and of which nobody was told yet.
     #[inline(always)]
     pub(crate) fn new(settled: Settled<T, W>) -> Self
         ensures { result.settled ≡ settled }
@@ -77,7 +74,6 @@ impl<T: Drop, W: Drop> Wakeup<T, W> {
         }
     }
 
-    /// Who is owed, where a wait was settled.
     #[inline(always)]
     pub(crate) fn from_settled(settled: Option<Settled<T, W>>) -> Option<Self>
         ensures { owed_by result ≡ settlements settled }
@@ -91,13 +87,6 @@ impl<T: Drop, W: Drop> Wakeup<T, W> {
 
 impl<T: Drop, W: Waits<T>> Wakeup<T, W> {
     /// Tells who waits what became of the wait, with what was seen of it. The lock is released.
-    ///
-    /// # Examples
-    /// ```text
-    /// while let Some(owed) = made.next() {
-    ///     owed.tell(pass.again(&log), &released);
-    /// }
-    /// ```
     #[cold]
     pub fn tell(self, seen: W::Seen, released: &W::Released) -> W::Evidence
         requires seen { W.shows seen (owed_of self) }
@@ -114,7 +103,6 @@ impl<T: Drop, W: Waits<T>> Wakeup<T, W> {
 
 impl<T: Drop> Wakeup<T, ()> {
     /// The ticket's number, and what became of its wait, where nobody is there to be told.
-    /// Example: `made.next()?.into_settlement()` answers `(0, Outcome::Taken)`.
     pub fn into_settlement(self) -> (u64, Outcome<T>)
         ensures { result ≡ owed_of self }
     {
@@ -131,15 +119,10 @@ impl<T: Drop> Wakeup<T, ()> {
     }
 }
 
-/// What left the core at a step.
 enum Leaving<T, W> {
-    /// A reply, and at most one wait that was settled.
     One(Reply<T>, Option<Settled<T, W>>),
-    /// A reply, and the waits that were settled.
     All(Reply<T>, Ended<T, W>),
-    /// A close, with the waits that it ended and the messages that it cleared.
     Shut(Closing<T, W>),
-    /// A drain of so many messages, with the waits that it settled and what it moved.
     Drained(usize, Ended<T, W>, DrainSnapshot<T>),
 }
 
@@ -173,14 +156,12 @@ impl<T: Drop, W: Drop> Drop for StepResult<T, W> {
 
 impl<T: Drop, W: Drop> StepResult<T, W> {
     /// A reply that settles no wait.
-    /// Example: `StepResult::replied(Reply::Nothing)` tells that nothing was there.
     pub fn replied(reply: Reply<T>) -> Self
         ensures { result ≡ record { leaving = Leaving.One reply None } }
     {
         StepResult::one(reply, None)
     }
 
-    /// A reply, and the wait that was settled, if one was.
     #[inline(always)]
     pub(crate) fn one(reply: Reply<T>, settled: Option<Settled<T, W>>) -> Self
         ensures { result ≡ record { leaving = Leaving.One reply settled } }
@@ -190,7 +171,6 @@ impl<T: Drop, W: Drop> StepResult<T, W> {
         }
     }
 
-    /// A reply, and the waits that were settled.
     pub(crate) fn all(reply: Reply<T>, ended: Ended<T, W>) -> Self
         ensures { result ≡ record { leaving = Leaving.All reply ended } }
     {
@@ -199,7 +179,6 @@ impl<T: Drop, W: Drop> StepResult<T, W> {
         }
     }
 
-    /// A close, with the waits that it ended and the messages that it cleared.
     pub(crate) fn shut(closing: Closing<T, W>) -> Self
         ensures { result ≡ record { leaving = Leaving.Shut closing } }
     {
@@ -208,7 +187,6 @@ impl<T: Drop, W: Drop> StepResult<T, W> {
         }
     }
 
-    /// A drain of so many messages, with the waits that it settled and what it moved.
     pub(crate) fn drained(count: usize, ended: Ended<T, W>, moved: DrainSnapshot<T>) -> Self
         ensures { result ≡ record { leaving = Leaving.Drained count ended moved } }
     {
@@ -218,8 +196,6 @@ impl<T: Drop, W: Drop> StepResult<T, W> {
     }
 
     /// Hands out the next wait that it settled, the oldest first.
-    /// Example: `made.next()` answers `Some(owed)` where a receiver waited for what was sent, and `made.next()`
-    /// answers `None` after that.
     pub fn next(&mut self) -> Option<Wakeup<T, W>>
         ensures next { MatchOption result ((settled_of self.old ≡ []) × (settled_of self.new ≡ []))
             (λ o. settled_of self.old ≡ owed_of o ∷ settled_of self.new) }
@@ -239,7 +215,6 @@ impl<T: Drop, W: Drop> StepResult<T, W> {
     }
 
     /// The reply, and the messages that a close cleared, once no wait is in it.
-    /// Example: `made.into_parts()` answers `(Reply::Sent, None)`.
     pub fn into_parts(self) -> (Reply<T>, Option<Cleared<T>>)
         requires nobody { settled_of self ≡ [] }
         ensures reply { result.0 ≡ reply_of self }
@@ -270,7 +245,6 @@ impl<T: Drop, W: Drop> StepResult<T, W> {
     }
 
     /// Whether the reply says that there was no memory.
-    /// Example: `made.lacks_memory()` answers `true` where the reply is Refused(NoMemory, ..).
     pub fn lacks_memory(&self) -> bool
         ensures { result ≡ is_no_memory (reply_of self.now) }
     {
@@ -283,7 +257,6 @@ impl<T: Drop, W: Drop> StepResult<T, W> {
     }
 
     /// Whether the reply says that what was asked was done: a clone, a drop or a seal.
-    /// Example: `made.is_done()` answers `true` where the reply is Done.
     pub fn is_done(&self) -> bool
         ensures { result ≡ is_done (reply_of self.now) }
     {
@@ -314,7 +287,6 @@ impl<T: Drop, W: Drop> Drop for FastResult<T, W> {
 }
 
 impl<T: Drop, W: Drop> FastResult<T, W> {
-    /// A reply, and the wait that was settled, if one was.
     #[inline(always)]
     pub(crate) fn new(reply: Reply<T>, settled: Option<Settled<T, W>>) -> Self
         ensures { made_of result ≡ record { leaving = Leaving.One reply settled } }
@@ -323,8 +295,6 @@ impl<T: Drop, W: Drop> FastResult<T, W> {
     }
 
     /// The reply, and who is owed what became of his wait.
-    /// Example: `answered.into_parts()` answers `(Reply::Sent, Some(owed))` where a receiver waited for what was
-    /// sent.
     #[inline(always)]
     pub fn into_parts(self) -> (Reply<T>, Option<Wakeup<T, W>>)
         ensures reply { result.0 ≡ reply_of (made_of self) }
@@ -335,7 +305,6 @@ impl<T: Drop, W: Drop> FastResult<T, W> {
     }
 
     /// As the result of any step.
-    /// Example: `shared.settle(&mut pass, answered.into_made())` answers the reply.
     #[inline(always)]
     pub fn into_made(self) -> StepResult<T, W>
         ensures { result ≡ made_of self }
@@ -344,8 +313,6 @@ impl<T: Drop, W: Drop> FastResult<T, W> {
         StepResult::one(reply, settled)
     }
 
-    /// Whether the reply says that there was no memory.
-    /// Example: `answered.lacks_memory()` answers `true` where the reply is Refused(NoMemory, ..).
     #[inline(always)]
     pub fn lacks_memory(&self) -> bool
         ensures { result ≡ is_no_memory (reply_of (made_of self.now)) }

@@ -22,8 +22,6 @@ use std::snapshot::Snapshot;
 
 /// Puts a send's message into the buffer, where nobody waits and there is a place; it comes back, and
 /// nothing changes, otherwise.
-/// Example: `push(&mut core, 7)` answers `Ok(())` in a new core for one message, and `push(&mut core, 8)` answers
-/// `Err(8)` after that.
 #[inline(always)]
 pub fn push<T: Drop, W: Drop>(core: &mut ChannelInternal<T, W>, message: T) -> Result<(), T>
     ensures told { OnOk result (Tells (line_of core.old) (Event.Send message)
@@ -34,9 +32,7 @@ pub fn push<T: Drop, W: Drop>(core: &mut ChannelInternal<T, W>, message: T) -> R
     core.push(message)
 }
 
-/// Takes a receive's message out of the buffer, where nobody waits and there is one; nothing changes
-/// otherwise.
-/// Example: `pop(&mut core)` answers `Some(7)` after 7 entered, and `pop(&mut core)` answers `None` after that.
+/// Takes a receive's message out of the buffer, where nobody waits and there is one; nothing changes otherwise.
 #[inline(always)]
 pub fn pop<T: Drop, W: Drop>(core: &mut ChannelInternal<T, W>) -> Option<T>
     ensures told { IfSome result (λ m. Tells (line_of core.old) Event.Recv
@@ -47,7 +43,6 @@ pub fn pop<T: Drop, W: Drop>(core: &mut ChannelInternal<T, W>) -> Option<T>
     core.pop()
 }
 
-/// Offers the message of a call that doesn't wait.
 #[tactic(auto, using(crate::proofs::Leaving::oldest_leaves))]
 fn try_send<T: Drop, W: Drop>(core: &mut ChannelInternal<T, W>, message: T) -> StepResult<T, W>
     ensures { IsStep core.old (Event.TrySend message) result core.new }
@@ -66,7 +61,6 @@ fn try_send<T: Drop, W: Drop>(core: &mut ChannelInternal<T, W>, message: T) -> S
     }
 }
 
-/// Asks for a message, for a call that doesn't wait.
 #[tactic(auto, using(crate::proofs::Leaving::oldest_leaves))]
 fn try_recv<T: Drop, W: Drop>(core: &mut ChannelInternal<T, W>) -> StepResult<T, W>
     ensures { IsStep core.old Event.TryRecv result core.new }
@@ -79,7 +73,6 @@ fn try_recv<T: Drop, W: Drop>(core: &mut ChannelInternal<T, W>) -> StepResult<T,
     }
 }
 
-/// Asks for a message, for a call whose deadline has passed.
 #[tactic(auto, using(crate::proofs::Leaving::oldest_leaves))]
 fn recv_late<T: Drop, W: Drop>(core: &mut ChannelInternal<T, W>) -> StepResult<T, W>
     ensures { IsStep core.old Event.RecvLate result core.new }
@@ -92,7 +85,6 @@ fn recv_late<T: Drop, W: Drop>(core: &mut ChannelInternal<T, W>) -> StepResult<T
     }
 }
 
-/// A call that was answered at once, and settled this wait, if one.
 #[inline(always)]
 fn answered<T: Drop, W: Drop>(
     reply: Reply<T>,
@@ -103,7 +95,6 @@ fn answered<T: Drop, W: Drop>(
     Ok(FastResult::new(reply, settled))
 }
 
-/// Offers the message of a call that waits where there is no place for it.
 #[inline(always)]
 #[tactic(auto, using(crate::proofs::Leaving::oldest_leaves))]
 fn offer<T: Drop, W: Drop>(
@@ -126,7 +117,6 @@ fn offer<T: Drop, W: Drop>(
     answered(refused, None)
 }
 
-/// Asks for a message, for a call that waits where there is none.
 #[inline(always)]
 #[tactic(auto, using(crate::proofs::Leaving::oldest_leaves))]
 fn take<T: Drop, W: Drop>(core: &mut ChannelInternal<T, W>) -> Result<FastResult<T, W>, Event<T>>
@@ -144,8 +134,6 @@ fn take<T: Drop, W: Drop>(core: &mut ChannelInternal<T, W>) -> Result<FastResult
 }
 
 /// Makes a send or a receive.
-/// Example: `start(&mut core, Event::Send(7))` answers `Ok(..)`, with the reply Sent in a new core for one message,
-/// and `start(&mut core, Event::Send(8))` answers `Err(Event::Send(8))` after that.
 ///
 /// # Errors
 /// The call, where it must wait: nothing changed.
@@ -166,7 +154,6 @@ pub fn start<T: Drop, W: Drop>(
     }
 }
 
-/// Starts the wait of a send that found no place.
 #[inline(always)]
 fn wait_send<T: Drop, W: Drop>(
     core: &mut ChannelInternal<T, W>,
@@ -197,7 +184,6 @@ fn wait_send<T: Drop, W: Drop>(
     }
 }
 
-/// Starts the wait of a receive that found no message.
 #[inline(always)]
 fn wait_recv<T: Drop, W: Drop>(core: &mut ChannelInternal<T, W>, w: W) -> (Reply<T>, Placement<W>)
     requires empty { IsEmpty (line_of core.old) }
@@ -218,7 +204,6 @@ fn wait_recv<T: Drop, W: Drop>(core: &mut ChannelInternal<T, W>, w: W) -> (Reply
 }
 
 /// Starts the wait of a call that must. It settles nobody's wait.
-/// Example: `wait(&mut core, Event::Recv, w)` replies `Waits(0)`, with the ticket of that number in a new core.
 #[inline(always)]
 pub fn wait<T: Drop, W: Drop>(
     core: &mut ChannelInternal<T, W>,
@@ -240,8 +225,6 @@ pub fn wait<T: Drop, W: Drop>(
 }
 
 /// Makes a send or a receive, and starts its wait with `w` where it must; `w` comes back otherwise.
-/// Example: `make_waiting(&mut core, Event::Recv, w)` replies `Waits(0)`, with the ticket of that number in a new
-/// core.
 pub fn make_waiting<T: Drop, W: Drop>(
     core: &mut ChannelInternal<T, W>,
     event: Event<T>,
@@ -262,8 +245,6 @@ pub fn make_waiting<T: Drop, W: Drop>(
 }
 
 /// Takes the wait with this ticket back, if it waits.
-/// Example: `withdraw(&mut core, ticket)` answers `Some(waiter)` with a sender's message, and
-/// `withdraw(&mut core, ticket)` answers `None` after that.
 pub fn withdraw<T: Drop, W: Drop>(
     core: &mut ChannelInternal<T, W>,
     ticket: Ticket,
@@ -284,7 +265,6 @@ pub fn withdraw<T: Drop, W: Drop>(
 
 /// Moves the whole line to the vector's end. It is refused for memory only where the vector has too
 /// little room and can't grow.
-/// Example: `drain(&mut core, &mut messages)` replies `Drained(2)` after two messages entered.
 #[tactic(auto, using(crate::proofs::Leaving::drained_leaves))]
 pub fn drain<T: Drop, W: Drop>(
     core: &mut ChannelInternal<T, W>,
@@ -311,7 +291,6 @@ pub fn drain<T: Drop, W: Drop>(
     }
 }
 
-/// Seals the channel.
 fn seal<T: Drop, W: Drop>(core: &mut ChannelInternal<T, W>) -> StepResult<T, W>
     ensures { IsStep core.old Event.Seal result core.new }
 {
@@ -321,7 +300,6 @@ fn seal<T: Drop, W: Drop>(core: &mut ChannelInternal<T, W>) -> StepResult<T, W>
     }
 }
 
-/// Closes the channel.
 #[tactic(auto, using(crate::proofs::Leaving::closed_leaves))]
 fn close<T: Drop, W: Drop>(core: &mut ChannelInternal<T, W>) -> StepResult<T, W>
     ensures { IsStep core.old Event.Close result core.new }
@@ -332,7 +310,6 @@ fn close<T: Drop, W: Drop>(core: &mut ChannelInternal<T, W>) -> StepResult<T, W>
     }
 }
 
-/// Counts one more sender.
 fn add_sender<T: Drop, W: Drop>(core: &mut ChannelInternal<T, W>) -> StepResult<T, W>
     ensures { IsStep core.old Event.CloneTx result core.new }
 {
@@ -342,7 +319,6 @@ fn add_sender<T: Drop, W: Drop>(core: &mut ChannelInternal<T, W>) -> StepResult<
     }
 }
 
-/// Counts one more receiver.
 fn add_receiver<T: Drop, W: Drop>(core: &mut ChannelInternal<T, W>) -> StepResult<T, W>
     ensures { IsStep core.old Event.CloneRx result core.new }
 {
@@ -352,7 +328,6 @@ fn add_receiver<T: Drop, W: Drop>(core: &mut ChannelInternal<T, W>) -> StepResul
     }
 }
 
-/// Counts one sender less.
 #[tactic(auto, using(crate::proofs::Leaving::sender_leaves))]
 fn drop_sender<T: Drop, W: Drop>(core: &mut ChannelInternal<T, W>) -> StepResult<T, W>
     ensures { IsStep core.old Event.DropTx result core.new }
@@ -360,7 +335,6 @@ fn drop_sender<T: Drop, W: Drop>(core: &mut ChannelInternal<T, W>) -> StepResult
     StepResult::all(Reply::Done, core.drop_sender())
 }
 
-/// Counts one receiver less.
 #[tactic(auto, using(crate::proofs::Leaving::receiver_leaves))]
 fn drop_receiver<T: Drop, W: Drop>(core: &mut ChannelInternal<T, W>) -> StepResult<T, W>
     ensures { IsStep core.old Event.DropRx result core.new }
@@ -368,7 +342,6 @@ fn drop_receiver<T: Drop, W: Drop>(core: &mut ChannelInternal<T, W>) -> StepResu
     StepResult::all(Reply::Done, core.drop_receiver())
 }
 
-/// Asks a question through a side.
 fn ask<T: Drop, W: Drop>(core: &ChannelInternal<T, W>, side: Side, question: Ask) -> Reply<T>
     ensures { result ≡ answer_of (line_of core.now) side question }
 {
@@ -388,7 +361,6 @@ fn ask<T: Drop, W: Drop>(core: &ChannelInternal<T, W>, side: Side, question: Ask
     }
 }
 
-/// Asks whether no sender is left and no message is there.
 fn terminated<T: Drop, W: Drop>(core: &ChannelInternal<T, W>) -> Reply<T>
     ensures { result ≡ Reply.Flag
         (((line_of core.now).senders == 0) && (length (line_of core.now).line == 0)) }
@@ -397,8 +369,6 @@ fn terminated<T: Drop, W: Drop>(core: &ChannelInternal<T, W>) -> Reply<T>
 }
 
 /// Makes a call that never waits, and needs nothing but the core.
-/// Example: `make(&mut core, Event::TryRecv)` replies `Nothing` in a new core, and `make(&mut core, Event::Close)`
-/// replies `Cleared(0)` after that.
 pub fn make<T: Drop, W: Drop>(core: &mut ChannelInternal<T, W>, event: Event<T>) -> StepResult<T, W>
     requires plain { is_plain event ≡ true }
     ensures told { Tells (line_of core.old) event (told_of (line_of core.new) result) }

@@ -24,7 +24,6 @@ pub use kanal_events::event::{Ask, Event, Refusal, Reply, Side};
 pub use recorded_state::{Entry, Journal, RecordedState};
 pub use report::{Report, Settlement};
 
-/// Makes one event, and adds its reply.
 fn step<T: Drop>(running: &mut Running<T>, replies: &mut Vec<Reply<T>>, event: Event<T>)
     requires within { IsWithinEvents (vec_len replies.old) running.old }
     requires room { HasRoom (vec_len replies.old + 1) running.old }
@@ -40,15 +39,13 @@ fn step<T: Drop>(running: &mut Running<T>, replies: &mut Vec<Reply<T>>, event: E
     replies.push_reserved(reply);
 }
 
-/// Makes the events in order on a new channel of this capacity, `None` being no limit, and reports
-/// all that was told.
+/// Makes the events in order on a new channel of this capacity, `None` being no limit, and reports all that was told.
 ///
-/// The memory for the report is asked for before the first event; after that the whole report is
-/// answered. A step is refused for memory only where it would start a wait, lengthen a line without
-/// limit, or drain a line that is not empty; an event through a side without a live handle is refused
-/// as such. Of the messages that entered and the receives that were made, leaving out those
-/// that were withdrawn, ended or cleared, the i-th message went to the i-th receive as soon as both
-/// were there, after every number of steps.
+/// The memory for the report is asked for before the first event; after that the whole report is answered. A step is
+/// refused for memory only where it would start a wait, lengthen a line without limit, or drain a line that is not
+/// empty; an event through a side without a live handle is refused as such. Of the messages that entered and the
+/// receives that were made, leaving out those that were withdrawn, ended or cleared, the i-th message went to the
+/// i-th receive as soon as both were there, after every number of steps.
 ///
 /// # Errors
 /// `TooLarge` exactly for `Some(usize::MAX)`; `NoMemory` where there is no memory for the channel or

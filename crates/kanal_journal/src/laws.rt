@@ -7,8 +7,7 @@ ghost use Rattle.kanal_journal.specs.Laws.{EachAccount, EachLine, AreRising, End
 
 use crate::journal::Event;
 
-/// No receive waits while a message is there: after every list of events the line is empty, or the
-/// demands are.
+/// No receive waits while a message is there: after every list of events the line is empty, or the demands are.
 pub fn one_side_is_empty<T>(capacity: Option<usize>, events: &[Event<T>])
     ensures law { EachLine capacity events.now HasOneSide }
 {

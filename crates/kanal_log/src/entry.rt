@@ -1,6 +1,4 @@
 //! What stands in a history, and what a call adds to it.
-//!
-//! The log alone adds by these.
 use std::marker::{Brand, PhantomData};
 
 /// An entry of a history. Those that are unowned need no owner.
@@ -8,19 +6,17 @@ pub trait LogEntry {
     ghost unowned: { Self → Type 0 };
 }
 
-/// The entry that two values are the reason of.
+/// Computes the entry from argument and answer.
 pub trait EntryOf<X, Y, E> {
     ghost entry: { X → Y → E };
 }
 
-/// What two values are the reason to add.
 pub(crate) trait Adds<X, Y, E> {
     ghost use Rattle.kanal_log.specs.Views.{Addition};
 
     ghost adds: { X → Y → Addition E };
 }
 
-/// Nothing is added.
 pub(crate) struct Nothing;
 
 impl<X, Y, E> Adds<X, Y, E> for Nothing {
@@ -51,7 +47,6 @@ impl<X, Y, E, M: EntryOf<X, Y, E>> Adds<X, Y, E> for Unowned<M> {
     ghost adds = { λ about answer. unowned_entry (M.entry about answer) };
 }
 
-/// What a call adds to the history.
 pub(crate) trait More<E> {
     ghost use Rattle.kanal_log.specs.Views.{Addition};
 

@@ -1,7 +1,7 @@
 //! The log, and the writer of its history.
 //!
-//! Who has the writer, under a lock, adds entries; each is shown to the reader of the call that it is the entry of,
-//! and its place is that reader's own, unless it is unowned.
+//! Who has the writer, under a lock, appends entries, and records the place of each in the caller's reader, unless
+//! it is unowned.
 ghost use Rattle.std.specs.Prelude.{◌≡◌, ◌<◌, ◌++◌, ◌∷◌, [], length};
 ghost use mathlib.Core.List.{IsPrefix};
 ghost use Rattle.kanal_log.specs.Shares.{HasShare, IsWhole, nothing, whole};
@@ -39,7 +39,6 @@ impl<E: LogEntry> NewLog<E> {
     ghost use Rattle.kanal_log.specs.Logs.{table_of};
 
     /// A log on which nothing is written.
-    /// Example: `let opened = NewLog::new(alloc)?`; then `let (log, writer, reader) = opened.named::<J>()`.
     ///
     /// # Errors
     /// `AllocError` where there is no memory for its one word.
@@ -51,8 +50,6 @@ impl<E: LogEntry> NewLog<E> {
 
     /// The log under a name, its writer, and the first reader, which has all of the right to add entries.
     /// The caller knows that the name is this log's.
-    /// Example: `let (log, mut writer, mut reader) = opened.named::<J>()`; then `reader.again(&log)` answers a
-    /// reader that has seen nothing, and has half of the right.
     pub fn named<J: LogId>(self) -> (GhostLog<E, J>, Writer<E, J>, Reader<E, J>)
         requires name { table_of self ≡ J.table }
         ensures empty { result.1 ≡ [] }
@@ -103,7 +100,6 @@ impl<E, J: LogId> Model for Writer<E, J> {
 
 impl<E: LogEntry, J: LogId> Writer<E, J> {
     /// A reader that has seen all, owns nothing, and has no share.
-    /// Example: `writer.read(&log)` answers a reader that has seen all entries.
     pub fn read(&mut self, log: &GhostLog<E, J>) -> Reader<E, J>
         ensures all { result ≡ known self.old [] nothing }
         ensures same { self.new ≡ self.old }
@@ -114,7 +110,6 @@ impl<E: LogEntry, J: LogId> Writer<E, J> {
 
     /// Shows all to the reader, which had seen a beginning. Where the reader has all of the right to add
     /// entries, what it had not seen is unowned.
-    /// Example: `writer.show(&log, &mut reader)`, and `reader` has seen all entries, and owns what it owned.
     pub fn show(&mut self, log: &GhostLog<E, J>, reader: &mut Reader<E, J>)
         ensures same { self.new ≡ self.old }
         ensures shown { reader.new ≡ known self.old reader.old.own reader.old.share }
@@ -127,8 +122,6 @@ impl<E: LogEntry, J: LogId> Writer<E, J> {
     /// Adds the entry that the two values are the reason of, and shows all to the reader, which had seen a
     /// beginning. The entry is the reader's own, which has a share. Where it has all of the right, what it
     /// had not seen is unowned.
-    /// Example: `writer.append_of::<X, Y, M>(&log, &mut reader, &asked, &answered)`, and `reader` has seen all
-    /// entries, the new one as the last.
     pub fn append_of<X, Y, M: EntryOf<X, Y, E>>(
         &mut self,
         log: &GhostLog<E, J>,
@@ -146,11 +139,7 @@ impl<E: LogEntry, J: LogId> Writer<E, J> {
         self.add::<X, Y, Own<M>>(log, reader, about, answer)
     }
 
-    /// Adds the entry that the two values are the reason of, which is unowned, and shows all to the reader,
-    /// which had seen a beginning. The entry has no owner, so the reader needs no share. Where it has all of
-    /// the right to add entries, what it had not seen is unowned.
-    /// Example: `writer.append_unowned_of::<X, Y, M>(&log, &mut reader, &asked, &answered)`, and `reader` has seen all
-    /// entries, the new one as the last, and owns what it owned.
+    /// As `append_of`, but the entry is unowned, so the reader needs no share.
     pub fn append_unowned_of<X, Y, M: EntryOf<X, Y, E>>(
         &mut self,
         log: &GhostLog<E, J>,
@@ -168,7 +157,6 @@ impl<E: LogEntry, J: LogId> Writer<E, J> {
         self.add::<X, Y, Unowned<M>>(log, reader, about, answer)
     }
 
-    /// Adds what the two values are the reason to add, and shows all to the reader.
     fn add<X, Y, P: Adds<X, Y, E>>(
         &mut self,
         log: &GhostLog<E, J>,
@@ -186,7 +174,6 @@ impl<E: LogEntry, J: LogId> Writer<E, J> {
         self.extend::<X, Y, Brand>(log, reader, about, answer)
     }
 
-    /// Adds what is picked at the two values, and shows all to the reader.
     fn extend<X, Y, N: More<E>>(
         &mut self,
         log: &GhostLog<E, J>,

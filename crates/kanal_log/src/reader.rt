@@ -33,7 +33,6 @@ impl<E, J: LogId> Model for Reader<E, J> {
 }
 
 impl<E: LogEntry, J: LogId> Reader<E, J> {
-    /// The reader of this seat.
     pub(crate) fn over(seat: Seat<(), LogView<E>>) -> Self
         requires table { seat.table_id ≡ J.table }
         requires reader { seat.me ≡ (reader_view seat.me.0.log seat.me.0.own seat.me.0.share, []) }
@@ -47,7 +46,6 @@ impl<E: LogEntry, J: LogId> Reader<E, J> {
 
     /// Another reader that has seen as much, owns nothing, and has half of this one's share. This one keeps
     /// the other half.
-    /// Example: `let other = reader.again(&log)` for another thread.
     pub fn again(&mut self, log: &GhostLog<E, J>) -> Reader<E, J>
         ensures copy { result ≡ known self.old.log [] (half self.old.share) }
         ensures same { self.new ≡ known self.old.log self.old.own (half self.old.share) }
@@ -57,7 +55,6 @@ impl<E: LogEntry, J: LogId> Reader<E, J> {
     }
 
     /// Another reader that has seen as much, owns nothing, and has no share: it gets no entry of its own.
-    /// Example: `let other = reader.read(&log)` tells another what was seen.
     pub fn read(&mut self, log: &GhostLog<E, J>) -> Reader<E, J>
         ensures copy { result ≡ known self.old.log [] nothing }
         ensures same { self.new ≡ self.old }
@@ -68,7 +65,6 @@ impl<E: LogEntry, J: LogId> Reader<E, J> {
 
     /// A reader that has all of the right to add entries owns each entry that it has seen, but for the unowned
     /// ones. It changes nothing.
-    /// Example: `reader.owns_all(&log)` where all other readers with a share came back by `learn`.
     pub fn owns_all(&mut self, log: &GhostLog<E, J>)
         requires whole { IsWhole self.old.share }
         ensures same { self.new ≡ self.old }
@@ -78,7 +74,6 @@ impl<E: LogEntry, J: LogId> Reader<E, J> {
     }
 
     /// Two readers have seen beginnings of one history, and no entry is own to both, or twice to one.
-    /// Example: `one.compare(&log, &mut other)` changes neither.
     pub fn compare(&mut self, log: &GhostLog<E, J>, other: &mut Reader<E, J>)
         ensures same { (self.new ≡ self.old) × (other.new ≡ other.old) }
         ensures one { OneBegins self.old.log other.old.log }
@@ -95,7 +90,6 @@ impl<E: LogEntry, J: LogId> Reader<E, J> {
 
     /// Goes on to what the other reader has seen, where that is more. It owns what both did, and has the
     /// shares of both.
-    /// Example: `reader.learn(&log, other)` where `other` comes from another thread.
     pub fn learn(&mut self, log: &GhostLog<E, J>, other: Reader<E, J>)
         ensures this { IsPrefix self.old.log self.new.log }
         ensures that { IsPrefix other.log self.new.log }

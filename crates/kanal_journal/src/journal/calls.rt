@@ -21,10 +21,8 @@ use kanal_events::steps;
 /// A core on which nobody brings anything to a wait.
 pub(crate) type JournalCore<T> = ChannelInternal<T, ()>;
 
-/// What a step of such a core told.
 pub(crate) type JournalStep<T> = StepResult<T, ()>;
 
-/// Makes a send or a receive, and keeps the ticket of a wait that it starts.
 fn wait<T: Drop>(
     core: &mut JournalCore<T>,
     tickets: &mut Vec<Ticket>,
@@ -46,7 +44,6 @@ fn wait<T: Drop>(
     made
 }
 
-/// Takes back the wait with this ticket, if it waits.
 fn withdraw<T: Drop>(core: &mut JournalCore<T>, tickets: &[Ticket], number: u64) -> JournalStep<T>
     requires { AreGiven tickets.now core.old }
     ensures told { Tells (line_of core.old) (Event.Withdraw number)
@@ -63,7 +60,6 @@ fn withdraw<T: Drop>(core: &mut JournalCore<T>, tickets: &[Ticket], number: u64)
     }
 }
 
-/// Clones a sender.
 fn clone_tx<T: Drop>(core: &mut JournalCore<T>, handles: &mut Handles) -> JournalStep<T>
     requires { AreFew handles.old }
     ensures told { Tells (line_of core.old) Event.CloneTx (told_of (line_of core.new) result) }
@@ -77,7 +73,6 @@ fn clone_tx<T: Drop>(core: &mut JournalCore<T>, handles: &mut Handles) -> Journa
     made
 }
 
-/// Clones a receiver.
 fn clone_rx<T: Drop>(core: &mut JournalCore<T>, handles: &mut Handles) -> JournalStep<T>
     requires { AreFew handles.old }
     ensures told { Tells (line_of core.old) Event.CloneRx (told_of (line_of core.new) result) }
@@ -91,7 +86,6 @@ fn clone_rx<T: Drop>(core: &mut JournalCore<T>, handles: &mut Handles) -> Journa
     made
 }
 
-/// Drops a sender.
 fn drop_tx<T: Drop>(core: &mut JournalCore<T>, handles: &mut Handles) -> JournalStep<T>
     requires { has_side handles.old Tx ≡ true }
     ensures told { Tells (line_of core.old) Event.DropTx (told_of (line_of core.new) result) }
@@ -105,7 +99,6 @@ fn drop_tx<T: Drop>(core: &mut JournalCore<T>, handles: &mut Handles) -> Journal
     made
 }
 
-/// Drops a receiver.
 fn drop_rx<T: Drop>(core: &mut JournalCore<T>, handles: &mut Handles) -> JournalStep<T>
     requires { has_side handles.old Rx ≡ true }
     ensures told { Tells (line_of core.old) Event.DropRx (told_of (line_of core.new) result) }
@@ -119,7 +112,6 @@ fn drop_rx<T: Drop>(core: &mut JournalCore<T>, handles: &mut Handles) -> Journal
     made
 }
 
-/// Makes one event, through a live handle of its side.
 #[tactic(auto, using(crate::proofs::Giving::still_given))]
 fn make<T: Drop>(
     core: &mut JournalCore<T>,

@@ -11,7 +11,6 @@ use kanal_core::internal::{Cleared, Remaining};
 use kanal_events::event::Reply;
 use kanal_events::step_result::Wakeup;
 
-/// Moves the messages to the vector's end, where they have room.
 fn move_cleared<T: Drop>(messages: Cleared<T>, into: &mut Vec<T>)
     requires { vec_len into.old + length messages ≤ vec_capacity into.old }
     ensures items { into.new.items ≡ into.old.items ++ messages }
@@ -23,7 +22,6 @@ fn move_cleared<T: Drop>(messages: Cleared<T>, into: &mut Vec<T>)
     }
 }
 
-/// Moves the messages to the vector's end, where they have room.
 pub(crate) fn move_left<T: Drop>(messages: Remaining<T, ()>, into: &mut Vec<T>)
     requires { vec_len into.old + length messages ≤ vec_capacity into.old }
     ensures items { into.new.items ≡ into.old.items ++ messages }
@@ -35,7 +33,6 @@ pub(crate) fn move_left<T: Drop>(messages: Remaining<T, ()>, into: &mut Vec<T>)
     }
 }
 
-/// Puts a settled wait at the vector's end, where it has room, with the step's number.
 fn settle<T: Drop>(step: usize, owed: Wakeup<T, ()>, into: &mut Vec<Settlement<T>>)
     requires { vec_len into.old < vec_capacity into.old }
     ensures items { into.new.items ≡ into.old.items ++ numbered step (owed_of owed ∷ []) }
@@ -49,7 +46,6 @@ fn settle<T: Drop>(step: usize, owed: Wakeup<T, ()>, into: &mut Vec<Settlement<T
     });
 }
 
-/// Puts the waits that a step settled at the vector's end, where they have room.
 fn settle_all<T: Drop>(step: usize, made: &mut JournalStep<T>, into: &mut Vec<Settlement<T>>)
     requires { vec_len into.old + length (settled_of made.old) ≤ vec_capacity into.old }
     ensures items { into.new.items ≡ into.old.items ++ numbered step (settled_of made.old) }
@@ -63,8 +59,6 @@ fn settle_all<T: Drop>(step: usize, made: &mut JournalStep<T>, into: &mut Vec<Se
     }
 }
 
-/// Puts what a step settled and cleared at the ends of these vectors, which have room, and hands on
-/// its reply.
 pub(crate) fn note<T: Drop>(
     step: usize,
     made: JournalStep<T>,

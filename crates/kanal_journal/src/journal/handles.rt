@@ -6,7 +6,6 @@ ghost use Rattle.kanal_journal.specs.Runs.{has_handle, has_side};
 
 use kanal_events::event::{Event, Side};
 
-/// How many live handles each side has.
 #[derive(Clone, Copy, Debug, PartialEq, Eq)]
 pub struct Handles {
     pub(crate) tx: usize,
@@ -14,14 +13,12 @@ pub struct Handles {
 }
 
 impl Handles {
-    /// One of each side.
     pub(crate) fn new() -> Self
         ensures { result ≡ record { tx = 1; rx = 1 } }
     {
         Handles { tx: 1, rx: 1 }
     }
 
-    /// Whether the side has one.
     fn has_side(&self, side: Side) -> bool
         ensures { result ≡ has_side self.now side }
     {
@@ -31,7 +28,6 @@ impl Handles {
         }
     }
 
-    /// Whether there is one that the event can be made through.
     pub(crate) fn serve<T>(&self, event: &Event<T>) -> bool
         ensures { result ≡ has_handle self.now event.now }
     {

@@ -73,9 +73,8 @@ fn reserve<T: Copy>(running: &mut Running<T>, entries: &mut Vec<Entry<T>>) -> Re
 
 /// A channel with its journal: one entry for each call, in the order in which the calls were made.
 ///
-/// Contracts see the capacity, the entries and all that was told along them. The line of a new
-/// channel, put through the events of the entries, gives each entry's reply and ends in what is
-/// there.
+/// Contracts see the capacity, the entries and all that was told along them. The line of a new channel, put through
+/// the events of the entries, gives each entry's reply and ends in what is there.
 #[derive(Drop)]
 pub struct RecordedState<T: Copy> {
     running: Running<T>,
@@ -96,12 +95,10 @@ impl<T: Copy> Model for RecordedState<T> {
 }
 
 impl<T: Copy> RecordedState<T> {
-    /// A new channel of this capacity, `None` being no limit, with one handle of each side and an
-    /// empty journal.
+    /// A new channel of this capacity, `None` being no limit, with one handle of each side and an empty journal.
     ///
     /// # Errors
-    /// `TooLarge` exactly for `Some(usize::MAX)`; `NoMemory` where there is no memory for the
-    /// channel.
+    /// `TooLarge` exactly for `Some(usize::MAX)`; `NoMemory` where there is no memory for the channel.
     ///
     /// # Examples
     /// ```text
@@ -146,10 +143,9 @@ impl<T: Copy> RecordedState<T> {
     /// Makes one event for the party, and puts one entry at the journal's end: the party, the event,
     /// and the reply that this call answers.
     ///
-    /// `Refused(NoMemory, ..)` with the event's message back is answered where memory was refused,
-    /// for the entry or for the event itself; then there is no entry, and nothing has changed. Every
-    /// other reply is the one that the line of messages gives. A send or a receive that has to wait
-    /// answers its ticket and doesn't block.
+    /// `Refused(NoMemory, ..)` with the event's message back is answered where memory was refused, for the entry or
+    /// for the event itself; then there is no entry, and nothing has changed. Every other reply is the one that the
+    /// line of messages gives. A send or a receive that has to wait answers its ticket and doesn't block.
     ///
     /// # Examples
     /// ```text
@@ -167,11 +163,10 @@ impl<T: Copy> RecordedState<T> {
 
     /// What the journal says, for a caller's proof; it does nothing when it runs.
     ///
-    /// The journal replays to what is there, and its events lead there from a new channel, so that
-    /// each of the `laws` holds of it. Of the messages that entered and the receives that were
-    /// made, leaving out those that were withdrawn, ended or cleared, the i-th message went to the
-    /// i-th receive as soon as both were there, after every number of entries; and the line holds
-    /// the messages that went to none.
+    /// The journal replays to what is there, and its events lead there from a new channel, so that each of the `laws`
+    /// holds of it. Of the messages that entered and the receives that were made, leaving out those that were
+    /// withdrawn, ended or cleared, the i-th message went to the i-th receive as soon as both were there, after every
+    /// number of entries; and the line holds the messages that went to none.
     pub fn replays(&self)
         ensures replays { Replays self.now.capacity self.now.entries self.now.account }
         ensures leads { Leads (opening_account self.now.capacity) (events_of self.now.entries)
@@ -183,11 +178,7 @@ impl<T: Copy> RecordedState<T> {
     }
 
     /// The capacity that `new` was given.
-    ///
-    /// # Examples
-    /// ```text
-    /// RecordedState::new(alloc, Some(1))?.capacity()   answers  Some(1)
-    /// ```
+    /// Example: `RecordedState::new(alloc, Some(1))?.capacity()` answers `Some(1)`.
     pub fn capacity(&self) -> Option<usize>
         ensures { result ≡ self.now.capacity }
     {
@@ -195,11 +186,7 @@ impl<T: Copy> RecordedState<T> {
     }
 
     /// The journal, oldest entry first.
-    ///
-    /// # Examples
-    /// ```text
-    /// state.entries()[0]   is  Entry { party: 0, event: TrySend(7), reply: Yes }
-    /// ```
+    /// Example: `state.entries()[0]` is `Entry { party: 0, event: TrySend(7), reply: Yes }`.
     pub fn entries(&self) -> &[Entry<T>]
         ensures { result.now ≡ self.now.entries }
     {
@@ -207,11 +194,7 @@ impl<T: Copy> RecordedState<T> {
     }
 
     /// How many entries the journal has.
-    ///
-    /// # Examples
-    /// ```text
-    /// state.len()   answers  1   after one call that found memory
-    /// ```
+    /// Example: `state.len()` answers `1` after one call that found memory.
     pub fn len(&self) -> usize
         ensures { result ≡ length self.now.entries }
     {
@@ -240,11 +223,7 @@ impl<T: Copy> RecordedState<T> {
 
     /// The journal, moved out with all that was told along it. Its events lead from a new channel to
     /// what was told, so that each of the `laws` holds of it.
-    ///
-    /// # Examples
-    /// ```text
-    /// state.into_journal()   is  Journal { capacity, entries, settled, drained, cleared }
-    /// ```
+    /// Example: `state.into_journal()` is `Journal { capacity, entries, settled, drained, cleared }`.
     pub fn into_journal(self) -> Journal<T>
         ensures journal { (result.capacity ≡ self.capacity)
             × (result.entries.items ≡ self.entries) }

@@ -1,6 +1,4 @@
 //! What is told along a list of events: every wait that was settled, and the report of all.
-//!
-//! Plain data: no other module defines a settlement or a report.
 use kanal_core::internal::Outcome;
 use kanal_events::event::Reply;
 

@@ -16,8 +16,6 @@ use kanal_core::internal::{ChannelInternal, Ticket};
 use kanal_events::event::{Event, Reply};
 use std::alloc::{AllocError, Global};
 
-/// A core with the tickets that it gave and the live handles, and what it settled, drained and
-/// cleared.
 #[derive(Drop)]
 pub(super) struct Running<T> {
     pub(super) core: JournalCore<T>,
@@ -28,7 +26,6 @@ pub(super) struct Running<T> {
     pub(super) cleared: Vec<T>,
 }
 
-/// A new core of this capacity, or without limit.
 fn channel<T: Drop>(alloc: Global, capacity: Option<usize>) -> Result<JournalCore<T>, NewError>
     ensures new { IfOk result (λ c. c ≡ opening capacity) }
     ensures large { IsErrOf result NewError.TooLarge ↔ (capacity ≡ Some last_word) }
@@ -39,7 +36,6 @@ fn channel<T: Drop>(alloc: Global, capacity: Option<usize>) -> Result<JournalCor
     }
 }
 
-/// Makes room in the list for so many items in all.
 pub(super) fn make_room<X>(list: &mut Vec<X>, total: usize) -> Result<(), AllocError>
     ensures items { list.new.items ≡ list.old.items }
     ensures room { IfOk result (λ _. total ≤ vec_capacity list.new) }
@@ -48,7 +44,6 @@ pub(super) fn make_room<X>(list: &mut Vec<X>, total: usize) -> Result<(), AllocE
 }
 
 impl<T: Drop> Running<T> {
-    /// A new channel of this capacity, or without limit, on which no event was made.
     pub(super) fn new(alloc: Global, capacity: Option<usize>) -> Result<Self, NewError>
         ensures opened { IfOk result (λ r. IsOpened capacity r) }
         ensures large { IsErrOf result NewError.TooLarge ↔ (capacity ≡ Some last_word) }
@@ -63,7 +58,6 @@ impl<T: Drop> Running<T> {
         })
     }
 
-    /// Makes room in each list for so many items in all.
     pub(super) fn reserve(&mut self, total: usize) -> Result<(), AllocError>
         ensures same { IsSame self.old self.new }
         ensures room { IfOk result (λ _. HasRoom total self.new) }
@@ -74,8 +68,6 @@ impl<T: Drop> Running<T> {
         make_room(&mut self.cleared, total)
     }
 
-    /// Makes the event as the step with this number, if its side has a live handle, and keeps what
-    /// it told but for the reply.
     pub(super) fn answer(&mut self, number: usize, event: Event<T>) -> Reply<T>
         requires within { IsWithinEvents number self.old }
         requires room { HasRoom (number + 1) self.old }

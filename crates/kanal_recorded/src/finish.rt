@@ -23,7 +23,6 @@ struct Reached {
 }
 
 impl Reached {
-    /// Of a list of which nothing was compared.
     const START: Reached = Reached {
         notes: 0,
         entries: 0,
@@ -44,7 +43,6 @@ pub(crate) fn is_merged<T: Copy + Eq>(entries: &[Entry<T>], passes: &[Pass<T>]) 
     are_among(entries, passes)
 }
 
-/// Whether no two passes have one party.
 fn are_apart<T: Copy>(passes: &[Pass<T>]) -> bool
     ensures { result ≡ true → AllPairs (λ p q. p.party ≢ q.party) passes.now }
 {
@@ -56,7 +54,6 @@ fn are_apart<T: Copy>(passes: &[Pass<T>]) -> bool
     true
 }
 
-/// Whether no pass before this one has its party.
 fn is_apart<T: Copy>(passes: &[Pass<T>], later: usize) -> bool
     requires { later < length passes.now }
     ensures { result ≡ true → IsApart passes.now later }
@@ -69,7 +66,6 @@ fn is_apart<T: Copy>(passes: &[Pass<T>], later: usize) -> bool
     true
 }
 
-/// Whether the passes' lists have so many notes together.
 fn are_as_many<T: Copy>(passes: &[Pass<T>], entries: usize) -> bool
     ensures { result ≡ true → sum_by (λ p. length p.notes) passes.now ≡ entries }
 {
@@ -84,7 +80,6 @@ fn are_as_many<T: Copy>(passes: &[Pass<T>], entries: usize) -> bool
     left == 0
 }
 
-/// The last party of those that have a pass, or 0 where there is no pass.
 fn last_party<T: Copy>(passes: &[Pass<T>]) -> u32 {
     let mut last = 0;
     for pass in passes {
@@ -215,7 +210,6 @@ fn compared_before<T: Copy + Eq>(
     })
 }
 
-/// Whether all notes of these passes were compared.
 fn are_at_end<T: Copy>(group: &[Pass<T>], reached: &[Reached; GROUP]) -> bool
     requires { length group.now ≤ GROUP }
     ensures { result ≡ true → AreAtEnd group.now reached.now (length group.now) }
@@ -228,7 +222,6 @@ fn are_at_end<T: Copy>(group: &[Pass<T>], reached: &[Reached; GROUP]) -> bool
     true
 }
 
-/// Whether the note is of this entry, which stands at the note's place.
 fn is_note_of<T: Copy + Eq>(entry: &Entry<T>, note: &Note<T>) -> bool
     requires { IsIdentity T.eq }
     ensures { result ≡ true → IsNoteOf entry.now note.now }
@@ -238,7 +231,6 @@ fn is_note_of<T: Copy + Eq>(entry: &Entry<T>, note: &Note<T>) -> bool
         && is_reply(&entry.reply, &note.reply)
 }
 
-/// Whether the events are the same.
 fn is_event<T: Copy + Eq>(a: &Event<T>, b: &Event<T>) -> bool
     requires { IsIdentity T.eq }
     ensures { result ≡ true → a.now ≡ b.now }
@@ -246,7 +238,6 @@ fn is_event<T: Copy + Eq>(a: &Event<T>, b: &Event<T>) -> bool
     *a == *b
 }
 
-/// Whether the replies are the same.
 fn is_reply<T: Copy + Eq>(a: &Reply<T>, b: &Reply<T>) -> bool
     requires { IsIdentity T.eq }
     ensures { result ≡ true → a.now ≡ b.now }
@@ -254,7 +245,6 @@ fn is_reply<T: Copy + Eq>(a: &Reply<T>, b: &Reply<T>) -> bool
     *a == *b
 }
 
-/// Whether the capacities are the same.
 pub(crate) fn is_capacity(a: Option<usize>, b: Option<usize>) -> bool
     ensures { result ≡ true → a ≡ b }
 {

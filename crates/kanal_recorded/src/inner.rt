@@ -1,7 +1,7 @@
 //! What is done under the lock of a recorded channel.
 //!
-//! A contract sees nothing of what is under a lock: so each function here is given the state, and says what becomes
-//! of it.
+//! A contract sees nothing of what is under a lock, so each function here is given the state and says what
+//! becomes of it.
 ghost use Rattle.std.specs.Prelude.{◌≡◌, ◌↔◌, ◌+◌, ℕ, IfErr, IfOk, IsErr, IsErrOf, Some};
 ghost use Rattle.kanal_core.specs.Line.{last_word};
 ghost use Rattle.kanal_core.specs.Moves.{last_count};
@@ -16,7 +16,6 @@ use kanal_core::internal::Outcome;
 use kanal_journal::journal::{Journal, RecordedState};
 use std::alloc::Global;
 
-/// The channel with its journal, and how many passes were drawn.
 #[derive(Drop)]
 pub(crate) struct Inner<T: Copy> {
     pub(crate) state: RecordedState<T>,
@@ -24,8 +23,6 @@ pub(crate) struct Inner<T: Copy> {
 }
 
 impl<T: Copy> Inner<T> {
-    /// A new channel of this capacity, `None` being no limit, on which no call was made and of which
-    /// no pass was drawn.
     pub(crate) fn new(alloc: Global, capacity: Option<usize>) -> Result<Self, NewError>
         ensures opened { IfOk result (λ s. s.state ≡ opened_recording capacity) }
         ensures none { IfOk result (λ s. s.parties ≡ 0) }
@@ -35,7 +32,6 @@ impl<T: Copy> Inner<T> {
         Ok(Inner { state, parties: 0 })
     }
 
-    /// The next party's number: how many passes were drawn before, which rises by one.
     pub(crate) fn next_party(&mut self) -> Result<u32, TooMany>
         ensures number { IfOk result (λ n. n ≡ self.old.parties) }
         ensures rises { IfOk result (λ _. self.new
@@ -51,7 +47,6 @@ impl<T: Copy> Inner<T> {
         Ok(party)
     }
 
-    /// What became of the wait with this ticket's number so far.
     pub(crate) fn outcome(&self, ticket: u64) -> Option<Outcome<T>>
         ensures { result ≡ outcome_of ticket self.now.state.account.settled }
     {

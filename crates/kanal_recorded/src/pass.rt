@@ -53,7 +53,6 @@ impl<T: Copy> Model for Pass<T> {
 }
 
 impl<T: Copy> Pass<T> {
-    /// The pass of this party, which has made no call.
     pub(crate) fn new(alloc: Global, party: u32) -> Self
         ensures { result ≡ newcomer party }
     {
@@ -65,24 +64,15 @@ impl<T: Copy> Pass<T> {
     }
 
     /// The party's number. It never waits.
-    ///
-    /// # Examples
-    /// ```text
-    /// channel.pass(rt)?.party()   answers  0   for the first pass that is drawn
-    /// ```
+    /// Example: `channel.pass(rt)?.party()` answers `0` for the first pass that is drawn.
     pub fn party(&self) -> u32
         ensures { result ≡ self.now.party }
     {
         self.party
     }
 
-    /// The calls that were made, oldest first, but for those that found no memory. It
-    /// never waits.
-    ///
-    /// # Examples
-    /// ```text
-    /// pass.notes()[0]   is  Note { event: TrySend(7), reply: Yes, place: 0, seen: 0 }
-    /// ```
+    /// The calls that were made, oldest first, but for those that found no memory. It never waits.
+    /// Example: `pass.notes()[0]` is `Note { event: TrySend(7), reply: Yes, place: 0, seen: 0 }`.
     pub fn notes(&self) -> &[Note<T>]
         ensures { result.now ≡ self.now.notes }
     {
@@ -91,15 +81,11 @@ impl<T: Copy> Pass<T> {
 
     /// Sends the message, and starts a wait where there is no place for it. It waits for the lock alone.
     ///
-    /// `Sent` where it entered, `Waits` with the ticket where it waits. `Refused` gives the message back:
-    /// `NoHandle` where no live sender is left, `Closed` where both counts are 0, `ReceiveClosed` where
-    /// the receivers' alone is, `Sealed` where the senders' alone is, `TooMany` where the tickets are used up, `NoMemory` where memory was
+    /// `Sent` where it entered, `Waits` with the ticket where it waits. `Refused` gives the message back: `NoHandle`
+    /// where no live sender is left, `Closed` where both counts are 0, `ReceiveClosed` where the receivers' alone is,
+    /// `Sealed` where the senders' alone is, `TooMany` where the tickets are used up, `NoMemory` where memory was
     /// refused.
-    ///
-    /// # Examples
-    /// ```text
-    /// pass.send(rt, &channel, 7)   answers  Sent
-    /// ```
+    /// Example: `pass.send(rt, &channel, 7)` answers `Sent`.
     pub fn send<R: Wait>(&mut self, rt: &R, channel: &Recorded<T>, message: T) -> Reply<T>
         ensures { Notes self.old (Event.Send message) result self.new }
     {
@@ -111,11 +97,7 @@ impl<T: Copy> Pass<T> {
     /// `Yes` where it entered, `No` with the message where there is no place. `Refused` gives the message
     /// back: `NoHandle` where no live sender is left, `Closed` where both counts are 0, `ReceiveClosed`
     /// where the receivers' alone is, `Sealed` where the senders' alone is, `NoMemory` where memory was refused.
-    ///
-    /// # Examples
-    /// ```text
-    /// pass.try_send(rt, &channel, 7)   answers  Yes
-    /// ```
+    /// Example: `pass.try_send(rt, &channel, 7)` answers `Yes`.
     pub fn try_send<R: Wait>(&mut self, rt: &R, channel: &Recorded<T>, message: T) -> Reply<T>
         ensures { Notes self.old (Event.TrySend message) result self.new }
     {
@@ -124,15 +106,10 @@ impl<T: Copy> Pass<T> {
 
     /// Receives a message, and starts a wait where none is there. It waits for the lock alone.
     ///
-    /// `Got` with the front of the line, or `Waits` with the ticket. `Refused` otherwise: `NoHandle` where
-    /// no live receiver is left, `Closed` where the receivers' count is 0, `SendClosed` where nothing is
-    /// there and the senders' count is 0, `TooMany` where the tickets are used up, `NoMemory` where memory
-    /// was refused.
-    ///
-    /// # Examples
-    /// ```text
-    /// pass.recv(rt, &channel)   answers  Waits(0)   on an empty channel
-    /// ```
+    /// `Got` with the front of the line, or `Waits` with the ticket. `Refused` otherwise: `NoHandle` where no live
+    /// receiver is left, `Closed` where the receivers' count is 0, `SendClosed` where nothing is there and the
+    /// senders' count is 0, `TooMany` where the tickets are used up, `NoMemory` where memory was refused.
+    /// Example: `pass.recv(rt, &channel)` answers `Waits(0)` on an empty channel.
     pub fn recv<R: Wait>(&mut self, rt: &R, channel: &Recorded<T>) -> Reply<T>
         ensures { Notes self.old Event.Recv result self.new }
     {
@@ -141,14 +118,9 @@ impl<T: Copy> Pass<T> {
 
     /// Receives a message as a timed call does whose deadline has passed. It waits for the lock alone.
     ///
-    /// `Got` with the front of the line. `Refused` otherwise: `NoHandle` where no live receiver is left,
-    /// `Closed` where the receivers' count is 0, `Timeout` where nothing is there, `NoMemory` where memory
-    /// was refused.
-    ///
-    /// # Examples
-    /// ```text
-    /// pass.recv_late(rt, &channel)   answers  Refused(Timeout, None)   on an empty channel
-    /// ```
+    /// `Got` with the front of the line. `Refused` otherwise: `NoHandle` where no live receiver is left, `Closed`
+    /// where the receivers' count is 0, `Timeout` where nothing is there, `NoMemory` where memory was refused.
+    /// Example: `pass.recv_late(rt, &channel)` answers `Refused(Timeout, None)` on an empty channel.
     pub fn recv_late<R: Wait>(&mut self, rt: &R, channel: &Recorded<T>) -> Reply<T>
         ensures { Notes self.old Event.RecvLate result self.new }
     {
@@ -160,11 +132,7 @@ impl<T: Copy> Pass<T> {
     /// `Got` with the front of the line, `Nothing` where none is there. `Refused` otherwise: `NoHandle`
     /// where no live receiver is left, `Closed` where the receivers' count is 0, `SendClosed` where nothing
     /// is there and the senders' count is 0, `NoMemory` where memory was refused.
-    ///
-    /// # Examples
-    /// ```text
-    /// pass.try_recv(rt, &channel)   answers  Got(7)   after 7 was sent
-    /// ```
+    /// Example: `pass.try_recv(rt, &channel)` answers `Got(7)` after 7 was sent.
     pub fn try_recv<R: Wait>(&mut self, rt: &R, channel: &Recorded<T>) -> Reply<T>
         ensures { Notes self.old Event.TryRecv result self.new }
     {
@@ -176,11 +144,7 @@ impl<T: Copy> Pass<T> {
     ///
     /// `Drained` with their number. `Refused` otherwise, and nothing is taken: `NoHandle` where no live
     /// receiver is left, `Closed` where the receivers' count is 0, `NoMemory` where memory was refused.
-    ///
-    /// # Examples
-    /// ```text
-    /// pass.drain(rt, &channel)   answers  Drained(1)   after 7 was sent
-    /// ```
+    /// Example: `pass.drain(rt, &channel)` answers `Drained(1)` after 7 was sent.
     pub fn drain<R: Wait>(&mut self, rt: &R, channel: &Recorded<T>) -> Reply<T>
         ensures { Notes self.old Event.Drain result self.new }
     {
@@ -191,11 +155,7 @@ impl<T: Copy> Pass<T> {
     ///
     /// `Withdrawn`, with the message of a send. `Refused` otherwise, and the wait stays: `NotWaiting` where
     /// the ticket doesn't wait, `NoMemory` where memory was refused.
-    ///
-    /// # Examples
-    /// ```text
-    /// pass.withdraw(rt, &channel, 0)   answers  Withdrawn(None)   where ticket 0 is a waiting receive's
-    /// ```
+    /// Example: `pass.withdraw(rt, &channel, 0)` answers `Withdrawn(None)` where ticket 0 is a waiting receive's.
     pub fn withdraw<R: Wait>(&mut self, rt: &R, channel: &Recorded<T>, ticket: u64) -> Reply<T>
         ensures { Notes self.old (Event.Withdraw ticket) result self.new }
     {
@@ -206,11 +166,7 @@ impl<T: Copy> Pass<T> {
     ///
     /// `Done`; a count that is 0 stays 0. `Refused` otherwise, and no handle is added: `NoHandle` where no
     /// live sender is left, `TooMany` where the count is u32::MAX, `NoMemory` where memory was refused.
-    ///
-    /// # Examples
-    /// ```text
-    /// pass.clone_tx(rt, &channel)   answers  Done
-    /// ```
+    /// Example: `pass.clone_tx(rt, &channel)` answers `Done`.
     pub fn clone_tx<R: Wait>(&mut self, rt: &R, channel: &Recorded<T>) -> Reply<T>
         ensures { Notes self.old Event.CloneTx result self.new }
     {
@@ -221,11 +177,7 @@ impl<T: Copy> Pass<T> {
     ///
     /// `Done`; a count that is 0 stays 0. `Refused` otherwise, and no handle is added: `NoHandle` where no
     /// live receiver is left, `TooMany` where the count is u32::MAX, `NoMemory` where memory was refused.
-    ///
-    /// # Examples
-    /// ```text
-    /// pass.clone_rx(rt, &channel)   answers  Done
-    /// ```
+    /// Example: `pass.clone_rx(rt, &channel)` answers `Done`.
     pub fn clone_rx<R: Wait>(&mut self, rt: &R, channel: &Recorded<T>) -> Reply<T>
         ensures { Notes self.old Event.CloneRx result self.new }
     {
@@ -234,13 +186,9 @@ impl<T: Copy> Pass<T> {
 
     /// Drops a live handle of the senders' side; the last ends all waits. It waits for the lock alone.
     ///
-    /// `Done`. `Refused` otherwise, and no handle is dropped: `NoHandle` where no live sender is left,
-    /// `NoMemory` where memory was refused.
-    ///
-    /// # Examples
-    /// ```text
-    /// pass.drop_tx(rt, &channel)   answers  Done
-    /// ```
+    /// `Done`. `Refused` otherwise, and no handle is dropped: `NoHandle` where no live sender is left, `NoMemory`
+    /// where memory was refused.
+    /// Example: `pass.drop_tx(rt, &channel)` answers `Done`.
     pub fn drop_tx<R: Wait>(&mut self, rt: &R, channel: &Recorded<T>) -> Reply<T>
         ensures { Notes self.old Event.DropTx result self.new }
     {
@@ -249,13 +197,9 @@ impl<T: Copy> Pass<T> {
 
     /// Drops a live handle of the receivers' side; the last ends all waits. It waits for the lock alone.
     ///
-    /// `Done`. `Refused` otherwise, and no handle is dropped: `NoHandle` where no live receiver is left,
-    /// `NoMemory` where memory was refused.
-    ///
-    /// # Examples
-    /// ```text
-    /// pass.drop_rx(rt, &channel)   answers  Done
-    /// ```
+    /// `Done`. `Refused` otherwise, and no handle is dropped: `NoHandle` where no live receiver is left, `NoMemory`
+    /// where memory was refused.
+    /// Example: `pass.drop_rx(rt, &channel)` answers `Done`.
     pub fn drop_rx<R: Wait>(&mut self, rt: &R, channel: &Recorded<T>) -> Reply<T>
         ensures { Notes self.old Event.DropRx result self.new }
     {
@@ -267,11 +211,7 @@ impl<T: Copy> Pass<T> {
     ///
     /// `Done`. `Refused` otherwise, and nothing is sealed: `NoHandle` where neither side has a live handle,
     /// `CloseError` where the senders' count is 0, `NoMemory` where memory was refused.
-    ///
-    /// # Examples
-    /// ```text
-    /// pass.seal(rt, &channel)   answers  Done
-    /// ```
+    /// Example: `pass.seal(rt, &channel)` answers `Done`.
     pub fn seal<R: Wait>(&mut self, rt: &R, channel: &Recorded<T>) -> Reply<T>
         ensures { Notes self.old Event.Seal result self.new }
     {
@@ -281,14 +221,9 @@ impl<T: Copy> Pass<T> {
     /// Closes both sides, ends all waits and clears the buffer; the recorded channel keeps the messages. It
     /// waits for the lock alone.
     ///
-    /// `Cleared` with the number of messages. `Refused` otherwise, and nothing is closed: `NoHandle` where
-    /// neither side has a live handle, `CloseError` where both counts are 0, `NoMemory` where memory was
-    /// refused.
-    ///
-    /// # Examples
-    /// ```text
-    /// pass.close(rt, &channel)   answers  Cleared(1)   after 7 was sent
-    /// ```
+    /// `Cleared` with the number of messages. `Refused` otherwise, and nothing is closed: `NoHandle` where neither
+    /// side has a live handle, `CloseError` where both counts are 0, `NoMemory` where memory was refused.
+    /// Example: `pass.close(rt, &channel)` answers `Cleared(1)` after 7 was sent.
     pub fn close<R: Wait>(&mut self, rt: &R, channel: &Recorded<T>) -> Reply<T>
         ensures { Notes self.old Event.Close result self.new }
     {
@@ -299,11 +234,7 @@ impl<T: Copy> Pass<T> {
     ///
     /// `Number` or `Flag`. `Refused` otherwise: `NoHandle` where that side has no live handle, `NoMemory`
     /// where memory was refused.
-    ///
-    /// # Examples
-    /// ```text
-    /// pass.ask(rt, &channel, Side::Tx, Ask::Len)   answers  Number(1)   after 7 was sent
-    /// ```
+    /// Example: `pass.ask(rt, &channel, Side::Tx, Ask::Len)` answers `Number(1)` after 7 was sent.
     pub fn ask<R: Wait>(
         &mut self,
         rt: &R,
@@ -318,27 +249,18 @@ impl<T: Copy> Pass<T> {
 
     /// Asks whether no sender is left and the line is empty. It waits for the lock alone.
     ///
-    /// `Flag`. `Refused` otherwise: `NoHandle` where no live receiver is left, `NoMemory` where memory was
-    /// refused.
-    ///
-    /// # Examples
-    /// ```text
-    /// pass.terminated(rt, &channel)   answers  Flag(false)   while a sender is left
-    /// ```
+    /// `Flag`. `Refused` otherwise: `NoHandle` where no live receiver is left, `NoMemory` where memory was refused.
+    /// Example: `pass.terminated(rt, &channel)` answers `Flag(false)` while a sender is left.
     pub fn terminated<R: Wait>(&mut self, rt: &R, channel: &Recorded<T>) -> Reply<T>
         ensures { Notes self.old Event.Terminated result self.new }
     {
         self.call(rt, channel, Event::Terminated)
     }
 
-    /// What became of the wait with this ticket's number so far, by the channel's journal: `None`
-    /// where it waits, was withdrawn or was never given. The pass keeps nothing of this question. It waits
-    /// for the lock, and has no error.
-    ///
-    /// # Examples
-    /// ```text
-    /// pass.outcome(rt, &channel, 0)   answers  Some(Given(7))   once ticket 0 was given 7
-    /// ```
+    /// What became of the wait with this ticket's number so far, by the channel's journal: `None` where it waits, was
+    /// withdrawn or was never given. The pass keeps nothing of this question. It waits for the lock, and has no
+    /// error.
+    /// Example: `pass.outcome(rt, &channel, 0)` answers `Some(Given(7))` once ticket 0 was given 7.
     pub fn outcome<R: Wait>(
         &mut self,
         rt: &R,
@@ -365,8 +287,7 @@ impl<T: Copy> Pass<T> {
 
     /// Takes note of what another pass has seen. It never waits.
     ///
-    /// What is told of another channel is heard as well; the passes' lists then don't agree with
-    /// either journal.
+    /// What is told of another channel is heard as well; the passes' lists then don't agree with either journal.
     ///
     /// # Examples
     /// ```text
@@ -378,7 +299,6 @@ impl<T: Copy> Pass<T> {
         self.seen = self.seen.max(seen.length);
     }
 
-    /// Makes the event on the channel, once its lock is got.
     fn call<R: Wait>(&mut self, rt: &R, channel: &Recorded<T>, event: Event<T>) -> Reply<T>
         ensures { Notes self.old event result self.new }
     {
@@ -386,8 +306,6 @@ impl<T: Copy> Pass<T> {
         self.call_on(&mut inner.state, event)
     }
 
-    /// Makes the event on the state that is lent, and notes it; or finds no memory, and changes
-    /// neither the state nor the list.
     fn call_on(&mut self, state: &mut RecordedState<T>, event: Event<T>) -> Reply<T>
         ensures state { Records state.old self.old.party event result state.new }
         ensures notes { NotesAt state.old self.old event result self.new }

@@ -45,8 +45,7 @@ impl<T: Copy> Recorded<T> {
     /// no pass was drawn.
     ///
     /// # Errors
-    /// `TooLarge` exactly for `Some(usize::MAX)`; `NoMemory` where there is no memory for the
-    /// channel.
+    /// `TooLarge` exactly for `Some(usize::MAX)`; `NoMemory` where there is no memory for the channel.
     ///
     /// # Examples
     /// ```text
@@ -67,14 +66,10 @@ impl<T: Copy> Recorded<T> {
     }
 
     /// Draws the next party's pass: numbers begin at 0 and rise by one. It waits for the lock.
+    /// Example: `channel.pass(rt)?.party()` answers `0`, and `1` for the pass that is drawn next.
     ///
     /// # Errors
     /// `TooMany` where u32::MAX passes were drawn.
-    ///
-    /// # Examples
-    /// ```text
-    /// channel.pass(rt)?.party()   answers  0   and 1 for the pass that is drawn next
-    /// ```
     pub fn pass<R: Wait>(&self, rt: &R) -> Result<Pass<T>, TooMany>
         ensures { IfOk result (λ p. p ≡ newcomer p.party) }
     {
@@ -84,12 +79,11 @@ impl<T: Copy> Recorded<T> {
 
     /// Ends the recorded channel and gives its journal, where the passes' lists agree with it.
     ///
-    /// They agree exactly if no two passes have one party, every party of the journal has a pass, and
-    /// each pass's list is what the journal has of its party, at the places kept, none of them before
-    /// what the pass had seen. The journal is then one legal history of one line of messages, with
-    /// each pass's calls in it, in its own order, after all that it had seen or heard; its events lead
-    /// from a new channel to what was told, so that each of `kanal_journal::laws` holds of it. It asks
-    /// for no memory and never waits.
+    /// They agree exactly if no two passes have one party, every party of the journal has a pass, and each pass's
+    /// list is what the journal has of its party, at the places kept, none of them before what the pass had seen. The
+    /// journal is then one legal history of one line of messages, with each pass's calls in it, in its own order,
+    /// after all that it had seen or heard; its events lead from a new channel to what was told, so that each of
+    /// `kanal_journal::laws` holds of it. It asks for no memory and never waits.
     ///
     /// The premise is that `==` of messages calls only the same value equal.
     ///

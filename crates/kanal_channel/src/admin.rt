@@ -19,12 +19,6 @@ impl<T: Drop, H: History<T>> Shared<T, H> {
     ///
     /// # Errors
     /// `CloseError` where both sides were gone already, and nothing changes.
-    ///
-    /// # Examples
-    /// ```text
-    /// shared.close(&rt, &mut pass)   answers  Ok(())
-    /// shared.close(&rt, &mut pass)   answers  Err(CloseError())   after that
-    /// ```
     #[tactic(auto, using(kanal_state::proofs::Settling::free_replied))]
     pub fn close<R: Wait>(&self, rt: &R, pass: &mut H::Pass) -> Result<(), CloseError>
         ensures closed { Closes H.relations pass.old pass.new result }
@@ -37,12 +31,6 @@ impl<T: Drop, H: History<T>> Shared<T, H> {
     ///
     /// # Errors
     /// `CloseError` where no sender was left already, and nothing changes.
-    ///
-    /// # Examples
-    /// ```text
-    /// shared.seal(&rt, &mut pass)      answers  Ok(())
-    /// shared.send(&rt, &mut pass, 7)   answers  Err(Sealed)   after that
-    /// ```
     #[tactic(auto, using(kanal_state::proofs::Settling::free_replied))]
     pub fn seal<R: Wait>(&self, rt: &R, pass: &mut H::Pass) -> Result<(), CloseError>
         ensures sealed { Seals H.relations pass.old pass.new result }
@@ -55,12 +43,6 @@ impl<T: Drop, H: History<T>> Shared<T, H> {
     ///
     /// # Errors
     /// `TooMany` exactly where there are `u32::MAX` of that side, and nothing changes.
-    ///
-    /// # Examples
-    /// ```text
-    /// let counted = shared.count::<SendSide, _>(&rt, &mut pass)?;
-    /// shared.drop_handle(counted);
-    /// ```
     pub fn count<S: OfSide, R: Wait>(
         &self,
         rt: &R,
@@ -76,11 +58,6 @@ impl<T: Drop, H: History<T>> Shared<T, H> {
     }
 
     /// Asks a question through a side: the answer is a `Number` or a `Flag`.
-    ///
-    /// # Examples
-    /// ```text
-    /// shared.ask(&rt, &mut pass, Side::Tx, Ask::Len)   answers  Number(1)   after one message entered
-    /// ```
     #[tactic(auto, using(kanal_state::proofs::Settling::free_replied))]
     pub fn ask<R: Wait>(&self, rt: &R, pass: &mut H::Pass, side: Side, question: Ask) -> Reply<T>
         ensures asked { Asks H.relations pass.old pass.new side question (λ reply. reply) result }
@@ -89,11 +66,6 @@ impl<T: Drop, H: History<T>> Shared<T, H> {
     }
 
     /// Asks through a side what is answered by yes or no.
-    ///
-    /// # Examples
-    /// ```text
-    /// shared.ask_flag(&rt, &mut pass, Side::Tx, Ask::IsFull)   answers  true   at capacity 0
-    /// ```
     #[tactic(auto, using(kanal_state::proofs::Settling::free_replied))]
     pub fn ask_flag<R: Wait>(&self, rt: &R, pass: &mut H::Pass, side: Side, question: Ask) -> bool
         ensures asked { Asks H.relations pass.old pass.new side question flag_by result }
@@ -102,11 +74,6 @@ impl<T: Drop, H: History<T>> Shared<T, H> {
     }
 
     /// Asks through a side how many messages there are, or may be.
-    ///
-    /// # Examples
-    /// ```text
-    /// shared.ask_number(&rt, &mut pass, Side::Tx, Ask::Len)   answers  1   after one message entered
-    /// ```
     #[tactic(auto, using(kanal_state::proofs::Settling::free_replied))]
     pub fn ask_number<R: Wait>(
         &self,
@@ -121,11 +88,6 @@ impl<T: Drop, H: History<T>> Shared<T, H> {
     }
 
     /// Asks through a side how many handles a side has.
-    ///
-    /// # Examples
-    /// ```text
-    /// shared.ask_count(&rt, &mut pass, Side::Tx, Ask::SenderCount)   answers  1   for a new channel
-    /// ```
     #[tactic(auto, using(kanal_state::proofs::Settling::free_replied))]
     pub fn ask_count<R: Wait>(&self, rt: &R, pass: &mut H::Pass, side: Side, question: Ask) -> u32
         ensures asked { Asks H.relations pass.old pass.new side question count_by result }
@@ -134,11 +96,6 @@ impl<T: Drop, H: History<T>> Shared<T, H> {
     }
 
     /// Whether no sender is left and no message is there, those of waiting senders included.
-    ///
-    /// # Examples
-    /// ```text
-    /// shared.is_terminated(&rt, &mut pass)   answers  false   in a new channel
-    /// ```
     #[tactic(auto, using(kanal_state::proofs::Settling::free_replied))]
     pub fn is_terminated<R: Wait>(&self, rt: &R, pass: &mut H::Pass) -> bool
         ensures asked { AsksForTheEnd H.relations pass.old pass.new result }

@@ -25,9 +25,7 @@ use std::thread;
 /// What a call came to that waits where it must.
 #[derive(Drop)]
 pub(crate) enum WaitOutcome<T> {
-    /// It was answered, and did not wait.
     Replied(Reply<T>),
-    /// It waited, and this became of the wait.
     Settled(Outcome<T>),
     /// It waited, the deadline came, and the wait was taken back, with its message if it had one.
     Withdrawn(Option<T>),
@@ -37,7 +35,6 @@ pub(crate) enum WaitOutcome<T> {
 pub type StartedWait<T, H> = (CountedWait, WaitEnd<WaitResult<T, H>>);
 
 impl<T: Drop, H: History<T>> Shared<T, H> {
-    /// Makes a call that never waits for the other side, and counts no handle.
     pub(crate) fn call<R: Wait>(&self, rt: &R, pass: &mut H::Pass, event: Event<T>) -> Reply<T>
         requires plain { is_plain event ≡ true }
         requires uncounted { counts_handle event ≡ false }
@@ -46,7 +43,6 @@ impl<T: Drop, H: History<T>> Shared<T, H> {
         self.call_held(self.lock(rt), pass, event)
     }
 
-    /// Makes the call under the lock that was got.
     pub(crate) fn call_held(
         &self,
         locked: Locked<'_, T, H>,
@@ -62,8 +58,7 @@ impl<T: Drop, H: History<T>> Shared<T, H> {
         self.unlock_and_wake(locked, pass, made)
     }
 
-    /// Makes a call that waits where it must, under the lock that was got, and releases the lock. Whoever
-    /// calls this has looked before, and paused.
+    /// Makes a call that waits where it must, under the lock. The caller has looked before, and paused.
     #[inline(always)]
     pub(crate) fn blocking<R: Wait>(
         &self,
@@ -84,10 +79,8 @@ impl<T: Drop, H: History<T>> Shared<T, H> {
         }
     }
 
-    /// Begins the wait of a call under the lock that was got, and releases the lock.
-    ///
-    /// # Errors
-    /// The reply of a call that does not wait.
+    /// Begins the wait of a call under the lock, and releases the lock; `Err` is the reply of a call that does
+    /// not wait.
     #[inline(always)]
     pub(crate) fn begin(
         &self,
@@ -123,12 +116,6 @@ impl<T: Drop, H: History<T>> Shared<T, H> {
     /// # Errors
     /// The reply of a call that does not wait, with the lock released: it was made at once, or it was refused
     /// since the tickets are used up.
-    ///
-    /// # Examples
-    /// ```text
-    /// let (locked, event) = shared.start(locked, &mut pass, Event::Recv)?;
-    /// let (counted, end) = shared.wait(locked, &mut pass, event, ends(alloc))?;
-    /// ```
     #[inline(always)]
     pub fn start<'a>(
         &self,
@@ -157,7 +144,6 @@ impl<T: Drop, H: History<T>> Shared<T, H> {
     }
 
     /// Starts the wait of a call that the pass has seen must wait, with the ends of its cell, and releases the lock.
-    /// Example: `let (counted, end) = shared.wait(locked, &mut pass, event, ends(alloc))?`.
     ///
     /// # Errors
     /// The reply of a call that was refused: there was no memory for a cell, or for the wait. Nobody waits, and
@@ -196,8 +182,7 @@ impl<T: Drop, H: History<T>> Shared<T, H> {
         }
     }
 
-    /// Learns what became of the wait, and counts it out. Where that is another's, which no run has shown, the
-    /// call never returns.
+    /// Consumes the wait's token. If the result has another ticket (never seen), yields forever.
     pub(crate) fn learn<R: Wait>(
         &self,
         rt: &R,

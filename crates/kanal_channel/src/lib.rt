@@ -1,7 +1,8 @@
 //! A channel as its handles share it: the lock round the core and its history, and the calls over it.
 //!
 //! A call takes the lock, has the state make one step and keep the call, releases the lock, and only then wakes
-//! those whose waits it settled, and drops what left the core. No other crate takes the lock.
+//! those whose waits it settled, and drops what left the core. Of the other libraries only `kanal_futures`
+//! takes the lock: a poll tries it, and steps the state under it.
 #![tactic(auto)]
 
 mod admin;

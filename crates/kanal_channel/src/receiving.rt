@@ -25,19 +25,13 @@ use std::time::Duration;
 impl<T: Drop, H: History<T>> Shared<T, H> {
     /// Receives a message, and waits where there is none.
     ///
-    /// `Ok(message)` where it got the front of the line at once, or it waited and was given the message, of
-    /// which the pass has learnt then.
+    /// `Ok(message)` where it got the front of the line at once, or it waited and was given the message.
     ///
     /// # Errors
-    /// `Closed` where no receiver is left or the channel was closed while it waited, `SendClosed` where
-    /// there is no message and no sender is left, or the last was dropped while it waited, and `TooMany`
-    /// where the tickets are used up. `NoMemory` where memory was refused: the call is in no history then,
-    /// and the pass has seen that it had to wait.
-    ///
-    /// # Examples
-    /// ```text
-    /// shared.recv(&rt, &mut pass)   answers  Ok(7)   where 7 was sent
-    /// ```
+    /// `Closed` where no receiver is left or the channel was closed while it waited, `SendClosed` where there
+    /// is no message and no sender is left, or the last was dropped while it waited, and `TooMany` where the
+    /// tickets are used up. `NoMemory` where memory was refused: the call is in no history then, and the pass
+    /// has seen that it had to wait.
     #[inline]
     pub fn recv<R: Wait>(&self, rt: &R, pass: &mut H::Pass) -> Result<T, ReceiveError>
         ensures received { Receives H.relations pass.old pass.new result }
@@ -53,7 +47,6 @@ impl<T: Drop, H: History<T>> Shared<T, H> {
         }
     }
 
-    /// The receive, under the lock that was got, where no message left the buffer by itself.
     #[inline(always)]
     fn recv_held<R: Wait>(
         &self,
@@ -94,7 +87,7 @@ impl<T: Drop, H: History<T>> Shared<T, H> {
         }
     }
 
-    /// The receive, where a sender that waits may be let in, or may hand its message over; otherwise the call is
+    /// The receive, where a waiting sender may be let in, or may hand its message over; otherwise the call is
     /// refused, or waits.
     #[cold]
     fn recv_waiting<R: Wait>(
@@ -112,16 +105,10 @@ impl<T: Drop, H: History<T>> Shared<T, H> {
         }
     }
 
-    /// Receives the front message, if there is one; `Ok(None)` says that there is none. It waits for the
-    /// lock alone.
+    /// Receives the front message, if there is one; `Ok(None)` says that there is none. It waits for the lock alone.
     ///
     /// # Errors
     /// `Closed` where no receiver is left, and `SendClosed` where there is no message and no sender.
-    ///
-    /// # Examples
-    /// ```text
-    /// shared.try_recv(&rt, &mut pass)   answers  Ok(None)   in a new channel
-    /// ```
     #[inline]
     #[tactic(auto, using(kanal_state::proofs::Exchanging::tries_got))]
     pub fn try_recv<R: Wait>(&self, rt: &R, pass: &mut H::Pass) -> Result<Option<T>, ReceiveError>
@@ -139,7 +126,6 @@ impl<T: Drop, H: History<T>> Shared<T, H> {
         }
     }
 
-    /// The receive, under the lock that was got, where no message left the buffer by itself.
     #[cold]
     #[tactic(auto, using(kanal_state::proofs::Settling::free_replied))]
     fn try_recv_held(
@@ -157,11 +143,6 @@ impl<T: Drop, H: History<T>> Shared<T, H> {
     ///
     /// # Errors
     /// As `try_recv`.
-    ///
-    /// # Examples
-    /// ```text
-    /// shared.try_recv_realtime(&mut pass)   answers  Ok(Some(1))   where 1 was sent
-    /// ```
     #[tactic(auto, using(kanal_state::proofs::Settling::free_replied))]
     pub fn try_recv_realtime(&self, pass: &mut H::Pass) -> Result<Option<T>, ReceiveError>
         ensures received { TriesToReceiveNow H.relations pass.old pass.new result }
@@ -173,24 +154,16 @@ impl<T: Drop, H: History<T>> Shared<T, H> {
         asked_by(self.unlock_tried(locked, pending, pass, made))
     }
 
-    /// Receives a message, and waits where there is none, until the deadline, which is the clock's moment
-    /// now and the duration together. Where the clock stands past it when it is read again, only what is
-    /// there is received.
+    /// Receives a message, and waits where there is none, until the deadline, which is the clock's moment now and the
+    /// duration together. Where the clock stands past it when it is read again, only what is there is received.
     ///
-    /// `Ok(message)` where it got the front of the line at once, or it waited and was given the message, of
-    /// which the pass has learnt then.
+    /// `Ok(message)` where it got the front of the line at once, or it waited and was given the message.
     ///
     /// # Errors
     /// As `recv`, and `Timeout` where it waited, the deadline came, and the wait was taken back: that is a
     /// second call of the pass; or where the deadline had passed and no message was there, whoever sends.
-    /// `DeadlineOutOfRange` where the deadline is past the largest moment: the call is in no history then,
-    /// and the pass is as it was.
-    ///
-    /// # Examples
-    /// ```text
-    /// shared.recv_timeout(&rt, &mut pass, Duration::from_nanos(1), &clock)
-    ///     answers  Err(Timeout)   where nobody sends
-    /// ```
+    /// `DeadlineOutOfRange` where the deadline is past the largest moment: the call is in no history then, and
+    /// the pass is as it was.
     #[tactic(auto, using(kanal_state::proofs::Settling::free_replied, kanal_state::proofs::Exchanging::receives_in_time_got))]
     pub fn recv_timeout<R: Wait + time::Clock, C: Clock>(
         &self,
@@ -214,7 +187,6 @@ impl<T: Drop, H: History<T>> Shared<T, H> {
         received_in_time(self.recv_until(rt, pass, clock, deadline))
     }
 
-    /// Receives a message, and waits until the deadline where there is none.
     fn recv_until<R: Wait + time::Clock, C: Clock>(
         &self,
         rt: &R,
@@ -247,11 +219,6 @@ impl<T: Drop, H: History<T>> Shared<T, H> {
     /// `Closed` where no receiver is left. `NoMemory` where the vector had too little room and there was no
     /// memory for more: the call is in no history then, and the pass has seen that a line may refuse it so.
     /// The vector holds what it held, and has the room that it had.
-    ///
-    /// # Examples
-    /// ```text
-    /// shared.drain_into(&rt, &mut pass, &mut messages)   answers  Ok(2)   where two messages were there
-    /// ```
     pub fn drain_into<R: Wait>(
         &self,
         rt: &R,

@@ -22,7 +22,6 @@ use std::sync::Wait;
 use std::time;
 use std::time::Duration;
 
-/// Takes the option's message, which the caller knows to be there.
 fn taken<T: Drop>(option: &mut Option<T>) -> T
     requires { IsSome option.old }
     ensures was { option.old ≡ Some result }
@@ -37,19 +36,13 @@ fn taken<T: Drop>(option: &mut Option<T>) -> T
 impl<T: Drop, H: History<T>> Shared<T, H> {
     /// Sends the message, and waits where there is no place for it.
     ///
-    /// `Ok(())` where it entered: at once, or it waited and was taken, of which the pass has learnt then.
+    /// `Ok(())` where it entered: at once, or it waited and was taken.
     ///
     /// # Errors
-    /// `ReceiveClosed` where no receiver is left or the last was dropped while it waited, `Closed` where
-    /// no side is left or the channel was closed while it waited, `Sealed` where only no sender is left,
-    /// and `TooMany` where the tickets are used up. `NoMemory` where memory was refused: the call is in no
-    /// history then, and the pass has seen that a line may refuse it so, or that it had to wait. The
-    /// message is dropped.
-    ///
-    /// # Examples
-    /// ```text
-    /// shared.send(&rt, &mut pass, 7)   answers  Ok(())   in a channel with a place
-    /// ```
+    /// `ReceiveClosed` where no receiver is left or the last was dropped while it waited, `Closed` where no side is
+    /// left or the channel was closed while it waited, `Sealed` where only no sender is left, and `TooMany` where the
+    /// tickets are used up. `NoMemory` where memory was refused: the call is in no history then, and the pass has
+    /// seen that a line may refuse it so, or that it had to wait. The message is dropped.
     #[inline]
     pub fn send<R: Wait>(&self, rt: &R, pass: &mut H::Pass, message: T) -> Result<(), SendError>
         ensures sent { Sends H.relations pass.old pass.new message result }
@@ -65,7 +58,6 @@ impl<T: Drop, H: History<T>> Shared<T, H> {
         }
     }
 
-    /// The send, under the lock that was got, where the message did not enter by itself.
     #[inline(always)]
     fn send_held<R: Wait>(
         &self,
@@ -133,12 +125,6 @@ impl<T: Drop, H: History<T>> Shared<T, H> {
     /// `ReceiveClosed` where no receiver is left, `Closed` where no side is, `Sealed` where only no sender
     /// is, and `NoMemory` where a buffer without limit can't grow: the call is in no history then, and the
     /// pass has seen that a line may refuse it so. The message is dropped.
-    ///
-    /// # Examples
-    /// ```text
-    /// shared.try_send(&rt, &mut pass, 7)   answers  Ok(true)    in a new bounded channel for one
-    /// shared.try_send(&rt, &mut pass, 8)   answers  Ok(false)   after that
-    /// ```
     pub fn try_send<R: Wait>(
         &self,
         rt: &R,
@@ -153,7 +139,6 @@ impl<T: Drop, H: History<T>> Shared<T, H> {
         self.offer(rt, pass, message, &mut back)
     }
 
-    /// Offers the message; one that comes back goes into the option.
     #[inline]
     fn offer<R: Wait>(
         &self,
@@ -177,7 +162,6 @@ impl<T: Drop, H: History<T>> Shared<T, H> {
         }
     }
 
-    /// The send, under the lock that was got, where the message did not enter by itself.
     #[cold]
     #[tactic(auto, using(crate::proofs::Backs::offered, crate::proofs::Backs::sent_leaves, crate::proofs::Backs::refused_stays))]
     fn offer_held(
@@ -202,13 +186,6 @@ impl<T: Drop, H: History<T>> Shared<T, H> {
     ///
     /// # Errors
     /// As `try_send`. The option holds the same message then.
-    ///
-    /// # Examples
-    /// ```text
-    /// let mut option = Some(7);
-    /// shared.try_send_option(&rt, &mut pass, &mut option)   answers  Ok(false)   at capacity 0
-    /// option   is  Some(7)
-    /// ```
     pub fn try_send_option<R: Wait>(
         &self,
         rt: &R,
@@ -229,11 +206,6 @@ impl<T: Drop, H: History<T>> Shared<T, H> {
     ///
     /// # Errors
     /// As `try_send`.
-    ///
-    /// # Examples
-    /// ```text
-    /// shared.try_send_realtime(&mut pass, 1)   answers  Ok(true)   in a new bounded channel for one
-    /// ```
     pub fn try_send_realtime(&self, pass: &mut H::Pass, message: T) -> Result<bool, SendError>
         ensures sent { TriesToSendNow H.relations pass.old pass.new message result }
     {
@@ -241,7 +213,6 @@ impl<T: Drop, H: History<T>> Shared<T, H> {
         self.offer_now(pass, message, &mut back)
     }
 
-    /// Offers the message where the lock is free; one that comes back goes into the option.
     #[tactic(auto, using(crate::proofs::Backs::offered, crate::proofs::Backs::sent_leaves, crate::proofs::Backs::refused_stays))]
     fn offer_now(
         &self,
@@ -269,13 +240,6 @@ impl<T: Drop, H: History<T>> Shared<T, H> {
     ///
     /// # Errors
     /// As `try_send`. The option holds the same message then.
-    ///
-    /// # Examples
-    /// ```text
-    /// let mut option = Some(1);
-    /// shared.try_send_option_realtime(&mut pass, &mut option)   answers  Ok(true)   in a new bounded channel
-    /// option   is  None
-    /// ```
     pub fn try_send_option_realtime(
         &self,
         pass: &mut H::Pass,
@@ -290,21 +254,15 @@ impl<T: Drop, H: History<T>> Shared<T, H> {
         self.offer_now(pass, message, option)
     }
 
-    /// Sends the message, and waits where there is no place for it, until the deadline, which is the
-    /// clock's moment now and the duration together.
+    /// Sends the message, and waits where there is no place for it, until the deadline, which is the clock's
+    /// moment now and the duration together.
     ///
-    /// `Ok(())` where it entered: at once, or it waited and was taken, of which the pass has learnt then.
+    /// `Ok(())` where it entered: at once, or it waited and was taken.
     ///
     /// # Errors
     /// As `send`, and `Timeout` where it waited, the deadline came, and the wait was taken back: that is a
-    /// second call of the pass. `DeadlineOutOfRange` where the deadline is past the largest moment: the
-    /// call is in no history then, and the pass is as it was. The message is dropped.
-    ///
-    /// # Examples
-    /// ```text
-    /// shared.send_timeout(&rt, &mut pass, 7, Duration::from_nanos(1), &clock)
-    ///     answers  Err(Timeout)   where nobody receives at capacity 0
-    /// ```
+    /// second call of the pass. `DeadlineOutOfRange` where the deadline is past the largest moment: the call is
+    /// in no history then, and the pass is as it was. The message is dropped.
     pub fn send_timeout<R: Wait + time::Clock, C: Clock>(
         &self,
         rt: &R,
@@ -327,14 +285,6 @@ impl<T: Drop, H: History<T>> Shared<T, H> {
     ///
     /// # Errors
     /// As `send_timeout`. The option holds the message then; clause `kept` says so where no wait began.
-    ///
-    /// # Examples
-    /// ```text
-    /// let mut option = Some(7);
-    /// shared.send_option_timeout(&rt, &mut pass, &mut option, Duration::from_nanos(1), &clock)
-    ///     answers  Err(Timeout)   in a full channel
-    /// option   is  Some(7)
-    /// ```
     pub fn send_option_timeout<R: Wait + time::Clock, C: Clock>(
         &self,
         rt: &R,
@@ -353,7 +303,6 @@ impl<T: Drop, H: History<T>> Shared<T, H> {
         self.send_before(rt, pass, message, option, duration, clock)
     }
 
-    /// Sends the message until the deadline; one that comes back goes into the option.
     fn send_before<R: Wait + time::Clock, C: Clock>(
         &self,
         rt: &R,
@@ -377,7 +326,6 @@ impl<T: Drop, H: History<T>> Shared<T, H> {
         sent_in_time(self.send_until(rt, pass, message, clock, deadline), back)
     }
 
-    /// Sends the message, and waits until the deadline where there is no place for it.
     fn send_until<R: Wait + time::Clock, C: Clock>(
         &self,
         rt: &R,

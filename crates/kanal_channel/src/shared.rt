@@ -1,7 +1,8 @@
 //! What the handles of a channel share: the lock round the core and its history, and the notices.
 //!
 //! A call that may not wait leaves a notice where the lock is held, which whoever gets the lock next applies.
-//! `locked` alone takes the notices, and `unlock` alone releases the lock and wakes.
+//! `locked` gets the lock; where it finds notices it may let the lock go, to have them applied first. After a
+//! step `unlock` alone releases the lock, and it alone wakes.
 ghost use Rattle.std.specs.Prelude.{◌≡◌, IsErrOf};
 ghost use Rattle.kanal_cell.specs.CellEnds.{wait_view};
 ghost use Rattle.kanal_core.specs.Channel.{line_of};
@@ -53,8 +54,6 @@ impl<T: Drop, H: History<T>> Drop for Shared<T, H> {
 impl<T: Drop, H: History<T>> Shared<T, H> {
     /// A free lock round the core and what is kept of the calls that led to its line, with what makes
     /// the internal calls, and no notices. The memory of waits is asked of `alloc`.
-    /// Example: `let core = ChannelInternal::new(alloc, 1)?`; then
-    /// `let shared = Shared::new(core, NoHistory, (), (), alloc)`.
     pub fn new(
         core: Core<T, H>,
         history: H,
@@ -68,7 +67,6 @@ impl<T: Drop, H: History<T>> Shared<T, H> {
         Shared::round(State::new(core, history, internal_pass), places, log, alloc)
     }
 
-    /// A free lock round this state, of which so many messages may lie in the buffer, and no notices.
     fn round(state: State<T, H>, places: usize, log: H::Log, alloc: Global) -> Self {
         Shared {
             log,
@@ -81,8 +79,6 @@ impl<T: Drop, H: History<T>> Shared<T, H> {
     }
 
     /// As `new`, for handles: with the tokens of the channel's first sender and first receiver.
-    /// Example: `let (shared, first) = Shared::with_handles(core, NoHistory, (), (), alloc)?`; then
-    /// `let (sender, receiver) = first.into_tokens()`.
     ///
     /// # Errors
     /// `NoMemory` where there is no memory for the channel.
@@ -105,32 +101,27 @@ impl<T: Drop, H: History<T>> Shared<T, H> {
     }
 
     /// What all who share the channel share of what is kept of its calls.
-    /// Example: `let other = pass.again(shared.log())`.
     pub fn log(&self) -> &H::Log {
         &self.log
     }
 
     /// What the memory of waits is asked of.
-    /// Example: `signal::new(shared.alloc())`.
     pub fn alloc(&self) -> Global {
         self.alloc
     }
 
     /// Whether a message may lie in a buffer: at every capacity but 0.
-    /// Example: `shared.has_buffer()` answers `false` at capacity 0.
     pub fn has_buffer(&self) -> bool {
         self.has_buffer
     }
 
     /// How many waits were left while the lock was held, and not withdrawn yet. It never waits.
-    /// Example: `shared.left_waits()` answers `1` after a future that waited was dropped while the lock was held.
     #[doc(hidden)] // For tests of what stays in the line while the lock is held.
     pub fn left_waits(&self) -> u64 {
         self.notices.waits()
     }
 
     /// A handle goes away: it never waits.
-    /// Example: `shared.drop_handle(counted)`: the last sender ends the receivers that wait.
     pub fn drop_handle<S: OfSide>(&self, counted: CountedHandle<S>) {
         match self.try_lock() {
             Some((locked, pending)) => {
@@ -146,7 +137,6 @@ impl<T: Drop, H: History<T>> Shared<T, H> {
     }
 
     /// Gives up the wait of a future that has left its cell. It never waits.
-    /// Example: `shared.leave(counted, end)` withdraws the wait, or leaves a notice where the lock is held.
     pub fn leave(&self, counted: CountedWait, end: WaitEnd<WaitResult<T, H>>)
         requires left { HasLeftCell (wait_view end) }
     {

@@ -22,7 +22,6 @@ use kanal_state::{CountedWait, History, WaitResult};
 use std::sync::Wait;
 use std::time;
 
-/// The answer of a send with a deadline, for what it came to; a message that comes back goes into the option.
 pub(crate) fn sent_in_time<T: Drop>(
     came: WaitOutcome<T>,
     option: &mut Option<T>,
@@ -41,7 +40,6 @@ pub(crate) fn sent_in_time<T: Drop>(
     }
 }
 
-/// The answer of a receive with a deadline, for what it came to.
 pub(crate) fn received_in_time<T: Drop>(came: WaitOutcome<T>) -> Result<T, ReceiveErrorTimeout>
     ensures { result ≡ answer_in_time receive_in_time came }
 {

@@ -15,7 +15,6 @@ use kanal_core::error::{
 use kanal_core::internal::{Outcome, Reason};
 use kanal_events::event::{Refusal, Reply};
 
-/// Why a send is refused.
 #[cold]
 fn send_error(reason: Refusal) -> SendError
     ensures { result ≡ send_error reason }
@@ -30,7 +29,6 @@ fn send_error(reason: Refusal) -> SendError
 }
 
 /// The answer of a send that waits where it must.
-/// Example: `sent_by(Reply::Sent)` answers `Ok(())`.
 pub fn sent_by<T: Drop>(reply: Reply<T>) -> Result<(), SendError>
     ensures { result ≡ sent_by reply }
 {
@@ -42,7 +40,6 @@ pub fn sent_by<T: Drop>(reply: Reply<T>) -> Result<(), SendError>
 }
 
 /// What the end of a sender's wait answers.
-/// Example: `sent_after(Outcome::Taken)` answers `Ok(())`.
 #[cold]
 pub fn sent_after<T: Drop>(outcome: Outcome<T>) -> Result<(), SendError>
     ensures { result ≡ sent_after outcome }
@@ -56,7 +53,6 @@ pub fn sent_after<T: Drop>(outcome: Outcome<T>) -> Result<(), SendError>
 }
 
 /// The answer of a send that doesn't wait; a message that comes back goes into the option.
-/// Example: `restored(Reply::No(7), &mut option)` answers `Ok(false)` and the option has the 7.
 pub fn restored<T: Drop>(reply: Reply<T>, option: &mut Option<T>) -> Result<bool, SendError>
     requires empty { option.old ≡ None }
     ensures answer { result ≡ entered_by reply }
@@ -76,7 +72,6 @@ pub fn restored<T: Drop>(reply: Reply<T>, option: &mut Option<T>) -> Result<bool
     }
 }
 
-/// Why a send with a deadline is refused.
 #[cold]
 fn timed_send_error(reason: Refusal) -> SendErrorTimeout
     ensures { result ≡ timed_send_error reason }
@@ -91,7 +86,6 @@ fn timed_send_error(reason: Refusal) -> SendErrorTimeout
 }
 
 /// The answer of a send with a deadline; a message that comes back goes into the option.
-/// Example: `timed_sent_by(Reply::Sent, &mut option)` answers `Ok(())`.
 pub fn timed_sent_by<T: Drop>(
     reply: Reply<T>,
     option: &mut Option<T>,
@@ -115,7 +109,6 @@ pub fn timed_sent_by<T: Drop>(
 }
 
 /// What the end of its wait answers a send with a deadline; a message that comes back goes into the option.
-/// Example: `timed_sent_after(Outcome::Taken, &mut option)` answers `Ok(())`.
 #[cold]
 pub fn timed_sent_after<T: Drop>(
     outcome: Outcome<T>,
@@ -139,7 +132,6 @@ pub fn timed_sent_after<T: Drop>(
     }
 }
 
-/// Why a receive is refused.
 #[cold]
 fn receive_error(reason: Refusal) -> ReceiveError
     ensures { result ≡ receive_error reason }
@@ -153,7 +145,6 @@ fn receive_error(reason: Refusal) -> ReceiveError
 }
 
 /// The answer of a receive that waits where it must.
-/// Example: `received_by(Reply::Got(7))` answers `Ok(7)`.
 pub fn received_by<T: Drop>(reply: Reply<T>) -> Result<T, ReceiveError>
     ensures { result ≡ received_by reply }
 {
@@ -165,7 +156,6 @@ pub fn received_by<T: Drop>(reply: Reply<T>) -> Result<T, ReceiveError>
 }
 
 /// What the end of a receiver's wait answers.
-/// Example: `received_after(Outcome::Given(7))` answers `Ok(7)`.
 #[cold]
 pub fn received_after<T: Drop>(outcome: Outcome<T>) -> Result<T, ReceiveError>
     ensures { result ≡ received_after outcome }
@@ -179,7 +169,6 @@ pub fn received_after<T: Drop>(outcome: Outcome<T>) -> Result<T, ReceiveError>
 }
 
 /// The answer of a receive that doesn't wait.
-/// Example: `asked_by(Reply::Nothing)` answers `Ok(None)`.
 pub fn asked_by<T: Drop>(reply: Reply<T>) -> Result<Option<T>, ReceiveError>
     ensures { result ≡ asked_by reply }
 {
@@ -191,8 +180,6 @@ pub fn asked_by<T: Drop>(reply: Reply<T>) -> Result<Option<T>, ReceiveError>
     }
 }
 
-/// The answer of a drain.
-/// Example: `drained_by(Reply::Drained(2))` answers `Ok(2)`.
 pub fn drained_by<T: Drop>(reply: Reply<T>) -> Result<usize, ReceiveError>
     ensures { result ≡ drained_by reply }
 {
@@ -203,7 +190,6 @@ pub fn drained_by<T: Drop>(reply: Reply<T>) -> Result<usize, ReceiveError>
     }
 }
 
-/// Why a receive with a deadline is refused.
 #[cold]
 fn timed_receive_error(reason: Refusal) -> ReceiveErrorTimeout
     ensures { result ≡ timed_receive_error reason }
@@ -218,7 +204,6 @@ fn timed_receive_error(reason: Refusal) -> ReceiveErrorTimeout
 }
 
 /// The answer of a receive with a deadline.
-/// Example: `timed_received_by(Reply::Got(7))` answers `Ok(7)`.
 pub fn timed_received_by<T: Drop>(reply: Reply<T>) -> Result<T, ReceiveErrorTimeout>
     ensures { result ≡ timed_received_by reply }
 {
@@ -230,7 +215,6 @@ pub fn timed_received_by<T: Drop>(reply: Reply<T>) -> Result<T, ReceiveErrorTime
 }
 
 /// What the end of its wait answers a receive with a deadline.
-/// Example: `timed_received_after(Outcome::Given(7))` answers `Ok(7)`.
 #[cold]
 pub fn timed_received_after<T: Drop>(outcome: Outcome<T>) -> Result<T, ReceiveErrorTimeout>
     ensures { result ≡ timed_received_after outcome }
@@ -244,7 +228,6 @@ pub fn timed_received_after<T: Drop>(outcome: Outcome<T>) -> Result<T, ReceiveEr
 }
 
 /// Whether a seal or a close was made.
-/// Example: `closed_by(Reply::Done)` answers `Ok(())`.
 pub fn closed_by<T: Drop>(reply: Reply<T>) -> Result<(), CloseError>
     ensures { result ≡ closed_by reply }
 {
@@ -255,8 +238,6 @@ pub fn closed_by<T: Drop>(reply: Reply<T>) -> Result<(), CloseError>
     }
 }
 
-/// Yes or no, as it was asked.
-/// Example: `flag_by(Reply::Flag(true))` answers `true`.
 pub fn flag_by<T: Drop>(reply: Reply<T>) -> bool
     ensures { result ≡ flag_by reply }
 {
@@ -266,8 +247,6 @@ pub fn flag_by<T: Drop>(reply: Reply<T>) -> bool
     }
 }
 
-/// How many messages, as it was asked.
-/// Example: `number_by(Reply::Number(2))` answers `2`.
 pub fn number_by<T: Drop>(reply: Reply<T>) -> usize
     ensures { result ≡ number_by reply }
 {
@@ -277,8 +256,6 @@ pub fn number_by<T: Drop>(reply: Reply<T>) -> usize
     }
 }
 
-/// How many handles, as it was asked.
-/// Example: `count_by(Reply::Number(2))` answers `2`.
 pub fn count_by<T: Drop>(reply: Reply<T>) -> u32
     ensures { result ≡ count_by reply }
 {
@@ -289,7 +266,6 @@ pub fn count_by<T: Drop>(reply: Reply<T>) -> u32
     }
 }
 
-/// Whether one more was counted.
 pub(crate) fn counted_by<T: Drop>(reply: Reply<T>) -> Result<(), TooMany>
     ensures { result ≡ counted_by reply }
 {

@@ -8,9 +8,8 @@ use std::sync::Wait;
 
 /// Who makes a call: `&rt`, the runtime value.
 ///
-/// To contracts a caller is the pass of the channel's history, as it was before the call and as it is after
-/// it. The pass has no content where the channel has no history. A call by a pass of content is one of
-/// `channel`, which is lent the pass.
+/// A caller carries a pass; clauses name its value before and after. It is `()` without a history. A call by a
+/// pass with content is one of `channel`, which is lent the pass.
 pub trait CallContext<P> {
     /// What the call waits by.
     type Runtime: Wait + Drop;

@@ -27,8 +27,7 @@ pub use notices::{GoneHandles, GoneWaits, MustDrain, Notices};
 use std::marker::PhantomData;
 use std::snapshot::Snapshot;
 
-/// What a token is made of: the kit's tag, which has no bytes, goes to other threads and is shared by them,
-/// and of which nothing is known here.
+/// The kit's tag: it has no bytes, and threads may send and share it.
 type Stands = Tag;
 
 /// What a tag says that has to be counted out.
@@ -40,7 +39,6 @@ impl Names<()> for Standing {
     ghost numbers = { λ _. 0 ∷ [] };
 }
 
-/// One more token.
 fn stands() -> Stands {
     Tag::of::<(), Standing>(&())
 }
@@ -51,10 +49,8 @@ pub struct CountedHandle<S> {
     side: PhantomData<S>,
 }
 
-/// A sender that is counted.
 pub type CountedSender = CountedHandle<SendSide>;
 
-/// A receiver that is counted.
 pub type CountedReceiver = CountedHandle<ReceiveSide>;
 
 impl<S> Drop for CountedHandle<S> {
@@ -67,7 +63,6 @@ impl<S> Drop for CountedHandle<S> {
 }
 
 impl<S> CountedHandle<S> {
-    /// One handle more.
     fn new() -> Self {
         CountedHandle {
             stands: stands(),
@@ -92,7 +87,6 @@ impl<S: OfSide> CountedHandle<S> {
         CountedHandle::new()
     }
 
-    /// Counts the handle out: its drop was made as an internal call.
     pub(crate) fn count_out<T, W, H: History<T>>(
         self,
         before: &Snapshot<H::InternalPass>,
@@ -114,13 +108,11 @@ impl<S: OfSide> CountedHandle<S> {
 pub struct FirstHandles(());
 
 impl FirstHandles {
-    /// That of a new lock, which alone calls this.
     pub(crate) fn new() -> Self {
         FirstHandles(())
     }
 
     /// The tokens of both.
-    /// Example: `let (sender, receiver) = first.into_tokens()`.
     pub fn into_tokens(self) -> (CountedSender, CountedReceiver) {
         let FirstHandles(()) = self;
         (CountedHandle::new(), CountedHandle::new())
@@ -154,8 +146,6 @@ impl CountedWait {
         }
     }
 
-    /// The ticket.
-    /// Example: `counted.ticket().number()` answers `0` for the first that waits.
     #[inline]
     pub fn ticket(&self) -> Ticket
         ensures { result ≡ ticket_of self.now }
@@ -169,7 +159,6 @@ impl CountedWait {
         drop(stands);
     }
 
-    /// Counts the wait out: a call of its pass took it back.
     pub(crate) fn withdrawn<T, W, H: History<T>>(
         self,
         before: &Snapshot<H::Pass>,
@@ -186,7 +175,6 @@ impl CountedWait {
         drop(stands);
     }
 
-    /// Counts the wait out: an internal call took it back.
     pub(crate) fn taken_back<T, W, H: History<T>>(
         self,
         before: &Snapshot<H::InternalPass>,
@@ -203,7 +191,6 @@ impl CountedWait {
         drop(stands);
     }
 
-    /// Counts the wait out: a withdrawal of its ticket finds nobody.
     pub(crate) fn missing<T, H: History<T>>(self, core: &Core<T, H>)
         requires nobody { IsPlaced (ticket_of self) core.now.waiters → Tells (line_of core.now)
             (Event.Withdraw (number_of (ticket_of self))) (not_waiting (line_of core.now)) }
@@ -213,17 +200,10 @@ impl CountedWait {
         drop(stands);
     }
 
-    /// Counts the wait out, where this became of it; where that is another's, it comes back.
+    /// Consumes the token if `delivered` has its ticket; else returns it.
     ///
     /// A cell is settled for its own ticket. No type ties the cell to the ticket, so the two are compared; no
     /// run has shown that they differ.
-    ///
-    /// # Examples
-    /// ```text
-    /// if let Some(counted) = counted.told(&delivered) {
-    ///     shared.leave(counted, end);
-    /// }
-    /// ```
     #[inline]
     pub fn told<T: Drop, H: History<T>>(self, delivered: &WaitResult<T, H>) -> Option<Self>
         ensures told { IfNone result (delivered.now.0 ≡ number_of (ticket_of self)) }
@@ -238,8 +218,6 @@ impl CountedWait {
     }
 
     /// The pass learns what became of the wait, which is counted out.
-    /// Example: `counted.learn(shared.log(), &mut pass, delivered)` answers `Ok(Outcome::Taken)` where the message
-    /// was taken.
     ///
     /// # Errors
     /// The wait, where that is another's: the pass has learnt nothing.

@@ -1,7 +1,7 @@
 //! What lies under the lock of a channel: the core, the history of the calls on its line, and the notices.
 //!
-//! A call lends the core to one step of `kanal_events` and has the call kept by the channel's `History`. Nothing
-//! here takes the lock, waits, or wakes a waiter: `kanal_channel` does, with what leaves the core.
+//! A call lends the core to one step of `kanal_events` and has the call kept by the channel's `History`. Nothing here
+//! takes the lock or waits. A `WaiterHandle` wakes who waits, but only by evidence that the lock was released.
 #![tactic(auto)]
 
 pub mod answers;

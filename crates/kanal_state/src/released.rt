@@ -17,7 +17,6 @@ pub struct Released(());
 
 impl Released {
     /// Releases the lock; notices that were left meanwhile have to be drained.
-    /// Example: `let (released, due) = Released::by(guard)`; then `owed.tell(prefix, &released)`.
     #[inline(always)]
     pub fn by<T: Drop, H: History<T>>(guard: MutexGuard<'_, State<T, H>>) -> (Self, MustDrain) {
         drop(guard);
@@ -48,13 +47,6 @@ impl<X: Drop> Drop for Deferred<X> {
 
 impl<X> Deferred<X> {
     /// What is in it, once the lock was released.
-    ///
-    /// # Examples
-    /// ```text
-    /// let made = locked.state.call(log, &mut pass, Event::Close);
-    /// let (released, due) = locked.unlock();
-    /// made.open(&released)   answers  what the close told
-    /// ```
     #[inline(always)]
     pub fn open(self, _released: &Released) -> X
         ensures { result ≡ self }

@@ -10,8 +10,6 @@ pub trait OfSide {
     /// The side that it is.
     ghost side: { Side };
 
-    /// The side that it is.
-    /// Example: `SendSide::side()` answers `Side::Tx`.
     fn side() -> Side
         ensures { result ≡ side };
 }

@@ -40,10 +40,10 @@ use recording::{
 use std::marker::Model;
 use std::snapshot::Snapshot;
 
-/// The core, the history of the calls on its line, and what makes the internal calls: of a handle
-/// that is gone, or of a wait that was left. Contracts see what makes those, the line, and who waits with what.
+/// The core, the history of the calls on its line, and what makes the internal calls: of a handle that is gone,
+/// or of a wait that was left. Contracts see what makes those, the line, and who waits with what.
 ///
-/// Its type keeps that what is kept led to that line.
+/// Invariant: the history explains the core's line.
 #[derive(Drop)]
 pub struct State<T, H: History<T>> {
     core: Core<T, H>,
@@ -73,7 +73,6 @@ pub enum WaitStart<T, H: History<T>> {
     Refused(Deferred<Reply<T>>, Deferred<WaiterHandle<T, H>>),
 }
 
-/// The reply to a call that must wait, where the tickets are used up.
 fn too_many<T: Drop, H: History<T>>(core: &Core<T, H>, event: Event<T>) -> Reply<T>
     requires waits { may_wait event ≡ true }
     requires must { MustWait (line_of core.now) event }
@@ -85,8 +84,6 @@ fn too_many<T: Drop, H: History<T>>(core: &Core<T, H>, event: Event<T>) -> Reply
     event.refused(Refusal::TooMany)
 }
 
-/// Swaps the waker of the wait with the ticket for the spare one, if there is a spare, and answers whether
-/// the ticket waits. The line stays.
 fn renew<T: Drop, H: History<T>>(
     core: &mut Core<T, H>,
     ticket: Ticket,
@@ -105,7 +102,6 @@ fn renew<T: Drop, H: History<T>>(
 
 impl<T: Drop, H: History<T>> State<T, H> {
     /// A core, and what is kept of the calls that led to its line.
-    /// Example: `let state = State::new(core, NoHistory, ())`.
     pub fn new(core: Core<T, H>, history: H, internal_pass: H::InternalPass) -> State<T, H>
         requires core { H.stands history (line_of core) }
     {
@@ -117,7 +113,6 @@ impl<T: Drop, H: History<T>> State<T, H> {
     }
 
     /// As `new`, for handles: with that of the core's first sender and first receiver.
-    /// Example: `let (state, first) = State::with_handles(core, NoHistory, ())`.
     pub fn with_handles(
         core: Core<T, H>,
         history: H,
@@ -132,13 +127,11 @@ impl<T: Drop, H: History<T>> State<T, H> {
     }
 
     /// The channel goes, with its notices.
-    /// Example: `mutex.into_inner().end(notices)`.
     pub fn end(self, notices: Notices) {
         notices.end();
         drop(self);
     }
 
-    /// How many handles a side has.
     fn count_of(&self, side: Side) -> u32
         ensures { result ≡ count_of side self.now.1 }
     {
@@ -149,7 +142,6 @@ impl<T: Drop, H: History<T>> State<T, H> {
     }
 
     /// Makes a call that never waits, and counts no handle.
-    /// Example: `let made = locked.state.call(log, &mut pass, Event::Close)`.
     pub fn call(
         &mut self,
         log: &H::Log,
@@ -168,7 +160,6 @@ impl<T: Drop, H: History<T>> State<T, H> {
         }
     }
 
-    /// Makes a call that never waits.
     fn make(
         &mut self,
         log: &H::Log,
@@ -187,7 +178,7 @@ impl<T: Drop, H: History<T>> State<T, H> {
         made
     }
 
-    /// Makes a send whose message enters where nobody waits; where it doesn't enter so nothing changes.
+    /// Makes a send whose message enters where nobody waits.
     #[inline(always)]
     pub fn push(&mut self, log: &H::Log, pass: &mut H::Pass, message: T) -> Result<(), T>
         ensures made { OnOk result (H.relations.appends pass.old pass.new (replied (Event.Send message) Reply.Sent)) }
@@ -204,7 +195,6 @@ impl<T: Drop, H: History<T>> State<T, H> {
         Ok(())
     }
 
-    /// Makes a receive that gets its message where nobody waits; where it gets none so nothing changes.
     #[inline(always)]
     pub fn pop(&mut self, log: &H::Log, pass: &mut H::Pass) -> Option<T>
         ensures made { IfSome result (λ m. H.relations.appends pass.old pass.new (replied Event.Recv (Reply.Got m))) }
@@ -220,9 +210,7 @@ impl<T: Drop, H: History<T>> State<T, H> {
         Some(message)
     }
 
-    /// Makes the send of a call that doesn't wait, where the message enters and nobody waits; where it doesn't
-    /// enter so nothing changes.
-    /// Example: `locked.state.try_push(log, &mut pass, 7)` answers `Ok(())` in a channel with a place.
+    /// As `push`, for a call that doesn't wait.
     #[inline(always)]
     pub fn try_push(&mut self, log: &H::Log, pass: &mut H::Pass, message: T) -> Result<(), T>
         ensures made { OnOk result (H.relations.appends pass.old pass.new
@@ -238,9 +226,6 @@ impl<T: Drop, H: History<T>> State<T, H> {
         Ok(())
     }
 
-    /// Makes the receive of a call that doesn't wait, where it gets its message and nobody waits; where it
-    /// gets none so nothing changes.
-    /// Example: `locked.state.try_pop(log, &mut pass)` answers `Some(7)` after 7 entered.
     #[inline(always)]
     pub fn try_pop(&mut self, log: &H::Log, pass: &mut H::Pass) -> Option<T>
         ensures made { IfSome result (λ m. H.relations.appends pass.old pass.new
@@ -289,7 +274,6 @@ impl<T: Drop, H: History<T>> State<T, H> {
         }
     }
 
-    /// Whether there is a ticket for one more wait.
     pub fn has_ticket(&self) -> bool
         ensures { result ≡ not (self.now.1.next == last_word) }
     {
@@ -297,20 +281,18 @@ impl<T: Drop, H: History<T>> State<T, H> {
     }
 
     /// Whether the buffer has no place: always at capacity 0, and never without a limit.
-    /// Example: `locked.state.is_full()` answers `true` at capacity 0.
     #[inline]
     pub fn is_full(&self) -> bool {
         self.core.is_full()
     }
 
     /// Whether no message is in the buffer, whoever waits.
-    /// Example: `locked.state.is_empty()` answers `true` in a new channel.
     #[inline]
     pub fn is_empty(&self) -> bool {
         self.core.is_empty()
     }
 
-    /// Refuses a call that must wait, since the tickets are used up. That is a call, too.
+    /// Answers `TooMany`; the refusal is recorded.
     pub fn refuse(
         &mut self,
         log: &H::Log,
@@ -334,14 +316,6 @@ impl<T: Drop, H: History<T>> State<T, H> {
 
     /// Starts the wait of a call that must, with the waiter's handle. It settles no wait. This one is to be
     /// counted out.
-    ///
-    /// # Examples
-    /// ```text
-    /// match locked.state.wait(log, &mut pass, Event::Recv, waiter) {
-    ///     WaitStart::Waits(counted) => ..,
-    ///     WaitStart::Refused(reply, waiter) => ..,
-    /// }
-    /// ```
     #[inline]
     pub fn wait(
         &mut self,
@@ -370,9 +344,7 @@ impl<T: Drop, H: History<T>> State<T, H> {
         }
     }
 
-    /// Takes this wait back, if it still waits; where it doesn't, nothing changes, and it is still to be counted
-    /// out.
-    /// Example: `locked.state.withdraw(log, &mut pass, counted)` answers `Err(counted)` where its wait was settled.
+    /// Takes this wait back, if it still waits; where it doesn't, nothing changes, and it is still to be counted out.
     pub fn withdraw(
         &mut self,
         log: &H::Log,
@@ -405,7 +377,6 @@ impl<T: Drop, H: History<T>> State<T, H> {
     }
 
     /// Moves the whole line to the vector's end.
-    /// Example: `let made = locked.state.drain(log, &mut pass, &mut messages)`.
     pub fn drain(
         &mut self,
         log: &H::Log,
@@ -429,22 +400,18 @@ impl<T: Drop, H: History<T>> State<T, H> {
     }
 
     /// How many senders and how many receivers there are.
-    /// Example: `locked.state.counts()` answers `(1, 1)` for a new channel.
     #[doc(hidden)] // The tests of the held lock look at the core.
     pub fn counts(&self) -> (u32, u32) {
         (self.core.sender_count(), self.core.receiver_count())
     }
 
     /// Whether a call waits, or a future.
-    /// Example: `locked.state.somebody_waits()` answers `false` in a new channel.
     #[doc(hidden)] // The tests of the held lock wait until a call has begun to wait.
     pub fn somebody_waits(&self) -> bool {
         self.core.first_waiter(|_| true).is_some()
     }
 
-    /// Swaps the waker of the wait with the ticket for the spare one, if there is a spare; whether the
-    /// ticket waits.
-    /// Example: `locked.state.renew(ticket, &mut spare)` answers `true` while the ticket waits.
+    /// Swaps the waker of the wait with the ticket for the spare one, if there is a spare; whether the ticket waits.
     pub fn renew(&mut self, ticket: Ticket, spare: &mut Option<Waker>) -> bool
         ensures line { self.new.1 ≡ self.old.1 }
         ensures waits { (result ≡ true) ↔ IsSome (waiter_of ticket self.old.2) }

@@ -11,8 +11,7 @@ use kanal_cell::signal::{SettleEnd, SettleProof};
 use kanal_core::internal::Outcome;
 use std::marker::Model;
 
-/// What became of a wait, with what was seen of the settlement. Contracts see the ticket's number and the
-/// outcome.
+/// What became of a wait, with what was seen of the settlement. Contracts see the ticket's number and the outcome.
 #[derive(Drop)]
 pub struct WaitResult<T, H: History<T>> {
     ticket: u64,
@@ -32,7 +31,6 @@ impl<T, H: History<T>> Model for WaitResult<T, H> {
 }
 
 impl<T: Drop, H: History<T>> WaitResult<T, H> {
-    /// An outcome with what was seen of it.
     pub(crate) fn new(ticket: u64, outcome: Outcome<T>, prefix: H::Prefix) -> Self
         requires settled { H.shows prefix (ticket, outcome) }
         ensures { result ≡ (ticket, outcome) }
@@ -44,16 +42,12 @@ impl<T: Drop, H: History<T>> WaitResult<T, H> {
         }
     }
 
-    /// The number of the ticket whose wait it is.
-    /// Example: `delivered.ticket()` answers `0` for the first that waited.
     pub fn ticket(&self) -> u64
         ensures { result ≡ self.now.0 }
     {
         self.ticket
     }
 
-    /// The outcome, and what was seen.
-    /// Example: `let (outcome, prefix) = delivered.into_parts()`; then `H::learn(shared.log(), &mut pass, prefix)`.
     pub fn into_parts(self) -> (Outcome<T>, H::Prefix)
         ensures outcome { result.0 ≡ self.1 }
         ensures settled { H.shows result.1 self }
@@ -75,7 +69,6 @@ pub struct Settler<T, H: History<T>> {
 }
 
 impl<T: Drop, H: History<T>> Settler<T, H> {
-    /// Over an end that has not settled.
     pub(crate) fn new(end: SettleEnd<WaitResult<T, H>>) -> Self
         requires { HasNotSettled (settle_view end) }
         ensures { result.end ≡ end }
@@ -83,8 +76,7 @@ impl<T: Drop, H: History<T>> Settler<T, H> {
         Settler { end }
     }
 
-    /// Hands over what became of the wait, and shows that; what comes back, since the waiter has left, is let
-    /// go.
+    /// Hands over what became of the wait, and shows that; what comes back, since the waiter has left, is let go.
     pub(crate) fn settle(self, delivered: WaitResult<T, H>) -> SettleProof<WaitResult<T, H>>
         ensures told { WasSettled result self.end delivered }
     {
@@ -94,7 +86,6 @@ impl<T: Drop, H: History<T>> Settler<T, H> {
         settlement
     }
 
-    /// Keeps the waker for the settling, and answers the one that was kept.
     pub(crate) fn set_waker(&mut self, waker: Waker) -> Option<Waker>
         ensures displaced { result ≡ kept_waker self.old.end }
         ensures kept { kept_waker self.new.end ≡ Some waker }
@@ -103,7 +94,6 @@ impl<T: Drop, H: History<T>> Settler<T, H> {
         self.end.set_waker(waker)
     }
 
-    /// Whether the waiter has left.
     pub(crate) fn is_left(&self) -> bool {
         self.end.is_left()
     }

@@ -74,7 +74,6 @@ impl<T: Drop, H: History<T>> Waits<T> for WaiterHandle<T, H> {
 
 /// What a blocked call waits with: the end at which it is told, and the waiter's handle for the core. `None` where
 /// there is no memory for them.
-/// Example: `let (end, waiter) = ends(alloc)?`.
 #[inline]
 pub fn ends<T: Drop, H: History<T>>(
     alloc: Global,
@@ -119,7 +118,6 @@ impl<T: Drop, H: History<T>> ReservedNode<T, H> {
 }
 
 impl<T: Drop, H: History<T>> WaiterHandle<T, H> {
-    /// The waiter's handle of a blocked call, over an end that has not settled.
     pub(crate) fn of_call(end: SettleEnd<WaitResult<T, H>>) -> Self
         requires { HasNotSettled (settle_view end) }
         ensures cell { result.cell ≡ settle_cell end }
@@ -133,8 +131,6 @@ impl<T: Drop, H: History<T>> WaiterHandle<T, H> {
     }
 
     /// The waiter's handle of a task, with the reserved node for its entry; `None` where there is no memory.
-    /// Example: `let (waiting, settling) = signal::new(alloc).ok()?`; then
-    /// `let waiter = WaiterHandle::of_task(alloc, settling)?`.
     pub fn of_task(alloc: Global, end: SettleEnd<WaitResult<T, H>>) -> Option<Self>
         requires { HasNotSettled (settle_view end) }
         ensures cell { IfSome result (λ waiter. waiter.cell ≡ settle_cell end) }
@@ -150,7 +146,6 @@ impl<T: Drop, H: History<T>> WaiterHandle<T, H> {
     }
 
     /// Swaps the waker that settling wakes for the spare one, if there is a spare.
-    /// Example: `waiter.renew(&mut spare)` leaves in `spare` the waker that the waiter had.
     pub fn renew(&mut self, spare: &mut Option<Waker>)
         ensures swapped { Swaps spare.old self.old self.new spare.new }
     {
@@ -159,7 +154,6 @@ impl<T: Drop, H: History<T>> WaiterHandle<T, H> {
         }
     }
 
-    /// Takes the reserved node, if it has one.
     pub(crate) fn take_node(&mut self) -> Option<ReservedNode<T, H>>
         ensures taken { is_some result ≡ self.old.has_node }
         ensures stays { self.new ≡ record self.old { has_node = false } }

@@ -1,7 +1,6 @@
 //! The lock of a channel as a token that has to be released, and the notices that are applied under it.
 //!
-//! Whoever gets the lock has all notices applied before its own step. No other module takes the lock or the
-//! notices.
+//! Whoever gets the lock has all notices applied before its own step. No other module takes the lock or the notices.
 ghost use Rattle.std.specs.Prelude.{◌≡◌, false};
 ghost use Rattle.kanal_channel.specs.Locks.{is_held, takes_nothing};
 
@@ -18,7 +17,6 @@ use std::sync::{MutexGuard, Wait};
 /// makes no internal call: that is its invariant. Contracts see the line, and that it has to be released.
 pub struct Locked<'a, T, H: History<T>> {
     pub(super) shared: &'a Shared<T, H>,
-    /// What the lock lends.
     pub state: MutexGuard<'a, State<T, H>>,
     internal_pass: Snapshot<H::InternalPass>,
     held: bool,
@@ -42,8 +40,7 @@ pub(super) struct Applied<T, H: History<T>> {
     pub(super) receivers: Option<DropResult<T, H>>,
 }
 
-/// What the notices took out under a lock that one try got, if there were some. It goes back with
-/// that lock.
+/// What the notices took out under a lock that one try got, if there were some. It goes back with that lock.
 pub struct Pending<T, H: History<T>> {
     applied: Option<Applied<T, H>>,
 }
@@ -61,7 +58,6 @@ impl<T: Drop, H: History<T>> Drop for Pending<T, H> {
 }
 
 impl<T: Drop, H: History<T>> Pending<T, H> {
-    /// Of a lock under which there was no notice.
     fn nothing() -> Self
         ensures nobody { takes_nothing result }
     {
@@ -102,14 +98,12 @@ impl<'a, T: Drop, H: History<T>> Locked<'a, T, H> {
 
 impl<T: Drop, H: History<T>> Shared<T, H> {
     /// Waits for the lock, with no notice left to apply.
-    /// Example: `let mut locked = shared.lock(&rt)`; then `locked.unlock_and_drain()`.
     #[inline]
     pub fn lock<R: Wait>(&self, rt: &R) -> Locked<'_, T, H> {
         let state = self.guard(rt);
         self.locked(state)
     }
 
-    /// The guard of the lock, with no notice left to apply.
     #[inline]
     fn guard<R: Wait>(&self, rt: &R) -> MutexGuard<'_, State<T, H>> {
         if let Some(state) = self.state.try_lock() {
@@ -140,14 +134,12 @@ impl<T: Drop, H: History<T>> Shared<T, H> {
     }
 
     /// Tries once to get the lock, and applies no notice; `None` where it is held.
-    /// Example: `shared.try_lock_raw()` answers `None` while another has the lock.
     #[inline]
     pub fn try_lock_raw(&self) -> Option<Locked<'_, T, H>> {
         let state = self.state.try_lock()?;
         Some(self.locked(state))
     }
 
-    /// The token of the lock that was got.
     #[inline]
     pub(super) fn locked<'a>(&'a self, state: MutexGuard<'a, State<T, H>>) -> Locked<'a, T, H> {
         let internal_pass = state.internal_pass();
@@ -160,12 +152,6 @@ impl<T: Drop, H: History<T>> Shared<T, H> {
     }
 
     /// Tries once to get the lock, and applies the notices; `None` where it is held.
-    ///
-    /// # Examples
-    /// ```text
-    /// let (mut locked, pending) = shared.try_lock()?;
-    /// shared.unlock_pending(locked, pending);
-    /// ```
     pub fn try_lock(&self) -> Option<(Locked<'_, T, H>, Pending<T, H>)> {
         let mut locked = self.try_lock_raw()?;
         let pending = if self.has_no_notices() {
@@ -189,8 +175,8 @@ impl<T: Drop, H: History<T>> Shared<T, H> {
         self.state.lock(rt)
     }
 
-    /// Applies all notices: first those of left waits, then the senders', then the receivers'. That
-    /// there are some is forgotten before they are read: one that comes later is found later.
+    /// Applies all notices: first those of left waits, then the senders', then the receivers'. The flag is
+    /// cleared first, so that a later notice sets it again.
     #[cold]
     pub(super) fn apply(&self, state: &mut State<T, H>) -> Option<Applied<T, H>> {
         self.notices.read();
@@ -215,7 +201,6 @@ impl<T: Drop, H: History<T>> Shared<T, H> {
     }
 
     /// Whether there are no notices.
-    /// Example: `shared.has_no_notices()` answers `false` after a handle was dropped while the lock was held.
     #[inline]
     pub fn has_no_notices(&self) -> bool {
         self.notices.is_empty()
@@ -223,7 +208,6 @@ impl<T: Drop, H: History<T>> Shared<T, H> {
 }
 
 impl<T: Drop, H: History<T>> Pending<T, H> {
-    /// What the notices took out, if they did.
     #[inline]
     pub(super) fn into_applied(self) -> Option<Applied<T, H>> {
         let Pending { applied } = self;

@@ -20,7 +20,6 @@ const LOOKS: u32 = 64;
 impl<T: Drop, H: History<T>> Locked<'_, T, H> {
     /// Releases the lock after a step that settled no wait, and drains new notices. What left the core may be
     /// opened then, by the answer.
-    /// Example: `let mut locked = shared.lock(&rt)`; then `locked.unlock_and_drain()`.
     #[inline]
     pub fn unlock_and_drain(self) -> Released {
         let shared = self.shared;
@@ -30,7 +29,6 @@ impl<T: Drop, H: History<T>> Locked<'_, T, H> {
     }
 
     /// Releases the lock. What the step settled may be told then, and notices have to be drained.
-    /// Example: `let (released, due) = locked.unlock()`; then `made.open(&released)`, and `shared.drain_notices(due)`.
     #[inline]
     pub fn unlock(self) -> (Released, MustDrain) {
         Released::by(self.into_guard())
@@ -38,7 +36,6 @@ impl<T: Drop, H: History<T>> Locked<'_, T, H> {
 
     /// Applies the notices under a lock that one try got. Where they take something out, the lock is released,
     /// that is told, and the lock is tried once more; `None` where another has it then.
-    /// Example: `let locked = shared.try_lock_raw()?.apply_notices()?`.
     #[cold]
     pub fn apply_notices(self) -> Option<Self> {
         let shared = self.shared;
@@ -50,7 +47,6 @@ impl<T: Drop, H: History<T>> Locked<'_, T, H> {
 }
 
 impl<T: Drop, H: History<T>> Shared<T, H> {
-    /// Applies the notices. Where they take something out, the lock is released, and whom that ended is woken.
     #[cold]
     pub(super) fn apply_notices<'a>(
         &'a self,
@@ -66,8 +62,7 @@ impl<T: Drop, H: History<T>> Shared<T, H> {
         None
     }
 
-    /// Releases the lock after a step of the caller's, wakes those whose waits it settled, drops what it
-    /// cleared, and drains new notices.
+    /// Releases the lock, wakes those whose waits the step settled, drops what it cleared, and drains new notices.
     pub(crate) fn unlock_and_wake(
         &self,
         locked: Locked<'_, T, H>,
@@ -84,13 +79,6 @@ impl<T: Drop, H: History<T>> Shared<T, H> {
 
     /// Releases a lock that one try got, after a step of the caller's: tells what the notices took out and then those
     /// whose waits the step settled, drops what it cleared, and drains new notices.
-    ///
-    /// # Examples
-    /// ```text
-    /// let (mut locked, pending) = shared.try_lock()?;
-    /// let made = locked.state.call(shared.log(), &mut pass, Event::TryRecv);
-    /// shared.unlock_tried(locked, pending, &mut pass, made)   answers  the reply
-    /// ```
     pub fn unlock_tried(
         &self,
         locked: Locked<'_, T, H>,
@@ -107,8 +95,7 @@ impl<T: Drop, H: History<T>> Shared<T, H> {
         self.settle(pass, made, &released, due)
     }
 
-    /// Releases the lock after a call that was answered at once, tells who is owed what it settled, and looks
-    /// for new notices if there are some.
+    /// Releases the lock after a call that was answered at once, and tells who is owed what it settled.
     #[inline]
     pub(crate) fn unlock_answered(
         &self,
@@ -131,15 +118,12 @@ impl<T: Drop, H: History<T>> Shared<T, H> {
 
     /// Releases a lock that one try got, after a step that settled no wait, tells what the notices took out, and looks
     /// for new ones.
-    /// Example: `locked.state.renew(ticket, &mut waker)`; then `shared.unlock_pending(locked, pending)`.
     pub fn unlock_pending(&self, locked: Locked<'_, T, H>, pending: Pending<T, H>) {
         let (released, due) = locked.unlock();
         self.tell_pending(pending, &released);
         self.drain_notices(due);
     }
 
-    /// Releases the lock after the drop of a handle as an internal call, and wakes those whose waits that
-    /// ended.
     pub(super) fn unlock_dropped(
         &self,
         state: MutexGuard<'_, State<T, H>>,
@@ -152,7 +136,6 @@ impl<T: Drop, H: History<T>> Shared<T, H> {
         self.drain_notices(due);
     }
 
-    /// Releases the lock after a wait was left by an internal call, and lets its entry go.
     pub(super) fn unlock_left(
         &self,
         state: MutexGuard<'_, State<T, H>>,
@@ -167,7 +150,6 @@ impl<T: Drop, H: History<T>> Shared<T, H> {
         self.drain_notices(due);
     }
 
-    /// Wakes those whose waits the call settled, drops what it cleared, and drains new notices.
     fn settle(
         &self,
         pass: &mut H::Pass,
@@ -185,7 +167,6 @@ impl<T: Drop, H: History<T>> Shared<T, H> {
         reply
     }
 
-    /// Wakes those whose waits a call settled, with what was seen of it, and drops what it cleared.
     fn hand_out(
         &self,
         prefix: H::Prefix,
@@ -206,7 +187,7 @@ impl<T: Drop, H: History<T>> Shared<T, H> {
         reply
     }
 
-    /// Lets go of what left, and wakes those whose waits ended.
+    /// Settles what the notices took out.
     #[inline]
     fn tell_pending(&self, pending: Pending<T, H>, released: &Released) {
         if let Some(applied) = pending.into_applied() {
@@ -214,7 +195,6 @@ impl<T: Drop, H: History<T>> Shared<T, H> {
         }
     }
 
-    /// Wakes those whose waits the notices ended.
     #[cold]
     pub(super) fn tell_applied(&self, applied: Applied<T, H>, released: &Released) {
         let Applied {
@@ -233,7 +213,6 @@ impl<T: Drop, H: History<T>> Shared<T, H> {
         }
     }
 
-    /// Wakes those whose waits the drop of a handle ended.
     fn tell_dropped(&self, gone: DropResult<T, H>, released: &Released) {
         let (made, prefix) = gone.into_parts(released);
         let _reply = self.hand_out(prefix, made, released);
@@ -241,7 +220,6 @@ impl<T: Drop, H: History<T>> Shared<T, H> {
 
     /// Drains the notices after the lock was released or one was left: applies them while the lock is free, at most
     /// 64 times.
-    /// Example: `shared.drain_notices(due)`, after `let (released, due) = locked.unlock()`.
     #[inline]
     pub fn drain_notices(&self, due: MustDrain) {
         if self.notices.has_some(due) {
@@ -249,7 +227,6 @@ impl<T: Drop, H: History<T>> Shared<T, H> {
         }
     }
 
-    /// Applies the notices while the lock is free, at most 64 times.
     #[cold]
     fn drain_slow(&self) {
         for _ in 0..LOOKS {

@@ -30,7 +30,6 @@ impl<S> Drop for GoneHandles<S> {
 }
 
 impl<S> GoneHandles<S> {
-    /// The next of them, if there is one.
     pub(crate) fn next(&mut self) -> Option<CountedHandle<S>>
         ensures none { IfNone result (gone_handles self.new ≡ 0) }
         ensures fewer { IfSome result (λ _. gone_handles self.new + 1 ≡ gone_handles self.old) }
@@ -42,7 +41,6 @@ impl<S> GoneHandles<S> {
         Some(CountedHandle::new())
     }
 
-    /// How many there are.
     fn into_count(self) -> u64 {
         let GoneHandles { count, side: _ } = self;
         count
@@ -65,7 +63,7 @@ impl Drop for GoneWaits {
 }
 
 impl GoneWaits {
-    /// They are sought, by who alone calls this.
+    /// Discharges the duty; only `withdraw_left` calls it.
     pub(crate) fn seek(self) {
         let GoneWaits {
             are_sought: _are_sought,
@@ -93,7 +91,7 @@ impl MustDrain {
         MustDrain { stands: stands() }
     }
 
-    /// It is met by who asks whether there are some.
+    /// Discharged by `has_some`.
     #[inline]
     fn end(self) {
         let MustDrain { stands } = self;
@@ -128,8 +126,6 @@ fn emptied(counter: &AtomicU64) -> u64 {
 }
 
 impl Notices {
-    /// None, for a new channel.
-    /// Example: `Notices::new().is_empty()` answers `true`.
     pub fn new() -> Self {
         Notices {
             some: AtomicU64::new(0),
@@ -156,20 +152,16 @@ impl Notices {
         drop(stands);
     }
 
-    /// Whether there are none.
-    /// Example: `notices.is_empty()` answers `false` after a handle was added.
     #[inline]
     pub fn is_empty(&self) -> bool {
         self.some.load(SeqCst) == 0
     }
 
-    /// Forgets that there are some. Who then takes them finds all that were added before.
-    /// Example: `notices.read()` comes before the notices are taken.
+    /// Clears the flag, before the counters are taken, so that a later notice sets it again.
     pub fn read(&self) {
         emptied(&self.some);
     }
 
-    /// The counter of a side.
     fn counter(&self, side: Side) -> &AtomicU64 {
         match side {
             Side::Tx => &self.senders,
@@ -177,8 +169,7 @@ impl Notices {
         }
     }
 
-    /// Whether there are some; this meets the duty.
-    /// Example: `notices.has_some(due)` answers `true` after a handle was added.
+    /// Whether there are some; this discharges the duty.
     #[inline]
     pub fn has_some(&self, due: MustDrain) -> bool {
         due.end();
@@ -186,7 +177,6 @@ impl Notices {
     }
 
     /// Counts a handle out into the notices of its side.
-    /// Example: `let due = notices.add_handle(counted)`.
     pub fn add_handle<S: OfSide>(&self, counted: CountedHandle<S>) -> MustDrain {
         counted.notice();
         self.counter(S::side()).fetch_add(1, SeqCst);
@@ -194,8 +184,6 @@ impl Notices {
         MustDrain::new()
     }
 
-    /// Takes all handles of a side.
-    /// Example: `let (ended, rest) = state.drop_handles::<SendSide>(log, notices.take_handles())`.
     pub fn take_handles<S: OfSide>(&self) -> GoneHandles<S> {
         GoneHandles {
             count: emptied(self.counter(S::side())),
@@ -204,7 +192,6 @@ impl Notices {
     }
 
     /// Puts back those that were not counted out.
-    /// Example: `notices.put_back(rest)`.
     pub fn put_back<S: OfSide>(&self, gone: GoneHandles<S>) {
         let count = gone.into_count();
         if count > 0 {
@@ -213,7 +200,6 @@ impl Notices {
     }
 
     /// Counts a wait out into the notices.
-    /// Example: `let due = notices.add_wait(counted)`.
     pub fn add_wait(&self, counted: CountedWait) -> MustDrain {
         counted.notice();
         self.waits.fetch_add(1, SeqCst);
@@ -221,14 +207,10 @@ impl Notices {
         MustDrain::new()
     }
 
-    /// How many waits were left.
-    /// Example: `notices.waits()` answers `1` after `add_wait`.
     pub fn waits(&self) -> u64 {
         self.waits.load(SeqCst)
     }
 
-    /// Takes all waits, if there are some.
-    /// Example: `notices.take_waits()` answers `None` where no wait was added.
     pub fn take_waits(&self) -> Option<GoneWaits> {
         if emptied(&self.waits) == 0 {
             return None;

@@ -16,7 +16,6 @@ use kanal_core::error::TooMany;
 use kanal_events::event::{Event, Side};
 use std::snapshot::Snapshot;
 
-/// The call that counts one handle more of a side.
 fn one_more<T: Drop>(side: Side) -> Event<T>
     ensures { result ≡ one_more side }
 {
@@ -26,7 +25,6 @@ fn one_more<T: Drop>(side: Side) -> Event<T>
     }
 }
 
-/// The call that counts one handle less of a side.
 pub(super) fn one_less<T: Drop>(side: Side) -> Event<T>
     ensures { result ≡ one_less side }
 {
@@ -37,7 +35,6 @@ pub(super) fn one_less<T: Drop>(side: Side) -> Event<T>
 }
 
 impl<T: Drop, H: History<T>> State<T, H> {
-    /// Counts one more of a side.
     fn count_in(&mut self, log: &H::Log, pass: &mut H::Pass, side: Side) -> Result<(), TooMany>
         ensures counted { IsReplied H.relations pass.old pass.new (one_more side) counted_by result }
         ensures rest { OnlyLineMoves self.old self.new }
@@ -49,7 +46,6 @@ impl<T: Drop, H: History<T>> State<T, H> {
     }
 
     /// Counts one more handle of a side: the token has to be counted out when the handle goes.
-    /// Example: `let counted = locked.state.count::<SendSide>(log, &mut pass)?`.
     ///
     /// # Errors
     /// `TooMany` exactly where there are `u32::MAX` of that side, and nothing changes.

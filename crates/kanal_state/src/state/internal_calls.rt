@@ -32,7 +32,7 @@ use std::collections::LinkedList;
 use std::marker::Model;
 use std::snapshot::Snapshot;
 
-/// How many waits that were left are withdrawn at most at once: more are never there.
+/// A bound that is never reached; it gives the loop its measure.
 const MOST: u64 = 1 << 62;
 
 /// What the drop of a last handle ended, with what was seen of it. It has to be told. Contracts see what the
@@ -57,7 +57,6 @@ impl<T, H: History<T>> Model for DropResult<T, H> {
 
 impl<T: Drop, H: History<T>> DropResult<T, H> {
     /// What was made, and what was seen of it, once the lock was released.
-    /// Example: `let (made, prefix) = gone.into_parts(&released)`.
     pub fn into_parts(self, _released: &Released) -> (StepResult<T, WaiterHandle<T, H>>, H::Prefix)
         ensures made { result.0 ≡ self }
         ensures seen { HaveShown H.shows result.1 (settled_of result.0) }
@@ -67,7 +66,6 @@ impl<T: Drop, H: History<T>> DropResult<T, H> {
     }
 }
 
-/// Takes the reserved node out of the waiter's handle that waits with the ticket, if there is one. The line stays.
 fn take_node<T: Drop, H: History<T>>(
     core: &mut Core<T, H>,
     ticket: Ticket,
@@ -79,7 +77,6 @@ fn take_node<T: Drop, H: History<T>>(
 }
 
 impl<T: Drop, H: History<T>> State<T, H> {
-    /// Makes the drop of a handle as an internal call, and answers what was seen then.
     fn make_internal(
         &mut self,
         log: &H::Log,
@@ -104,7 +101,6 @@ impl<T: Drop, H: History<T>> State<T, H> {
         (made, prefix)
     }
 
-    /// Takes the wait with this ticket back, if it waits, as an internal call.
     fn withdraw_internal(
         &mut self,
         log: &H::Log,
@@ -132,7 +128,6 @@ impl<T: Drop, H: History<T>> State<T, H> {
     }
 
     /// Takes this wait back, if it still waits, as an internal call.
-    /// Example: `locked.state.leave(log, counted)` answers `None` where its wait was settled.
     pub fn leave(
         &mut self,
         log: &H::Log,
@@ -153,7 +148,6 @@ impl<T: Drop, H: History<T>> State<T, H> {
         Some(Deferred { inside: waiter })
     }
 
-    /// Makes the drop of this handle as an internal call, and answers what was seen then.
     fn handle_out<S: OfSide>(
         &mut self,
         log: &H::Log,
@@ -170,7 +164,6 @@ impl<T: Drop, H: History<T>> State<T, H> {
     }
 
     /// Makes the drop of this handle; what that ended, with what was seen of it.
-    /// Example: `let gone = locked.state.drop_handle(log, counted)`.
     pub fn drop_handle<S: OfSide>(
         &mut self,
         log: &H::Log,
@@ -184,7 +177,6 @@ impl<T: Drop, H: History<T>> State<T, H> {
     }
 
     /// What makes the internal calls as it is now, for proofs alone.
-    /// Example: `let before = locked.state.internal_pass()`.
     pub fn internal_pass(&self) -> Snapshot<H::InternalPass>
         ensures { result.value ≡ self.now.0 }
     {
@@ -193,7 +185,6 @@ impl<T: Drop, H: History<T>> State<T, H> {
 
     /// Makes the drops of these handles until the last one's of their side; what that ended, with what was seen
     /// of it, and those that are left.
-    /// Example: `let (ended, rest) = locked.state.drop_handles::<SendSide>(log, notices.take_handles())`.
     pub fn drop_handles<S: OfSide>(
         &mut self,
         log: &H::Log,
@@ -217,7 +208,6 @@ impl<T: Drop, H: History<T>> State<T, H> {
     /// Withdraws all waits that were left, and hands out their entries, the last that left first. It asks for
     /// no memory: each is kept in the reserved node that its handle brought. No clause says that these are all:
     /// who leaves does so in its cell, and at any moment.
-    /// Example: `let leavers = locked.state.withdraw_left(log, alloc, waits)`.
     pub fn withdraw_left(
         &mut self,
         log: &H::Log,

@@ -15,7 +15,6 @@ use kanal_events::step_result::{FastResult, StepResult};
 use kanal_log::EntryOf;
 use std::snapshot::Snapshot;
 
-/// An event, as it was before it was made.
 pub(super) type Asked<T> = Snapshot<Event<T>>;
 
 /// The entry of a call: what was asked, and what the step told.
@@ -46,7 +45,6 @@ impl<T> EntryOf<Asked<T>, Reply<T>, Call<T>> for ReplyEntry {
     ghost entry = { λ event reply. replied event.value reply };
 }
 
-/// The entry of a send that entered and settled nobody, by its message.
 pub(super) struct SendEntry;
 
 impl<T> EntryOf<Snapshot<T>, (), Call<T>> for SendEntry {
@@ -57,7 +55,6 @@ impl<T> EntryOf<Snapshot<T>, (), Call<T>> for SendEntry {
     ghost entry = { λ message _. replied (Event.Send message.value) Reply.Sent };
 }
 
-/// The entry of a receive that got a message and settled nobody, by the message.
 pub(super) struct RecvEntry;
 
 impl<T> EntryOf<T, (), Call<T>> for RecvEntry {
@@ -68,7 +65,6 @@ impl<T> EntryOf<T, (), Call<T>> for RecvEntry {
     ghost entry = { λ message _. replied Event.Recv (Reply.Got message) };
 }
 
-/// The entry of a send that doesn't wait, and that entered and settled nobody, by its message.
 pub(super) struct TrySendEntry;
 
 impl<T> EntryOf<Snapshot<T>, (), Call<T>> for TrySendEntry {
@@ -79,7 +75,6 @@ impl<T> EntryOf<Snapshot<T>, (), Call<T>> for TrySendEntry {
     ghost entry = { λ message _. replied (Event.TrySend message.value) Reply.Yes };
 }
 
-/// The entry of a receive that doesn't wait, and that got a message and settled nobody, by the message.
 pub(super) struct TryRecvEntry;
 
 impl<T> EntryOf<T, (), Call<T>> for TryRecvEntry {
@@ -100,8 +95,7 @@ impl<T, W> EntryOf<Ticket, Waiter<T, W>, Call<T>> for WithdrawalEntry {
     ghost entry = { λ ticket waiter. withdrawal (number_of ticket) waiter.message };
 }
 
-/// Has the call that was made kept, and shows it to the pass; or shows what is kept, where there was no
-/// memory for the call.
+/// Appends the call; if memory was refused, only shows the history.
 #[inline]
 pub(super) fn note<T: Drop, Y, M: EntryOf<Asked<T>, Y, Call<T>>, H: History<T>>(
     history: &mut H,
@@ -129,7 +123,6 @@ pub(super) fn note<T: Drop, Y, M: EntryOf<Asked<T>, Y, Call<T>>, H: History<T>>(
     }
 }
 
-/// Notes what any step told.
 #[inline]
 pub(super) fn note_made<T: Drop, W: Drop, H: History<T>>(
     history: &mut H,

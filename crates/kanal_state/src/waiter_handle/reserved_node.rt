@@ -25,7 +25,7 @@ impl<T, H: History<T>> Model for LeftWait<T, H> {
 /// Those who left by notice, the last of them first, each in the reserved node that it brought.
 pub type LeftWaits<T, H> = LinkedList<Option<LeftWait<T, H>>>;
 
-/// A list of one place, so that those who left are strung together with no memory asked for.
+/// A one-node list allocated when the wait starts, so that keeping the entry can't fail.
 #[derive(Drop)]
 pub struct ReservedNode<T, H: History<T>> {
     pub(super) place: LeftWaits<T, H>,

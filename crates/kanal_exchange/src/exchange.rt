@@ -39,7 +39,6 @@ pub(crate) fn send_all<T: Drop, J: LogId, R: Wait>(
     Ok(pass)
 }
 
-/// Receives one message, and puts it behind those that came before.
 fn receive_one<T: Drop, J: LogId, R: Wait>(
     rt: &R,
     channel: &Channel<T, J>,
@@ -172,8 +171,6 @@ where
     )
 }
 
-/// Receives so many messages in a new thread, and calls `g` in this one, which is told whether the thread was
-/// started.
 pub(crate) fn receiving<T, J, R, G, B>(
     rt: &R,
     alloc: Global,
@@ -206,7 +203,6 @@ where
     )
 }
 
-/// Lets one thread send the messages and another receive them, on a channel whose only pass this is.
 fn between<T: Drop + Send, J: LogId + Send + Sync, R: Threads + Wait + Sync>(
     rt: &R,
     alloc: Global,
@@ -238,7 +234,6 @@ fn between<T: Drop + Send, J: LogId + Send + Sync, R: Threads + Wait + Sync>(
     Ok(got)
 }
 
-/// A channel of this capacity, or without limit, and its first pass.
 pub(crate) fn channel_of<T: Drop, J: LogId>(
     alloc: Global,
     capacity: Option<usize>,
@@ -257,18 +252,15 @@ pub(crate) fn channel_of<T: Drop, J: LogId>(
 /// Sends the messages by one thread and receives them by another, on a channel of its own, of this capacity
 /// or without limit. What came out is what went in, in order.
 ///
-/// It waits until both threads have ended. The caller picks the channel's name `J`, in proofs alone, as the
-/// page of `kanal_one_history` on calling shows: it is that of `opened`, and its capacity is this one.
+/// It waits until both threads have ended. The caller picks the channel's name `J`, in proofs alone, as the page of
+/// `kanal_one_history` on calling shows: it is that of `opened`, and its capacity is this one.
+/// Example: `exchanged::<_, Brand, _>(&rt, alloc, Some(4), NewLog::new(alloc)?, messages)` answers `Ok` of the same
+/// list.
 ///
 /// # Errors
 /// `New` where the channel could not be made, `NoThread` where a thread could not be started, `Send` where a
 /// send was refused, `Receive` where a receive was refused, and `NoMemory` where there was no memory for the
 /// list that is answered. All messages are dropped then, once each, those that came, too.
-///
-/// # Examples
-/// ```text
-/// exchanged::<_, Brand, _>(&rt, alloc, Some(4), NewLog::new(alloc)?, messages)   answers  Ok of the same list
-/// ```
 pub fn exchanged<T: Drop + Send, J: LogId + Send + Sync, R: Threads + Wait + Sync>(
     rt: &R,
     alloc: Global,

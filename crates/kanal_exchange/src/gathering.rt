@@ -42,7 +42,6 @@ fn overseen<T: Drop, J: LogId>(
     all.owns_all(log);
 }
 
-/// Lets a thread send the messages, and receives as many as are to come.
 fn send_and_receive<T: Drop + Send, J: LogId + Send + Sync, R: Threads + Wait + Sync>(
     rt: &R,
     alloc: Global,
@@ -74,7 +73,6 @@ fn send_and_receive<T: Drop + Send, J: LogId + Send + Sync, R: Threads + Wait + 
     )
 }
 
-/// Lets two threads send their messages and another receive all, on a channel whose only pass this is.
 fn gathered_on<T: Drop + Send, J: LogId + Send + Sync, R: Threads + Wait + Sync>(
     rt: &R,
     alloc: Global,
@@ -116,19 +114,16 @@ fn gathered_on<T: Drop + Send, J: LogId + Send + Sync, R: Threads + Wait + Sync>
 /// this capacity or without limit. What came out is a merge of the two lists: all elements of both and no
 /// others, those of each list in their order.
 ///
-/// It waits until the three threads have ended. The caller picks the channel's name `J`, in proofs alone, as
-/// the page of `kanal_one_history` on calling shows: it is that of `opened`, and its capacity is this one.
+/// It waits until the three threads have ended. The caller picks the channel's name `J`, in proofs alone, as the page
+/// of `kanal_one_history` on calling shows: it is that of `opened`, and its capacity is this one.
+/// Example: `gathered::<_, Brand, _>(&rt, alloc, None, NewLog::new(alloc)?, evens, odds)` answers `Ok` of a merge of
+/// the two.
 ///
 /// # Errors
 /// `New` where the channel could not be made, `NoThread` where a thread could not be started, `Send` where a
 /// send was refused, `Receive` where a receive was refused, and `NoMemory` where there was no memory for the
 /// list that is answered, or both lists together are longer than a list can be. All messages are dropped
 /// then, once each, those that came, too.
-///
-/// # Examples
-/// ```text
-/// gathered::<_, Brand, _>(&rt, alloc, None, NewLog::new(alloc)?, evens, odds)   answers  Ok of a merge of the two
-/// ```
 pub fn gathered<T: Drop + Send, J: LogId + Send + Sync, R: Threads + Wait + Sync>(
     rt: &R,
     alloc: Global,

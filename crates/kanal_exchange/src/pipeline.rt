@@ -50,7 +50,6 @@ pub trait Stage {
         ensures value { IfSome result (λ made. made ≡ value self.now message) };
 }
 
-/// Receives one message, and sends on what the stage makes of it.
 fn hand_on<S: Stage, J: LogId, K: LogId, R: Wait>(
     rt: &R,
     stage: &S,
@@ -98,7 +97,6 @@ fn hand_on_all<S: Stage, J: LogId, K: LogId, R: Wait>(
     Ok((hears, tells))
 }
 
-/// Hands on what comes by way of the stage, and lets another thread receive what the stage made of it.
 fn receive_by_stage<S, J, K, R>(
     rt: &R,
     alloc: Global,
@@ -134,8 +132,6 @@ where
     Ok((got, hears))
 }
 
-/// Sends the messages by one thread through the stage, in another, on two channels whose only passes these
-/// are.
 fn mapped_on<S, J, K, R>(
     rt: &R,
     alloc: Global,
@@ -171,18 +167,16 @@ where
     Ok(made)
 }
 
-/// Sends the messages through the stage: one thread sends, one has the stage, and one receives, on two channels
-/// of their own, each of its capacity or without limit. What came out is what the stage makes of the
-/// messages, in order.
+/// Sends the messages through the stage: one thread sends, one has the stage, and one receives, on two channels of
+/// their own, each of its capacity or without limit. What came out is what the stage makes of the messages, in order.
 ///
 /// It waits until all threads have ended. The caller picks the names `J` of the channel before the stage and
 /// `K` of the one behind it, in proofs alone, as the page of `kanal_one_history` on calling shows.
 ///
 /// # Errors
-/// `New` where a channel could not be made, `NoThread` where a thread could not be started, `Send` where a
-/// send was refused, `Receive` where a receive was refused, `Stage` where the stage refused a message, and
-/// `NoMemory` where there was no memory for the list that is answered. All messages are dropped then, once
-/// each, those that came, too.
+/// `New` where a channel could not be made, `NoThread` where a thread could not be started, `Send` where a send was
+/// refused, `Receive` where a receive was refused, `Stage` where the stage refused a message, and `NoMemory` where
+/// there was no memory for the list that is answered. All messages are dropped then, once each, those that came, too.
 ///
 /// # Examples
 /// ```text
@@ -229,8 +223,6 @@ impl<S: Stage, J: LogId> Promise<Answer<(Vec<S::Output>, GhostPass<S::Input, J>)
         r.0.items r.1 × (r.1.share ≡ p.pass.value.share)) };
 }
 
-/// Receives by the stage in a new thread, and calls `g` in this one, which is told whether the thread was
-/// started.
 fn receiving_by_stage<S, J, K, R, G, B>(
     rt: &R,
     alloc: Global,
@@ -268,7 +260,6 @@ where
     both(rt, promise, receive, g)
 }
 
-/// Hands on what comes by way of the first stage, and lets others receive by the second what was made of it.
 fn receive_by_two<S, U, J, K, L, R>(
     rt: &R,
     alloc: Global,
@@ -310,8 +301,6 @@ where
     Ok((made, hears))
 }
 
-/// Sends the messages by one thread through the two stages, each in another, on three channels whose only
-/// passes these are.
 fn mapped_by_two_on<S, U, J, K, L, R>(
     rt: &R,
     alloc: Global,
@@ -361,10 +350,9 @@ where
 /// first to the last, in proofs alone, as the page of `kanal_one_history` on calling shows.
 ///
 /// # Errors
-/// `New` where a channel could not be made, `NoThread` where a thread could not be started, `Send` where a
-/// send was refused, `Receive` where a receive was refused, `Stage` where a stage refused a message, and
-/// `NoMemory` where there was no memory for the list that is answered. All messages are dropped then, once
-/// each, those that came, too.
+/// `New` where a channel could not be made, `NoThread` where a thread could not be started, `Send` where a send was
+/// refused, `Receive` where a receive was refused, `Stage` where a stage refused a message, and `NoMemory` where
+/// there was no memory for the list that is answered. All messages are dropped then, once each, those that came, too.
 ///
 /// # Examples
 /// ```text

@@ -19,7 +19,6 @@ use std::random::RandomSource;
 use std::sync::Wait;
 use std::thread::Threads;
 
-/// Sends one message in a task.
 fn send_one<T: Drop, J: LogId, R: Wait + RandomSource + AllocGlobal>(
     rt: &R,
     channel: &Channel<T, J>,
@@ -39,7 +38,6 @@ fn send_one<T: Drop, J: LogId, R: Wait + RandomSource + AllocGlobal>(
     }
 }
 
-/// Receives one message in a task.
 fn receive_one<T: Drop, J: LogId, R: Wait + RandomSource + AllocGlobal>(
     rt: &R,
     channel: &Channel<T, J>,
@@ -57,7 +55,6 @@ fn receive_one<T: Drop, J: LogId, R: Wait + RandomSource + AllocGlobal>(
     }
 }
 
-/// Sends all messages in a task, in order.
 fn send_each<T: Drop, J: LogId, R: Wait + RandomSource + AllocGlobal>(
     rt: &R,
     channel: &Channel<T, J>,
@@ -74,7 +71,6 @@ fn send_each<T: Drop, J: LogId, R: Wait + RandomSource + AllocGlobal>(
     Ok(pass)
 }
 
-/// Receives so many messages in a task.
 fn receive_each<T: Drop, J: LogId, R: Wait + RandomSource + AllocGlobal>(
     rt: &R,
     alloc: Global,
@@ -151,7 +147,6 @@ fn receive_all_in_task<T: Drop, J: LogId, R: Wait + RandomSource + AllocGlobal>(
     }
 }
 
-/// Lets a thread send the messages and a task receive them, on a channel whose only pass this is.
 fn to_task<T, J, R>(
     rt: &R,
     alloc: Global,
@@ -188,7 +183,6 @@ where
     Ok(got)
 }
 
-/// Lets a task send the messages and a thread receive them, on a channel whose only pass this is.
 fn from_task<T, J, R>(
     rt: &R,
     alloc: Global,
@@ -229,15 +223,11 @@ where
 /// without limit. What came out is what went in, in order.
 ///
 /// It waits until both have ended. The caller picks the channel's name as for `exchanged`.
+/// Example: `exchanged_to_task::<_, Brand, _>(&rt, alloc, Some(4), opened, messages)` answers `Ok` of the same list.
 ///
 /// # Errors
 /// As `exchanged`, with `NoThread` where the thread could not be started, and `Task` where the executor refused a
 /// future. All messages are dropped then, once each, those that came, too.
-///
-/// # Examples
-/// ```text
-/// exchanged_to_task::<_, Brand, _>(&rt, alloc, Some(4), opened, messages)   answers  Ok of the same list
-/// ```
 pub fn exchanged_to_task<T, J, R>(
     rt: &R,
     alloc: Global,
@@ -261,15 +251,12 @@ where
 /// without limit. What came out is what went in, in order.
 ///
 /// It waits until both have ended. The caller picks the channel's name as for `exchanged`.
+/// Example: `exchanged_from_task::<_, Brand, _>(&rt, alloc, Some(4), opened, messages)` answers `Ok` of the same
+/// list.
 ///
 /// # Errors
 /// As `exchanged`, with `NoThread` where the thread could not be started, and `Task` where the executor refused a
 /// future. All messages are dropped then, once each, those that came, too.
-///
-/// # Examples
-/// ```text
-/// exchanged_from_task::<_, Brand, _>(&rt, alloc, Some(4), opened, messages)   answers  Ok of the same list
-/// ```
 pub fn exchanged_from_task<T, J, R>(
     rt: &R,
     alloc: Global,

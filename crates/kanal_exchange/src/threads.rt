@@ -12,9 +12,8 @@ use std::thread::{Promise, Threads};
 /// Calls `f` in a new thread and `g` in this one, and waits until both have ended. The promise says what is
 /// known of the other thread's answer.
 ///
-/// `g` is told whether the thread was started. Where it was not, `f` is dropped, and `g` is called all the same
-/// so that it closes the channel on which a thread may wait. On a channel of which `f` had the other end nobody
-/// waits.
+/// `g` is told whether the thread was started. Where it was not, `f` is dropped, and `g` is called all the same so
+/// that it closes the channel on which a thread may wait. On a channel of which `f` had the other end nobody waits.
 ///
 /// # Errors
 /// That of one of the two calls, and `NoThread` where the thread could not be started.

@@ -29,7 +29,6 @@ impl<T, H: History<T>, M, A: Operation<T, M>> Model for TaskAnswer<T, H, M, A> {
 }
 
 impl<T: Drop, H: History<T>, M: Drop, A: Operation<T, M>> TaskAnswer<T, H, M, A> {
-    /// An answer, with the pass and what it was at first.
     pub(crate) fn new(opening: GhostStart<H::Pass, M>, pass: H::Pass, answer: A::Answer) -> Self
         requires made { Answers H.relations (A.event opening.asked.value) A.read A.ended
             opening.pass.value pass answer }
@@ -42,7 +41,6 @@ impl<T: Drop, H: History<T>, M: Drop, A: Operation<T, M>> TaskAnswer<T, H, M, A>
         }
     }
 
-    /// The pass, and the answer.
     pub(crate) fn apart(self) -> (H::Pass, A::Answer)
         ensures made { Answers H.relations (A.event self.1) A.read A.ended self.0 result.0 result.1 }
         ensures pass { result.0 ≡ self.2 }

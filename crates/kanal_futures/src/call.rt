@@ -45,7 +45,6 @@ impl<T: Drop, H: History<T>, M: Drop, A: Operation<T, M>> Drop for TaskCall<'_, 
 }
 
 impl<'a, T: Drop, H: History<T>, M: Drop, A: Operation<T, M>> TaskCall<'a, T, H, M, A> {
-    /// A call that asks this by this pass. It does nothing before its first poll.
     pub(crate) fn new(shared: &'a Shared<T, H>, pass: H::Pass, asked: M) -> Self
         ensures fresh { call_begun result ≡ Some (pass, asked) }
     {
@@ -57,12 +56,10 @@ impl<'a, T: Drop, H: History<T>, M: Drop, A: Operation<T, M>> TaskCall<'a, T, H,
         }
     }
 
-    /// The channel of the call.
     pub(crate) fn shared(&self) -> &'a Shared<T, H> {
         self.shared
     }
 
-    /// Whether its wait was started, and not polled to its end.
     pub(crate) fn is_waiting(&self) -> bool
         ensures { result ≡ call_waits self.now }
     {
@@ -71,11 +68,7 @@ impl<'a, T: Drop, H: History<T>, M: Drop, A: Operation<T, M>> TaskCall<'a, T, H,
 
     /// The pass, where no wait was started that was not polled to its end and it has not answered; a started
     /// wait is withdrawn. It never waits.
-    ///
-    /// # Examples
-    /// ```text
-    /// recv_in_task(&shared, pass).into_pass()   answers  Some(pass)   without a poll
-    /// ```
+    /// Example: `recv_in_task(&shared, pass).into_pass()` answers `Some(pass)` without a poll.
     pub fn into_pass(self) -> Option<H::Pass>
         ensures pass { call_waits self.entry ≡ false → result ≡ passes (call_begun self.entry) }
     {
@@ -89,7 +82,6 @@ impl<'a, T: Drop, H: History<T>, M: Drop, A: Operation<T, M>> TaskCall<'a, T, H,
         state.into_pass(shared)
     }
 
-    /// Keeps the pass of its answer.
     #[inline]
     pub(crate) fn store_pass(&mut self, pass: H::Pass)
         requires over { call_begun self.old ≡ None }
@@ -140,7 +132,6 @@ impl<'a, T: Drop, H: History<T>, M: Drop, A: Operation<T, M>> TaskCall<'a, T, H,
         }
     }
 
-    /// Makes the call later, since another holds the lock.
     fn retry(
         &mut self,
         pass: H::Pass,
@@ -161,7 +152,6 @@ impl<'a, T: Drop, H: History<T>, M: Drop, A: Operation<T, M>> TaskCall<'a, T, H,
         cx.yield_now()
     }
 
-    /// Goes on with the call, with the lock held.
     fn begin(
         &mut self,
         locked: Locked<'_, T, H>,
@@ -197,7 +187,6 @@ impl<'a, T: Drop, H: History<T>, M: Drop, A: Operation<T, M>> TaskCall<'a, T, H,
         }
     }
 
-    /// Makes the call, with the lock held and the notices applied; where it must wait, the wait is started.
     fn begin_held(
         &mut self,
         locked: Locked<'_, T, H>,
@@ -220,7 +209,6 @@ impl<'a, T: Drop, H: History<T>, M: Drop, A: Operation<T, M>> TaskCall<'a, T, H,
         }
     }
 
-    /// Looks for the end of the wait.
     #[tactic(auto, using(crate::proofs::Answering::answered_settled))]
     fn wait(
         &mut self,
@@ -241,7 +229,6 @@ impl<'a, T: Drop, H: History<T>, M: Drop, A: Operation<T, M>> TaskCall<'a, T, H,
         }
     }
 
-    /// Goes on with a poll that did not answer at once.
     #[cold]
     pub(crate) fn poll_slow(
         &mut self,
@@ -270,7 +257,6 @@ impl<'a, T: Drop, H: History<T>, M: Drop, A: Operation<T, M>> TaskCall<'a, T, H,
         }
     }
 
-    /// Goes on with a call that was made.
     fn look(&mut self, cx: &mut Context<'_>) -> Poll<Option<TaskAnswer<T, H, M, A>>>
         requires made { is_fresh self.old.state ≡ false }
         ensures begun { IfReady result (λ r. IfSome r (λ x. call_begun self.old ≡ Some (x.0, x.1))) }

@@ -19,7 +19,6 @@ impl<T> Model for GhostValue<T> {
 }
 
 impl<T> GhostValue<T> {
-    /// The value as it is now.
     pub(crate) fn of(x: &T) -> GhostValue<T>
         ensures { result.value ≡ x.now }
     {

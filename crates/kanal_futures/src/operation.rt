@@ -31,13 +31,11 @@ pub trait Operation<T, M> {
     /// What is answered once it was answered.
     ghost finished: { Self.Answer };
 
-    /// The event that it is.
     fn into_event(message: M) -> Event<T>
         ensures asked { result ≡ event message }
         ensures waits { may_wait result ≡ true };
 
-    /// Makes the call where it goes by itself: nobody waits, and it need not wait. Where it doesn't nothing
-    /// changes.
+    /// Makes the call where it goes by itself: nobody waits, and it need not wait. Where it doesn't nothing changes.
     fn make_fast<H: History<T>>(
         locked: &mut Locked<'_, T, H>,
         log: &H::Log,
@@ -50,19 +48,16 @@ pub trait Operation<T, M> {
             Answers H.relations (event asked) read ended pass.old pass.new answer) }
         ensures refused { IfErr result (λ back. (back ≡ asked) × (pass.new ≡ pass.old)) };
 
-    /// The answer of this reply.
     fn by(reply: Reply<T>) -> Self::Answer
     where
         T: Drop,
         ensures { result ≡ read reply };
 
-    /// The answer of a wait that ended so.
     fn after(outcome: Outcome<T>) -> Self::Answer
     where
         T: Drop,
         ensures { result ≡ ended outcome };
 
-    /// The answer once it was answered.
     fn again() -> Self::Answer
         ensures { result ≡ finished };
 }
@@ -75,7 +70,6 @@ pub(crate) struct GhostStart<P, M> {
 }
 
 impl<P, M> GhostStart<P, M> {
-    /// Of a call of this pass that asks this.
     pub(crate) fn of(pass: &P, asked: &M) -> Self
         ensures pass { result.pass.value ≡ pass.now }
         ensures asked { result.asked.value ≡ asked.now }

@@ -20,15 +20,13 @@ use futures::task::{Context, Poll};
 use kanal_channel::Shared;
 use kanal_state::History;
 
-/// A call in a task that answers without its pass. `SendFuture` and `ReceiveFuture` say what a poll and a drop
-/// do.
+/// A call in a task that answers without its pass. `SendFuture` and `ReceiveFuture` say what a poll and a drop do.
 #[derive(Drop)]
 pub struct PlainFuture<'a, T, H: History<T>, M, A: Operation<T, M>> {
     call: TaskCall<'a, T, H, M, A>,
 }
 
 impl<'a, T: Drop, H: History<T>, M: Drop, A: Operation<T, M>> PlainFuture<'a, T, H, M, A> {
-    /// A call that asks this by this pass. It does nothing before its first poll.
     pub(crate) fn new(shared: &'a Shared<T, H>, pass: H::Pass, asked: M) -> Self
         ensures fresh { asked_call result ≡ Some (pass, asked) }
     {
@@ -37,7 +35,6 @@ impl<'a, T: Drop, H: History<T>, M: Drop, A: Operation<T, M>> PlainFuture<'a, T,
         }
     }
 
-    /// Keeps the pass of an answer.
     #[inline]
     fn store_pass(&mut self, answered: TaskAnswer<T, H, M, A>) -> A::Answer
         requires over { is_over self.old ≡ true }
@@ -51,7 +48,6 @@ impl<'a, T: Drop, H: History<T>, M: Drop, A: Operation<T, M>> PlainFuture<'a, T,
         answer
     }
 
-    /// Goes on with a poll that did not answer at once.
     #[cold]
     fn poll_slow(&mut self, rest: PollRest<'a, T, H, M>, cx: &mut Context<'_>) -> Poll<A::Answer>
         requires fits { RestMatches rest self.old.call.state }

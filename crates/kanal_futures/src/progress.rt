@@ -11,11 +11,9 @@ use kanal_channel::{Locked, Shared};
 use kanal_state::History;
 use std::mem;
 
-/// Where a call in a task is.
 pub(crate) enum Progress<T, H: History<T>, M, A: Operation<T, M>> {
     /// It made no call yet.
     Zero(H::Pass, M),
-    /// It waits.
     Waiting(Started<T, H, M, A>),
     /// It has answered. The pass of its answer is here where it is kept.
     Done(Option<H::Pass>),
@@ -27,7 +25,6 @@ pub(crate) enum PollRest<'a, T, H: History<T>, M> {
     Held(Locked<'a, T, H>, H::Pass, M),
     /// The call: another holds the lock.
     Refused(H::Pass, M),
-    /// The call was made before.
     Begun,
 }
 
@@ -47,7 +44,6 @@ impl<T: Drop, H: History<T>, M: Drop, A: Operation<T, M>> Drop for Progress<T, H
 }
 
 impl<T: Drop, H: History<T>, M: Drop, A: Operation<T, M>> Progress<T, H, M, A> {
-    /// Takes out the call, where it was not made yet.
     #[inline]
     pub(crate) fn take(&mut self) -> Option<(H::Pass, M)>
         ensures taken { IfSome result (λ call. begun_by self.old ≡ Some call) }
@@ -62,7 +58,6 @@ impl<T: Drop, H: History<T>, M: Drop, A: Operation<T, M>> Progress<T, H, M, A> {
         Some(fresh.into_call())
     }
 
-    /// The call that was not made yet.
     #[inline]
     fn into_call(self) -> (H::Pass, M)
         requires fresh { is_fresh self ≡ true }
@@ -75,7 +70,6 @@ impl<T: Drop, H: History<T>, M: Drop, A: Operation<T, M>> Progress<T, H, M, A> {
         }
     }
 
-    /// Keeps the pass of its answer.
     #[inline]
     pub(crate) fn store_pass(&mut self, pass: H::Pass)
         requires over { begun_by self.old ≡ None }
@@ -89,7 +83,6 @@ impl<T: Drop, H: History<T>, M: Drop, A: Operation<T, M>> Progress<T, H, M, A> {
         }
     }
 
-    /// Takes out the wait, where there is one.
     pub(crate) fn take_wait(&mut self) -> Option<Started<T, H, M, A>>
         ensures waits { IfSome result (λ started. begun_by self.old ≡ Some started) }
         ensures over { IfSome result (λ _. begun_by self.new ≡ None) }
@@ -103,7 +96,6 @@ impl<T: Drop, H: History<T>, M: Drop, A: Operation<T, M>> Progress<T, H, M, A> {
         waiting.into_wait()
     }
 
-    /// The wait, if there is one.
     #[inline]
     pub(crate) fn into_wait(self) -> Option<Started<T, H, M, A>>
         ensures found { is_waiting self ≡ true → IsSome result }
@@ -123,7 +115,6 @@ impl<T: Drop, H: History<T>, M: Drop, A: Operation<T, M>> Progress<T, H, M, A> {
         }
     }
 
-    /// The pass, where no call was made yet; what waits is given up. It never waits.
     pub(crate) fn into_pass(self, shared: &Shared<T, H>) -> Option<H::Pass>
         ensures pass { is_waiting self ≡ false → result ≡ passes (begun_by self) }
     {

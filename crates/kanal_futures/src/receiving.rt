@@ -44,7 +44,6 @@ impl<T> Operation<T, ()> for OfReceive {
         Event::Recv
     }
 
-    /// The front message leaves where there is one.
     #[inline(always)]
     fn make_fast<H: History<T>>(
         locked: &mut Locked<'_, T, H>,
@@ -163,11 +162,7 @@ impl<T: Drop, H: History<T>> fmt::Debug for Receiving<'_, T, H> {
 pub type ReceiveFuture<'a, T, H = NoHistory> = PlainFuture<'a, T, H, (), OfReceive>;
 
 /// A future that receives a message. It does nothing before its first poll, and never waits.
-///
-/// # Examples
-/// ```text
-/// block_on(&rt, receive_future(&shared))   gives  Ok(7)   where 7 was sent
-/// ```
+/// Example: `block_on(&rt, receive_future(&shared))` gives `Ok(7)` where 7 was sent.
 pub fn receive_future<T: Drop, H: History<T, Pass = ()>>(
     shared: &Shared<T, H>,
 ) -> ReceiveFuture<'_, T, H>

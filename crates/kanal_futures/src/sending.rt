@@ -44,7 +44,6 @@ impl<T> Operation<T, T> for OfSend {
         Event::Send(message)
     }
 
-    /// The message enters where there is a place for it.
     #[inline(always)]
     fn make_fast<H: History<T>>(
         locked: &mut Locked<'_, T, H>,
@@ -162,11 +161,7 @@ impl<T: Drop, H: History<T>> fmt::Debug for Sending<'_, T, H> {
 pub type SendFuture<'a, T, H = NoHistory> = PlainFuture<'a, T, H, T, OfSend>;
 
 /// A future that sends the message. It does nothing before its first poll, and never waits.
-///
-/// # Examples
-/// ```text
-/// block_on(&rt, send_future(&shared, 7))   gives  Ok(())   in a channel with a place
-/// ```
+/// Example: `block_on(&rt, send_future(&shared, 7))` gives `Ok(())` in a channel with a place.
 pub fn send_future<T: Drop, H: History<T, Pass = ()>>(
     shared: &Shared<T, H>,
     message: T,

@@ -60,7 +60,6 @@ impl<T, H: History<T>, M, A: Operation<T, M>> Model for Started<T, H, M, A> {
 }
 
 impl<T: Drop, H: History<T>, M: Drop, A: Operation<T, M>> Started<T, H, M, A> {
-    /// The wait of a call that waits.
     fn new(
         opening: GhostStart<H::Pass, M>,
         pass: H::Pass,
@@ -80,20 +79,17 @@ impl<T: Drop, H: History<T>, M: Drop, A: Operation<T, M>> Started<T, H, M, A> {
         }
     }
 
-    /// The ticket under which it waits.
     fn ticket(&self) -> Ticket {
         self.counted.ticket()
     }
 
-    /// What became of the wait, where it was settled.
     fn poll(&mut self) -> Option<WaitResult<T, H>>
         ensures same { self.new ≡ self.old }
     {
         self.end.poll()
     }
 
-    /// The end of the call, where this became of its wait; where it is another's, which no run has shown, the
-    /// wait goes on.
+    /// Ends the call, or returns `self` if the ticket differs.
     fn finish(self, log: &H::Log, delivered: WaitResult<T, H>) -> Result<SettledCall<T, H, M>, Self>
         ensures begun { IfOk result (λ r. started_with r.0 ≡ self) }
         ensures waited { IfOk result (λ r. HasWaited H.relations self.0 r.1 (A.event self.1) r.2) }
@@ -169,7 +165,7 @@ impl<T: Drop, H: History<T>, M: Drop, A: Operation<T, M>> Started<T, H, M, A> {
     }
 }
 
-/// Gives up a wait of which this became, unless it is another's.
+/// Drops a wait whose result had arrived.
 fn let_go<T: Drop, H: History<T>>(
     shared: &Shared<T, H>,
     counted: CountedWait,
@@ -186,8 +182,7 @@ fn let_go<T: Drop, H: History<T>>(
 }
 
 impl Wakers {
-    /// Makes a call under the lock that was got, and releases the lock; where it must wait, its wait is
-    /// started.
+    /// Makes a call under the lock, and releases the lock; where it must wait, its wait is started.
     pub(crate) fn begin<T: Drop, H: History<T>, M: Drop, A: Operation<T, M>>(
         &self,
         shared: &Shared<T, H>,
@@ -211,9 +206,6 @@ impl Wakers {
     }
 
     /// Begins the wait of a call, as a blocked call does, with a cell whose settling wakes the task.
-    ///
-    /// # Errors
-    /// The reply of a call that does not wait.
     #[inline(always)]
     fn begin_held<T: Drop, H: History<T>>(
         &self,

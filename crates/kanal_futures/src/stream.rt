@@ -50,13 +50,8 @@ pub fn receive_stream<T: Drop, H: History<T>>(
 }
 
 impl<T: Drop, H: History<T>> ReceiveStream<'_, T, H> {
-    /// The pass, where no wait was started that was not polled to its end; such a wait is withdrawn. It
-    /// never waits.
-    ///
-    /// # Examples
-    /// ```text
-    /// stream.into_pass()   answers  Some(pass)   once the stream has answered `None`
-    /// ```
+    /// The pass, where no wait was started that was not polled to its end; such a wait is withdrawn. It never waits.
+    /// Example: `stream.into_pass()` answers `Some(pass)` once the stream has answered `None`.
     pub fn into_pass(self) -> Option<H::Pass>
         ensures pass { stream_waits self.entry ≡ false → result ≡ stream_pass self.entry }
     {
@@ -68,18 +63,13 @@ impl<T: Drop, H: History<T>> ReceiveStream<'_, T, H> {
     }
 
     /// The refusal that ended the stream; `None` while it has not ended. It never waits.
-    ///
-    /// # Examples
-    /// ```text
-    /// stream.fault()   answers  Some(&ReceiveError::SendClosed)   once the last sender's drop ended it
-    /// ```
+    /// Example: `stream.fault()` answers `Some(&ReceiveError::SendClosed)` once the last sender's drop ended it.
     pub fn fault(&self) -> Option<&ReceiveError>
         ensures fault { option_copied result ≡ stream_fault self.now }
     {
         self.fault.as_ref()
     }
 
-    /// Takes an answer: the next receive begins by its pass, and a refusal ends the stream.
     fn take(&mut self, received: ReceiveAnswer<T, H>) -> Option<T>
         requires over { call_begun self.old.receiving ≡ None }
         ensures received { IfSome result (λ m. Receives H.relations received.0 received.2 (Ok m)) }
@@ -101,14 +91,9 @@ impl<T: Drop, H: History<T>> ReceiveStream<'_, T, H> {
         }
     }
 
-    /// Whether the stream has ended, or will answer no message any more: true after `None`, false while
-    /// a wait of its own was not polled to its end, and otherwise what the receiver answers. It may wait
-    /// for the lock.
-    ///
-    /// # Examples
-    /// ```text
-    /// stream.is_terminated(&rt)   answers  true   after `None`
-    /// ```
+    /// Whether the stream has ended, or will answer no message any more: true after `None`, false while a wait of its
+    /// own was not polled to its end, and otherwise what the receiver answers. It may wait for the lock.
+    /// Example: `stream.is_terminated(&rt)` answers `true` after `None`.
     pub fn is_terminated<R: CallContext<H::Pass>>(&self, rt: R) -> bool
         ensures ended { stream_is_over self.now ≡ true → (result ≡ true) × (R.after rt ≡ R.before rt) }
         ensures waiting { stream_is_over self.now ≡ false → stream_waits self.now ≡ true

@@ -23,7 +23,6 @@ pub(crate) struct Wakers {
 }
 
 impl Wakers {
-    /// Of a task that waits for nothing yet.
     pub(crate) fn new() -> Self {
         Wakers {
             source: Source::new(),
@@ -37,8 +36,7 @@ impl Wakers {
         self.spare
     }
 
-    /// A fresh cell whose settling wakes the task, as a wait needs it; `None` where there is no memory
-    /// for it.
+    /// A fresh cell whose settling wakes the task; `None` where there is no memory for it.
     pub(crate) fn cell<T: Drop, H: History<T>>(
         &self,
         alloc: Global,
@@ -74,7 +72,6 @@ impl Wakers {
         }
     }
 
-    /// Swaps the spare waker for that of the entry; false where the lock is held, or nobody waits.
     fn swap<T: Drop, H: History<T>>(&mut self, shared: &Shared<T, H>, ticket: Ticket) -> bool
         ensures source { self.new.source.id ≡ self.old.source.id }
     {

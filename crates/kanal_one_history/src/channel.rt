@@ -47,8 +47,7 @@ pub fn bounded<T: Drop, J: LogId>(
     Ok((Shared::new(core, history, internal_pass, log, alloc), pass))
 }
 
-/// A new channel without limit, with one sender and one receiver, and its first pass. It asks for no
-/// memory.
+/// A new channel without limit, with one sender and one receiver, and its first pass. It asks for no memory.
 ///
 /// The caller knows that the name is the log's, and that the name has no capacity.
 ///

@@ -32,8 +32,8 @@ impl<T, J: LogId> Model for GhostHistory<T, J> {
 }
 
 impl<T, J: LogId> GhostHistory<T, J> {
-    /// The log under a name, a history of no calls on it, and its first pass, which has all of the right to
-    /// add calls. The caller knows that the name is this log's.
+    /// The log under a name, a history of no calls on it, and its first pass, which has all of the right to add
+    /// calls. The caller knows that the name is this log's.
     /// Example: `let (log, mut history, pass) = GhostHistory::<u64, J>::opened(opened)`; then `pass` has seen
     /// nothing.
     pub fn opened(

@@ -42,13 +42,12 @@ impl<T, J: LogId> Model for GhostPass<T, J> {
 impl<T, J: LogId> GhostPass<T, J> {
     /// What holds of every pass, for a caller's proof; it does nothing when it runs.
     ///
-    /// One line of messages tells of the calls that the pass has seen what was told of them. At every cut of
-    /// them the i-th kept message went to the i-th kept demand, by the definitions that `run` of the journal
-    /// cites. No ticket was settled and withdrawn, or one of both twice. A wait that was settled otherwise
-    /// than by an end was neither withdrawn nor ended, and was given what its settlement says. Each ticket
-    /// that a call settled or withdrew was told to a call before it, which began to wait. The events of the
-    /// calls lead a new channel to an account that tells the same, so each law of the journal can be cited of
-    /// them.
+    /// One line of messages tells of the calls that the pass has seen what was told of them. At every cut of them the
+    /// i-th kept message went to the i-th kept demand, by the definitions that `run` of the journal cites. No ticket
+    /// was settled and withdrawn, or one of both twice. A wait that was settled otherwise than by an end was neither
+    /// withdrawn nor ended, and was given what its settlement says. Each ticket that a call settled or withdrew was
+    /// told to a call before it, which began to wait. The events of the calls lead a new channel to an account that
+    /// tells the same, so each law of the journal can be cited of them.
     /// Example: `pass.holds()` and the caller's proof has these facts.
     pub fn holds(&self)
         ensures legal { IsLegal J.capacity self.now.log }
@@ -100,8 +99,8 @@ impl<T, J: LogId> GhostPass<T, J> {
         self.reader.owns_all(log);
     }
 
-    /// Two passes have seen beginnings of one history: one of the two begins with the other. It changes
-    /// neither, and never waits.
+    /// Two passes have seen beginnings of one history: one of the two begins with the other. It changes neither, and
+    /// never waits.
     /// Example: `one.compare(&log, &mut other)` and the caller's proof has it.
     pub fn compare(&mut self, log: &GhostLog<Call<T>, J>, other: &mut Self)
         ensures same { (self.new ≡ self.old) × (other.new ≡ other.old) }
@@ -110,9 +109,8 @@ impl<T, J: LogId> GhostPass<T, J> {
         self.reader.compare(log, &mut other.reader);
     }
 
-    /// No entry of the history answers for two calls: no place is own to both passes, and none stands
-    /// twice among the places of one. So a pass has made as many calls as it has places. It changes
-    /// neither, and never waits.
+    /// No entry of the history answers for two calls: no place is own to both passes, and none stands twice among the
+    /// places of one. So a pass has made as many calls as it has places. It changes neither, and never waits.
     /// Example: `one.owns_once(&log, &mut other)` and the caller's proof has it.
     pub fn owns_once(&mut self, log: &GhostLog<Call<T>, J>, other: &mut Self)
         ensures same { (self.new ≡ self.old) × (other.new ≡ other.old) }
@@ -145,7 +143,6 @@ impl<T, J: LogId> Model for Prefix<T, J> {
 }
 
 impl<T, J: LogId> Prefix<T, J> {
-    /// What the reader has seen.
     pub(crate) fn of(log: &GhostLog<Call<T>, J>, reader: &mut Reader<Call<T>, J>) -> Self
         requires legal { IsLegal J.capacity reader.old.log }
         ensures seen { result ≡ reader.old.log }
@@ -156,7 +153,6 @@ impl<T, J: LogId> Prefix<T, J> {
         }
     }
 
-    /// A copy of it.
     pub(crate) fn again(&mut self, log: &GhostLog<Call<T>, J>) -> Self
         ensures seen { result ≡ self.old }
         ensures same { self.new ≡ self.old }
@@ -164,7 +160,6 @@ impl<T, J: LogId> Prefix<T, J> {
         Prefix::of(log, &mut self.reader)
     }
 
-    /// The pass learns it, and makes no call.
     pub(crate) fn teach(self, log: &GhostLog<Call<T>, J>, pass: &mut GhostPass<T, J>)
         ensures this { IsPrefix pass.old.log pass.new.log }
         ensures that { IsPrefix self pass.new.log }

@@ -30,7 +30,6 @@ pub struct AsyncReceiver<T, H: History<T> = NoHistory> {
 }
 
 impl<T: Drop, H: History<T>> AsyncReceiver<T, H> {
-    /// A receiver of the channel that is counted.
     pub(crate) fn new(shared: Arc<Shared<T, H>>, counted: CountedReceiver) -> Self {
         AsyncReceiver {
             handle: Handle::new(shared, counted),
@@ -80,8 +79,7 @@ impl<T: Drop, H: History<T>> AsyncReceiver<T, H> {
         ReceiverView { receiver: self }
     }
 
-    /// Receives the front message, if there is one. `Ok(None)` says that there is none. It waits for
-    /// the lock.
+    /// Receives the front message, if there is one. `Ok(None)` says that there is none. It waits for the lock.
     ///
     /// # Errors
     /// `Closed` where the channel was closed or no receiver is left, and `SendClosed` where there is

@@ -27,7 +27,6 @@ pub struct AsyncSender<T, H: History<T> = NoHistory> {
 }
 
 impl<T: Drop, H: History<T>> AsyncSender<T, H> {
-    /// A sender of the channel that is counted.
     pub(crate) fn new(shared: Arc<Shared<T, H>>, counted: CountedSender) -> Self {
         AsyncSender {
             handle: Handle::new(shared, counted),

@@ -14,7 +14,6 @@ use kanal_state::{Core, History, NoHistory};
 use std::alloc::Global;
 use std::sync::Arc;
 
-/// The two first handles over this core.
 fn handles<T: Drop>(
     alloc: Global,
     core: Core<T, NoHistory>,

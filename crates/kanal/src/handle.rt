@@ -28,12 +28,10 @@ impl<T: Drop, H: History<T>, S: OfSide> Drop for Handle<T, H, S> {
 }
 
 impl<T: Drop, H: History<T>, S: OfSide> Handle<T, H, S> {
-    /// A handle of the channel that is counted.
     pub(crate) fn new(shared: Arc<Shared<T, H>>, counted: CountedHandle<S>) -> Self {
         Handle { shared, counted }
     }
 
-    /// One more of the side, as a call of this pass.
     pub(crate) fn one_more<R: Wait>(&self, rt: &R, pass: &mut H::Pass) -> Result<Self, TooMany>
         ensures counted { Clones H.relations pass.old pass.new S.side result }
     {
@@ -44,7 +42,6 @@ impl<T: Drop, H: History<T>, S: OfSide> Handle<T, H, S> {
         Ok(Handle { shared, counted })
     }
 
-    /// Asks what is answered by yes or no.
     fn ask_flag<R: CallContext<H::Pass>>(&self, rt: R, question: Ask) -> bool
         ensures asked { Asks H.relations (R.before rt) (R.after rt) S.side question flag_by result }
     {
@@ -54,7 +51,6 @@ impl<T: Drop, H: History<T>, S: OfSide> Handle<T, H, S> {
         answer
     }
 
-    /// Asks how many messages there are, or may be.
     fn ask_number<R: CallContext<H::Pass>>(&self, rt: R, question: Ask) -> usize
         ensures asked { Asks H.relations (R.before rt) (R.after rt) S.side question number_by result }
     {
@@ -64,7 +60,6 @@ impl<T: Drop, H: History<T>, S: OfSide> Handle<T, H, S> {
         answer
     }
 
-    /// Asks how many handles there are.
     fn ask_count<R: CallContext<H::Pass>>(&self, rt: R, question: Ask) -> u32
         ensures asked { Asks H.relations (R.before rt) (R.after rt) S.side question count_by result }
     {
@@ -121,8 +116,7 @@ impl<T: Drop, H: History<T>, S: OfSide> Handle<T, H, S> {
         self.ask_flag(rt, Ask::IsEmpty)
     }
 
-    /// Whether the buffer is at the capacity: always at capacity 0, and never without a limit. It
-    /// waits for the lock.
+    /// Whether the buffer is at the capacity: always at capacity 0, and never without a limit. It waits for the lock.
     ///
     /// # Examples
     /// ```text
@@ -146,8 +140,7 @@ impl<T: Drop, H: History<T>, S: OfSide> Handle<T, H, S> {
         self.ask_flag(rt, Ask::IsBounded)
     }
 
-    /// How many messages the buffer may hold, which is `usize::MAX` without a limit. It waits for the
-    /// lock.
+    /// How many messages the buffer may hold, which is `usize::MAX` without a limit. It waits for the lock.
     ///
     /// # Examples
     /// ```text

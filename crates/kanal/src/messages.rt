@@ -24,7 +24,6 @@ pub struct Messages<'a, T, R: Wait, H: History<T> = NoHistory> {
 }
 
 impl<'a, T: Drop, R: Wait, H: History<T>> Messages<'a, T, R, H> {
-    /// The messages that come to this receiver, by this pass.
     pub(crate) fn new(rt: &'a R, receiver: &'a AsyncReceiver<T, H>, pass: H::Pass) -> Self {
         Messages {
             rt,
@@ -51,8 +50,7 @@ impl<T: Drop, R: Wait, H: History<T>> Iterator for Messages<'_, T, R, H> {
     }
 }
 
-/// Hands each message that comes to the call, until a receive is refused; `Ok` where that is since no
-/// sender is left.
+/// Hands each message that comes to the call, until a receive is refused; `Ok` where that is since no sender is left.
 pub(crate) fn for_each<T: Drop, H: History<T>, R: CallContext<H::Pass>, F: FnMut(T)>(
     rt: R,
     receiver: &AsyncReceiver<T, H>,
@@ -86,7 +84,6 @@ pub(crate) fn try_for_each<
     answer
 }
 
-/// Receives them by this pass.
 fn receive_until<T: Drop, E: Drop, H: History<T>, R: Wait, F: FnMut(T) -> Result<(), E>>(
     rt: &R,
     receiver: &AsyncReceiver<T, H>,
@@ -110,7 +107,6 @@ fn receive_until<T: Drop, E: Drop, H: History<T>, R: Wait, F: FnMut(T) -> Result
     unreachable!()
 }
 
-/// What `for_each` does, by this pass.
 fn receive_all<T: Drop, H: History<T>, R: Wait, F: FnMut(T)>(
     rt: &R,
     receiver: &AsyncReceiver<T, H>,

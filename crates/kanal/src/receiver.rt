@@ -21,9 +21,8 @@ use std::{fmt, time};
 
 /// Receives messages of a channel.
 ///
-/// It is an `AsyncReceiver` whose calls wait where that one's are futures and a stream. The other calls are
-/// those of `AsyncReceiver`, by `Deref`: `try_recv` and its kin, `drain_into`, the questions, `seal` and
-/// `close`.
+/// It is an `AsyncReceiver` whose calls wait where that one's are futures and a stream. The other calls are those of
+/// `AsyncReceiver`, by `Deref`: `try_recv` and its kin, `drain_into`, the questions, `seal` and `close`.
 ///
 /// The channel's receive side is gone when the last receiver of either kind was dropped. A drop never waits.
 #[derive(Drop)]
@@ -32,7 +31,6 @@ pub struct Receiver<T, H: History<T> = NoHistory> {
 }
 
 impl<T: Drop, H: History<T>> Receiver<T, H> {
-    /// A receiver for threads.
     pub(crate) fn new(inner: AsyncReceiver<T, H>) -> Self
         ensures same { receiver_for_tasks result ≡ inner }
     {
@@ -68,9 +66,8 @@ impl<T: Drop, H: History<T>> Receiver<T, H> {
     /// channel ends; and it waits for the lock.
     ///
     /// # Errors
-    /// `Closed` where the channel was closed or no receiver is left, `SendClosed` where there is no
-    /// message and no sender is left, `NoMemory` where memory for a wait was refused, and `TooMany`
-    /// where the tickets are used up.
+    /// `Closed` where the channel was closed or no receiver is left, `SendClosed` where there is no message and no
+    /// sender is left, `NoMemory` where memory for a wait was refused, and `TooMany` where the tickets are used up.
     ///
     /// # Examples
     /// ```text
@@ -117,9 +114,8 @@ impl<T: Drop, H: History<T>> Receiver<T, H> {
     /// The answer is `Ok` exactly where it ended since no sender is left and nothing is in the line.
     ///
     /// # Errors
-    /// As `recv`, but for `SendClosed`: `Closed` where the channel was closed, `NoMemory` where memory
-    /// for a wait was refused, and `TooMany` where the tickets are used up. What was handed over before
-    /// stays so.
+    /// As `recv`, but for `SendClosed`: `Closed` where the channel was closed, `NoMemory` where memory for a wait was
+    /// refused, and `TooMany` where the tickets are used up. What was handed over before stays so.
     ///
     /// # Examples
     /// ```text

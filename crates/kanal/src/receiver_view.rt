@@ -32,9 +32,8 @@ impl<T: Drop, H: History<T>> ReceiverView<'_, T, H> {
     /// channel ends; and it waits for the lock.
     ///
     /// # Errors
-    /// `Closed` where the channel was closed or no receiver is left, `SendClosed` where there is no
-    /// message and no sender is left, `NoMemory` where memory for a wait was refused, and `TooMany`
-    /// where the tickets are used up.
+    /// `Closed` where the channel was closed or no receiver is left, `SendClosed` where there is no message and no
+    /// sender is left, `NoMemory` where memory for a wait was refused, and `TooMany` where the tickets are used up.
     ///
     /// # Examples
     /// ```text
@@ -90,9 +89,8 @@ impl<T: Drop, H: History<T>> ReceiverView<'_, T, H> {
     /// The answer is `Ok` exactly where it ended since no sender is left and nothing is in the line.
     ///
     /// # Errors
-    /// As `recv`, but for `SendClosed`: `Closed` where the channel was closed, `NoMemory` where memory
-    /// for a wait was refused, and `TooMany` where the tickets are used up. What was handed over before
-    /// stays so.
+    /// As `recv`, but for `SendClosed`: `Closed` where the channel was closed, `NoMemory` where memory for a wait was
+    /// refused, and `TooMany` where the tickets are used up. What was handed over before stays so.
     ///
     /// # Examples
     /// ```text

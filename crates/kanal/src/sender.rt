@@ -29,7 +29,6 @@ pub struct Sender<T, H: History<T> = NoHistory> {
 }
 
 impl<T: Drop, H: History<T>> Sender<T, H> {
-    /// A sender for threads.
     pub(crate) fn new(inner: AsyncSender<T, H>) -> Self
         ensures same { sender_for_tasks result ≡ inner }
     {
@@ -80,9 +79,8 @@ impl<T: Drop, H: History<T>> Sender<T, H> {
         self.inner.as_sync().send(rt, message)
     }
 
-    /// Sends the message. Where the buffer is full it waits until a receiver takes the message, the
-    /// channel ends, or the clock reaches the deadline, which is its moment now and the duration
-    /// together; and it waits for the lock.
+    /// Sends the message. Where the buffer is full it waits until a receiver takes the message, the channel ends, or
+    /// the clock reaches the deadline, which is its moment now and the duration together; and it waits for the lock.
     ///
     /// # Errors
     /// As `send`, and `Timeout` where the deadline came first, and `DeadlineOutOfRange` where no moment

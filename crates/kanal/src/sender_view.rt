@@ -48,9 +48,8 @@ impl<T: Drop, H: History<T>> SenderView<'_, T, H> {
         answer
     }
 
-    /// Sends the message. Where the buffer is full it waits until a receiver takes the message, the
-    /// channel ends, or the clock reaches the deadline, which is its moment now and the duration
-    /// together; and it waits for the lock.
+    /// Sends the message. Where the buffer is full it waits until a receiver takes the message, the channel ends, or
+    /// the clock reaches the deadline, which is its moment now and the duration together; and it waits for the lock.
     ///
     /// # Errors
     /// As `send`, and `Timeout` where the deadline came first, and `DeadlineOutOfRange` where no moment

@@ -1,6 +1,4 @@
 //! The places of the answers: one a job, each empty or with that job's value.
-//!
-//! `pool` alone uses it.
 ghost use Rattle.std.specs.Prelude.{◌≡◌, ◌⊎◌, IfOk, IfErr, OnOk, OnErr};
 ghost use Rattle.kanal_pool.specs.declared.error.PoolError.{PoolError};
 ghost use Rattle.kanal_pool.specs.Answers.{answers, AreInPlace, FillsEmpty};
@@ -19,7 +17,6 @@ pub struct JobAnswer<'a, J: Job> {
     ghost is_value: { answer ≡ J.value job.now },
 }
 
-/// Does the work of the job with this number.
 pub fn work_on<'a, J: Job>(number: usize, job: &'a J) -> Result<JobAnswer<'a, J>, NoMemory> {
     let answer = job.work()?;
     Ok(JobAnswer {
@@ -29,7 +26,6 @@ pub fn work_on<'a, J: Job>(number: usize, job: &'a J) -> Result<JobAnswer<'a, J>
     })
 }
 
-/// As many empty places as there are jobs.
 pub fn empty_places<J: Job>(alloc: Global, jobs: &[J]) -> Result<Vec<Option<J::Answer>>, NoMemory>
     ensures { IfOk result (λ places. AreInPlace J.value jobs.now places.items) }
 {
@@ -44,8 +40,7 @@ pub fn empty_places<J: Job>(alloc: Global, jobs: &[J]) -> Result<Vec<Option<J::A
     Ok(places)
 }
 
-/// Puts the answer at its job's place, which is empty. It comes back where that is not its job, or the
-/// place has an answer.
+/// Puts the answer at its job's place. It comes back where that is not its job, or the place has an answer.
 pub fn put<'a, J: Job>(
     jobs: &[J],
     places: &mut Vec<Option<J::Answer>>,
@@ -80,10 +75,7 @@ pub fn put<'a, J: Job>(
     })
 }
 
-/// The answers, once each place has one.
-///
-/// # Errors
-/// `Incomplete` where a place is empty, and `NoMemory` where memory was refused.
+/// The answers, once each place has one; `Incomplete` where one is empty, `NoMemory` where memory was refused.
 pub fn all_answers<J: Job>(
     alloc: Global,
     jobs: &[J],

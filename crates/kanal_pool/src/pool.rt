@@ -16,17 +16,14 @@ use std::sync::Wait;
 use std::thread;
 use std::thread::Threads;
 
-/// A job and its number, on the way to a worker.
 #[derive(Drop)]
 struct Task<'a, J: Job> {
     number: usize,
     job: &'a J,
 }
 
-/// What a worker tells of a job.
 type WorkerReport<'a, J> = Result<JobAnswer<'a, J>, NoMemory>;
 
-/// The channel of the jobs, which holds them all and is sealed.
 fn all_tasks<'a, J: Job, R: Wait>(
     rt: &R,
     alloc: Global,
@@ -99,10 +96,7 @@ where
     })
 }
 
-/// Puts the answers that came at their places.
-///
-/// # Errors
-/// `NoMemory` where a job's work was refused memory.
+/// Puts the answers that came at their places; `NoMemory` where a job's work was refused memory.
 fn collect<'a, J: Job, R: Wait>(
     rt: &R,
     told: &Receiver<WorkerReport<'a, J>>,
@@ -127,10 +121,9 @@ fn collect<'a, J: Job, R: Wait>(
 /// job begins and ends; `NoGate` does nothing. Which worker does which job, and when, is not said.
 ///
 /// # Errors
-/// `NoWorkers` where `workers` is 0, and then `TooLarge` where there are `usize::MAX` jobs; nothing was
-/// done. `NoMemory` where a growth or a job's work was refused memory, `NoThread` where a worker could
-/// not be started, and `Incomplete` where the answers ended before each job had one. All workers that
-/// were started have ended then.
+/// `NoWorkers` where `workers` is 0, and then `TooLarge` where there are `usize::MAX` jobs; nothing was done.
+/// `NoMemory` where a growth or a job's work was refused memory, `NoThread` where a worker could not be started, and
+/// `Incomplete` where the answers ended before each job had one. All workers that were started have ended then.
 ///
 /// # Examples
 /// ```text
@@ -174,14 +167,10 @@ where
 }
 
 /// The answers of the jobs, in their order, found one after the other on this thread.
+/// Example: `map_in_turn(alloc, &[Square(2), Square(3)])` answers `Ok` of 4 and 9.
 ///
 /// # Errors
 /// `NoMemory` where a growth or a job's work was refused memory.
-///
-/// # Examples
-/// ```text
-/// map_in_turn(alloc, &[Square(2), Square(3)])   answers  Ok of 4 and 9
-/// ```
 pub fn map_in_turn<J: Job>(alloc: Global, jobs: &[J]) -> Result<Vec<J::Answer>, NoMemory>
     ensures answers { IfOk result (λ found. found.items ≡ answers J.value jobs.now) }
 {
@@ -197,14 +186,10 @@ pub fn map_in_turn<J: Job>(alloc: Global, jobs: &[J]) -> Result<Vec<J::Answer>, 
 }
 
 /// What so many workers answer, and what this thread answers alone: where both are `Ok` it is one list.
+/// Example: `map_both_ways(&rt, alloc, &[Square(2), Square(3)], 4, &NoGate)` answers twice `Ok` of 4 and 9.
 ///
 /// # Errors
 /// Those of `map_jobs`, and those of `map_in_turn`.
-///
-/// # Examples
-/// ```text
-/// map_both_ways(&rt, alloc, &[Square(2), Square(3)], 4, &NoGate)   answers  twice Ok of 4 and 9
-/// ```
 pub fn map_both_ways<J, G, R>(
     rt: &R,
     alloc: Global,

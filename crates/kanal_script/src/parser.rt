@@ -68,7 +68,6 @@ impl<'a> Parser<'a> {
         }
     }
 
-    /// Takes the byte if it is the next one.
     fn skip(&mut self, byte: u8) -> bool
         ensures taken { IsTrue result → self.old.rest.now ≡ byte ∷ self.new.rest.now }
         ensures read { (s : List ℕ) → self.old.rest.now ≡ byte ∷ s → IsTrue result }
@@ -83,7 +82,6 @@ impl<'a> Parser<'a> {
         }
     }
 
-    /// Takes a space and the word behind it.
     fn next_word(&mut self) -> Option<&'a str>
         ensures taken { IfSome result (λ word. self.old.rest.now
             ≡ 32 ∷ (word.now ++ self.new.rest.now)) }
@@ -94,7 +92,6 @@ impl<'a> Parser<'a> {
         if self.skip(b' ') { self.word() } else { None }
     }
 
-    /// Takes a space and a number.
     fn argument(&mut self) -> Option<u64>
         ensures taken { IfSome result (λ n. self.old.rest.now
             ≡ 32 ∷ (decimal n ++ self.new.rest.now)) }
@@ -106,7 +103,6 @@ impl<'a> Parser<'a> {
         number(self.next_word()?)
     }
 
-    /// Takes the words of a `cap` line.
     fn capacity(&mut self) -> Option<Option<usize>>
         ensures taken { IfSome result (λ capacity. self.old.rest.now
             ≡ capacity_words capacity ++ self.new.rest.now) }
@@ -122,7 +118,6 @@ impl<'a> Parser<'a> {
         }
     }
 
-    /// Takes a space and what the capacity is.
     fn limit(&mut self) -> Option<Option<usize>>
         ensures taken { IfSome result (λ capacity. self.old.rest.now
             ≡ 32 ∷ (limit_word capacity ++ self.new.rest.now)) }
@@ -138,7 +133,6 @@ impl<'a> Parser<'a> {
         }
     }
 
-    /// Takes the words of an event.
     fn event(&mut self) -> Option<Event<u64>>
         ensures taken { IfSome result (λ event. self.old.rest.now
             ≡ event_words event ++ self.new.rest.now) }
@@ -170,7 +164,6 @@ impl<'a> Parser<'a> {
         }
     }
 
-    /// Takes a space and the name of a side.
     fn side(&mut self) -> Option<Side>
         ensures taken { IfSome result (λ side. self.old.rest.now
             ≡ 32 ∷ (side_word side ++ self.new.rest.now)) }
@@ -186,7 +179,6 @@ impl<'a> Parser<'a> {
         }
     }
 
-    /// Takes a space and the name of a question.
     fn question(&mut self) -> Option<Ask>
         ensures taken { IfSome result (λ ask. self.old.rest.now
             ≡ 32 ∷ (ask_word ask ++ self.new.rest.now)) }
@@ -227,7 +219,6 @@ impl<'a> Parser<'a> {
         }
     }
 
-    /// Takes the first line.
     fn capacity_line(&mut self) -> Result<Option<usize>, ParseError>
         ensures taken { IfOk result (λ capacity.
             IsReadTo self.old.rest.now (line (capacity_words capacity)) self.new.rest.now) }
@@ -249,7 +240,6 @@ impl<'a> Parser<'a> {
         Ok(capacity)
     }
 
-    /// Takes a line after the first.
     fn event_line(&mut self) -> Result<Event<u64>, ParseError>
         ensures taken { IfOk result (λ event.
             IsReadTo self.old.rest.now (line (event_words event)) self.new.rest.now) }
@@ -271,14 +261,12 @@ impl<'a> Parser<'a> {
     }
 }
 
-/// Whether the byte is a space or a line feed.
 fn is_separator(byte: u8) -> bool
     ensures { result ≡ is_separator byte }
 {
     byte == b' ' || byte == b'\n'
 }
 
-/// How many bytes stand before the first space or line feed.
 fn word_len(bytes: &[u8]) -> usize
     ensures within { result ≤ length bytes.now }
     ensures word { take result bytes.now ≡ word_of bytes.now }
@@ -323,10 +311,9 @@ pub fn number(word: &str) -> Option<u64>
 
 /// Reads a script.
 ///
-/// Its first line must be a `cap` line, and each line after it an event. A last line feed may be
-/// left out. The error tells the first line that can't be read, or that memory was refused before
-/// one was found. All lines before that one were read, and every script that the input begins with
-/// ends before it.
+/// Its first line must be a `cap` line, and each line after it an event. A last line feed may be left out. The error
+/// tells the first line that can't be read, or that memory was refused before one was found. All lines before that
+/// one were read, and every script that the input begins with ends before it.
 ///
 /// ```
 /// let script = parse(rt.alloc(), b"cap 1\ntry_send 7")?;

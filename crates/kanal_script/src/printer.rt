@@ -11,7 +11,6 @@ use kanal_journal::journal::{Refusal, Reply, Report, Settlement};
 use std::io;
 use std::io::Write;
 
-/// The name of a refusal, as it is printed.
 fn refusal_name(refusal: Refusal) -> &'static str
     ensures { result.now ≡ refusal_name refusal }
 {
@@ -29,7 +28,6 @@ fn refusal_name(refusal: Refusal) -> &'static str
     }
 }
 
-/// The name of the reason for which a wait ended, as it is printed.
 fn reason_name(reason: Reason) -> &'static str
     ensures { result.now ≡ reason_name reason }
 {
@@ -40,7 +38,6 @@ fn reason_name(reason: Reason) -> &'static str
     }
 }
 
-/// A yes or a no, as it is printed.
 fn flag_word(flag: bool) -> &'static str
     ensures { result.now ≡ flag_word flag }
 {
@@ -79,7 +76,6 @@ impl<'a> Uncounted<'a> {
     }
 }
 
-/// Prints each message behind a space, and ends the line.
 fn print_messages<W: Write>(output: &mut W, messages: &[u64]) -> io::Result<()>
     ensures { OnOk result (Appends (W.contents output.old) (W.contents output.new)
         (line (messages_text messages.now))) }
@@ -92,9 +88,8 @@ fn print_messages<W: Write>(output: &mut W, messages: &[u64]) -> io::Result<()>
 
 /// Prints a reply's line.
 ///
-/// The count of a drain or of a close is followed by the messages, and a refusal or a withdrawal by the message
-/// that comes back with it. The error is the writer's own; a beginning of the line may then have
-/// been written.
+/// The count of a drain or of a close is followed by the messages, and a refusal or a withdrawal by the message that
+/// comes back with it. The error is the writer's own; a beginning of the line may then have been written.
 ///
 /// ```
 /// let mut text = Vec::new(rt.alloc());
@@ -164,7 +159,6 @@ pub fn print_settlement<W: Write>(output: &mut W, settlement: &Settlement<u64>) 
     }
 }
 
-/// How many of the settlements, from the first on, are the step's.
 fn count_settled(step: usize, settled: &[Settlement<u64>]) -> usize
     ensures count { result ≡ count_settled step settled.now }
     ensures within { result ≤ length settled.now }
@@ -175,7 +169,6 @@ fn count_settled(step: usize, settled: &[Settlement<u64>]) -> usize
         .count()
 }
 
-/// Prints the settlements' lines.
 fn print_settlements<W: Write>(output: &mut W, settled: &[Settlement<u64>]) -> io::Result<()>
     ensures { OnOk result (Appends (W.contents output.old) (W.contents output.new)
         (settlements_text settled.now)) }

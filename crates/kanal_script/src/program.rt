@@ -15,19 +15,16 @@ use std::alloc::Global;
 use std::io::{Read, Write};
 use std::{fmt, io};
 
-/// Why a script has no answer.
 #[derive(Clone, Copy, Debug, PartialEq, Eq)]
 enum Fault {
     /// The line of this number, counted from 1, is the first that can't be read.
     Unreadable(usize),
-    /// Memory was refused.
     NoMemory,
     /// Reading or writing failed.
     Device,
 }
 
 impl Fault {
-    /// The status that the program ends with.
     fn status(self) -> u8
         ensures { result ≡ fault_status self }
     {
@@ -61,7 +58,6 @@ impl From<ParseError> for Fault {
     }
 }
 
-/// Reads the input to its end.
 fn read_all<R: Read>(alloc: Global, input: &mut R) -> Result<Vec<u8>, Fault>
     ensures read { IfOk result (λ read.
         IfSome (R.remaining input.old) (λ bytes. read.items ≡ bytes)) }
@@ -88,7 +84,6 @@ fn run_script(alloc: Global, bytes: &[u8]) -> Result<Option<Report<u64>>, Fault>
     }
 }
 
-/// The answer's text.
 fn printed(alloc: Global, answer: &Option<Report<u64>>) -> Result<Vec<u8>, Fault>
     ensures ok { IfOk result (λ text. text.items ≡ answer_text answer.now) }
     ensures err { IfErr result (λ fault. fault ≡ Fault.NoMemory) }
@@ -130,7 +125,6 @@ fn write_pieces<W: Write>(output: &mut W, text: &[u8]) -> Result<(), Fault>
     Err(Fault::Device)
 }
 
-/// Writes a text, and flushes.
 fn write_text<W: Write>(output: &mut W, text: &[u8]) -> Result<(), Fault>
     ensures ok { OnOk result (Appends (W.contents output.old) (W.contents output.new) text.now) }
     ensures err { IfErr result (λ fault. fault ≡ Fault.Device) }
@@ -152,7 +146,6 @@ fn tell<E: Write>(errors: &mut E, fault: Fault) -> bool
     writeln!(errors, "{fault}").is_ok()
 }
 
-/// Reads a script and writes its answer.
 fn answer<R: Read, W: Write>(alloc: Global, input: &mut R, output: &mut W) -> Result<(), Fault>
     ensures ok { OnOk result (IfSome (R.remaining input.old)
         (λ bytes. AnswersScript bytes (W.contents output.old) (W.contents output.new))) }

@@ -1,6 +1,4 @@
 //! A script: what a channel is made with, and what happens on it.
-//!
-//! How a script is written is the matter of `parser`.
 use kanal_journal::journal::Event;
 
 /// The capacity of a channel, and the events on it in their order. The messages are numbers.

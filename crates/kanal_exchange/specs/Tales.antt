@@ -1,14 +1,20 @@
 -- What a pass's own calls put and got.
-use Rattle.std.specs.Prelude.{◌≡◌, ℕ, List, [], ◌∷◌, ◌++◌, length, replicate, Option}
+use Rattle.std.specs.Prelude.{◌≡◌, ℕ, List, [], length, replicate, Option}
+use Rattle.kanal_log.specs.declared.rule.Share.{Share}
+use Rattle.kanal_log.specs.Shares.{both, half}
 use Rattle.kanal_log.specs.Views.{Known, AreBelow}
 use Rattle.kanal_journal.specs.Paired.{Demand, sent, asked, cleared_by}
 use Rattle.kanal_state.specs.declared.call.Call.{Call}
-use Rattle.kanal_one_history.specs.Puts.{AreGot, ArePut, Exchanges}
+use Rattle.kanal_one_history.specs.Puts.{AreGot, ArePut}
 use Rattle.kanal_exchange.specs.Readings.{read_at}
 
 -- so many marks
 abbrev pub marks_of : ℕ → List (Unit {0})
 marks_of n = replicate n tt
+
+-- the share, halved and put together again
+abbrev pub rejoined : Share → Share
+rejoined s = both (half s) (half s)
 
 module _ {T : Type 0} where
   -- the message that entered by this call, with the ticket of its wait
@@ -29,9 +35,3 @@ module _ {T : Type 0} where
     pub puts : ArePut pass.log (read_at sent_in pass.own 0 pass.log) put
     pub gets : AreGot pass.log (read_at asked_in pass.own 0 pass.log) got
     pub clears : read_at cleared_in pass.own 0 pass.log ≡ []
-
-  -- the pass got one message, which stands behind those that came before
-  pub record GetsOne (capacity : Option ℕ) (old new : Known (Call T)) (before after : List T) : Type 0 where
-    pub message : T
-    pub came : Exchanges capacity old new [] (message ∷ [])
-    pub stands : after ≡ before ++ message ∷ []

@@ -1,13 +1,14 @@
 //! The exchange: one thread sends, another receives.
 //!
-//! `overseen` is handed the passes of both threads when they have ended, and says that what was received is what was
-//! sent first. No other module sends or receives a list.
+//! `send_all` and `receive_all` make a list's calls, in a thread or in a task. `overseen` is handed the passes of both
+//! ends, and says that what was received is what was sent first. No other module sends or receives a list.
 ghost use Rattle.std.specs.Prelude.{◌≡◌, List, [], Ok, IfOk, take, length};
 ghost use Rattle.kanal_log.specs.Logs.{table_of};
 ghost use Rattle.kanal_log.specs.Shares.{IsWhole, both, half, whole};
 ghost use Rattle.kanal_log.specs.Views.{known};
-ghost use Rattle.kanal_exchange.specs.Tales.{GetsOne, HasExchanged};
+ghost use Rattle.kanal_exchange.specs.Tales.{HasExchanged, rejoined};
 
+use crate::endpoint::{Endpoint, InThread};
 use crate::error::{Answer, ExchangeError};
 use crate::threads::both;
 use kanal_one_history::{Call, Channel, GhostPass, LogId, NewLog};
@@ -16,54 +17,31 @@ use std::snapshot::Snapshot;
 use std::sync::Wait;
 use std::thread::{Promise, Threads};
 
-/// Sends all messages, in order, and waits where there is no place.
-///
-/// # Errors
-/// Where a send is refused: the channel is closed then, and what is left of the messages is dropped.
-pub(crate) fn send_all<T: Drop, J: LogId, R: Wait>(
+/// Sends all messages, in order.
+fn send_each<T: Drop, J: LogId, R: Wait, P: Endpoint<R>>(
     rt: &R,
     channel: &Channel<T, J>,
     mut pass: GhostPass<T, J>,
     messages: Vec<T>,
-) -> Result<GhostPass<T, J>, ExchangeError>
+) -> Answer<GhostPass<T, J>>
     requires fresh { pass.own ≡ [] }
     ensures sent { IfOk result (λ p. HasExchanged messages.items [] p) }
     ensures share { IfOk result (λ p. p.share ≡ pass.share) }
 {
     for message in messages {
-        if let Err(refused) = channel.send(rt, &mut pass, message) {
-            let _closed = channel.close(rt, &mut pass);
-            return Err(ExchangeError::Send(refused));
-        }
+        pass = P::send(rt, channel, pass, message)?;
     }
     Ok(pass)
 }
 
-fn receive_one<T: Drop, J: LogId, R: Wait>(
-    rt: &R,
-    channel: &Channel<T, J>,
-    pass: &mut GhostPass<T, J>,
-    got: &mut Vec<T>,
-) -> Result<(), ExchangeError>
-    ensures received { IfOk result (λ _. GetsOne J.capacity pass.old pass.new got.old.items got.new.items) }
-{
-    let message = channel.recv(rt, pass)?;
-    got.push(message)?;
-    Ok(())
-}
-
-/// Receives so many messages, and waits where there is none.
-///
-/// # Errors
-/// Where a receive is refused, or there is no memory for the list: the channel is closed then, and what came
-/// is dropped.
-pub(crate) fn receive_all<T: Drop, J: LogId, R: Wait>(
+/// Receives so many messages.
+fn receive_each<T: Drop, J: LogId, R: Wait, P: Endpoint<R>>(
     rt: &R,
     alloc: Global,
     channel: &Channel<T, J>,
     mut pass: GhostPass<T, J>,
     count: usize,
-) -> Result<(Vec<T>, GhostPass<T, J>), ExchangeError>
+) -> Answer<(Vec<T>, GhostPass<T, J>)>
     requires fresh { pass.own ≡ [] }
     ensures received { IfOk result (λ r. HasExchanged [] r.0.items r.1) }
     ensures share { IfOk result (λ r. r.1.share ≡ pass.share) }
@@ -71,12 +49,72 @@ pub(crate) fn receive_all<T: Drop, J: LogId, R: Wait>(
 {
     let mut got = Vec::new(alloc);
     for _number in 0..count {
-        if let Err(refused) = receive_one(rt, channel, &mut pass, &mut got) {
-            let _closed = channel.close(rt, &mut pass);
-            return Err(refused);
-        }
+        let (message, next) = P::receive(rt, channel, pass)?;
+        pass = next;
+        got.push(message)?;
     }
     Ok((got, pass))
+}
+
+/// Sends all messages, in order, and waits where there is no place.
+///
+/// # Errors
+/// Where a send is refused: the channel is closed then, and what is left of the messages is dropped.
+pub(crate) fn send_all<T: Drop, J: LogId, R: Wait, P: Endpoint<R>>(
+    rt: &R,
+    channel: &Channel<T, J>,
+    pass: GhostPass<T, J>,
+    messages: Vec<T>,
+) -> Answer<GhostPass<T, J>>
+    requires fresh { pass.own ≡ [] }
+    ensures sent { IfOk result (λ p. HasExchanged messages.items [] p) }
+    ensures share { IfOk result (λ p. p.share ≡ rejoined pass.share) }
+{
+    let mut pass = pass;
+    let mut beside = pass.again(channel.log());
+    match send_each::<T, J, R, P>(rt, channel, pass, messages) {
+        Ok(sender) => {
+            let mut sender = sender;
+            sender.learn(channel.log(), beside);
+            Ok(sender)
+        },
+        Err(refused) => {
+            let _closed = channel.close(rt, &mut beside);
+            Err(refused)
+        },
+    }
+}
+
+/// Receives so many messages, and waits where there is none.
+///
+/// # Errors
+/// Where a receive is refused, or there is no memory for the list: the channel is closed then, and what came
+/// is dropped.
+pub(crate) fn receive_all<T: Drop, J: LogId, R: Wait, P: Endpoint<R>>(
+    rt: &R,
+    alloc: Global,
+    channel: &Channel<T, J>,
+    pass: GhostPass<T, J>,
+    count: usize,
+) -> Answer<(Vec<T>, GhostPass<T, J>)>
+    requires fresh { pass.own ≡ [] }
+    ensures received { IfOk result (λ r. HasExchanged [] r.0.items r.1) }
+    ensures share { IfOk result (λ r. r.1.share ≡ rejoined pass.share) }
+    ensures count { IfOk result (λ r. length r.0.items ≡ count) }
+{
+    let mut pass = pass;
+    let mut beside = pass.again(channel.log());
+    match receive_each::<T, J, R, P>(rt, alloc, channel, pass, count) {
+        Ok((got, receiver)) => {
+            let mut receiver = receiver;
+            receiver.learn(channel.log(), beside);
+            Ok((got, receiver))
+        },
+        Err(refused) => {
+            let _closed = channel.close(rt, &mut beside);
+            Err(refused)
+        },
+    }
 }
 
 /// Says of two threads that have ended, and whose passes have all of the right to make calls between them:
@@ -108,7 +146,7 @@ struct SentCall<T, J: LogId> {
 
 impl<T, J: LogId> Promise<Answer<GhostPass<T, J>>> for SentCall<T, J> {
     ghost kept_by = { λ p answer. IfOk answer (λ sender. HasExchanged p.messages.value.items [] sender
-        × (sender.share ≡ p.pass.value.share)) };
+        × (sender.share ≡ rejoined p.pass.value.share)) };
 }
 
 /// That a thread received so many messages by this pass.
@@ -120,7 +158,7 @@ struct ReceivedCall<T, J: LogId> {
 
 impl<T, J: LogId> Promise<Answer<(Vec<T>, GhostPass<T, J>)>> for ReceivedCall<T, J> {
     ghost kept_by = { λ p answer. IfOk answer (λ r. HasExchanged [] r.0.items r.1
-        × (r.1.share ≡ p.pass.value.share) × (length r.0.items ≡ p.count)) };
+        × (r.1.share ≡ rejoined p.pass.value.share) × (length r.0.items ≡ p.count)) };
 }
 
 /// The pass, where the other thread was started. Where it was not the channel is closed, so that nobody waits
@@ -156,7 +194,7 @@ where
     B: Drop,
     requires fresh { pass.own ≡ [] }
     requires other { G.IsAlwaysCallable g }
-    ensures sent { IfOk result (λ r. HasExchanged messages.items [] r.0 × (r.0.share ≡ pass.share)) }
+    ensures sent { IfOk result (λ r. HasExchanged messages.items [] r.0 × (r.0.share ≡ rejoined pass.share)) }
     ensures other { IfOk result (λ r. G.post g (Ok tt) (Ok r.1)) }
 {
     let promise = SentCall {
@@ -166,7 +204,7 @@ where
     both(
         rt,
         promise,
-        move || send_all(rt, channel, pass, messages),
+        move || send_all::<T, J, R, InThread>(rt, channel, pass, messages),
         g,
     )
 }
@@ -187,7 +225,7 @@ where
     B: Drop,
     requires fresh { pass.own ≡ [] }
     requires other { G.IsAlwaysCallable g }
-    ensures received { IfOk result (λ r. HasExchanged [] r.0.0.items r.0.1 × (r.0.1.share ≡ pass.share)
+    ensures received { IfOk result (λ r. HasExchanged [] r.0.0.items r.0.1 × (r.0.1.share ≡ rejoined pass.share)
         × (length r.0.0.items ≡ count)) }
     ensures other { IfOk result (λ r. G.post g (Ok tt) (Ok r.1)) }
 {
@@ -198,18 +236,24 @@ where
     both(
         rt,
         promise,
-        move || receive_all(rt, alloc, channel, pass, count),
+        move || receive_all::<T, J, R, InThread>(rt, alloc, channel, pass, count),
         g,
     )
 }
 
-fn between<T: Drop + Send, J: LogId + Send + Sync, R: Threads + Wait + Sync>(
+/// Lets a thread send the messages and `P` receive them in this one, on a channel whose only pass this is.
+pub(crate) fn between<T, J, R, P>(
     rt: &R,
     alloc: Global,
     channel: &Channel<T, J>,
     pass: GhostPass<T, J>,
     messages: Vec<T>,
-) -> Result<Vec<T>, ExchangeError>
+) -> Answer<Vec<T>>
+where
+    T: Drop + Send,
+    J: LogId + Send + Sync,
+    R: Threads + Wait + Sync,
+    P: Endpoint<R>,
     requires first { pass ≡ known [] [] whole }
     ensures exchanged { IfOk result (λ got. got.items ≡ messages.items) }
 {
@@ -223,11 +267,11 @@ fn between<T: Drop + Send, J: LogId + Send + Sync, R: Threads + Wait + Sync>(
         messages,
         move |started: Answer<()>| -> Answer<(Vec<T>, GhostPass<T, J>)>
             requires { (receives.own ≡ []) × (receives.share ≡ half whole) }
-            ensures { IfOk result (λ r. HasExchanged [] r.0.items r.1 × (r.1.share ≡ half whole)
-                × (length r.0.items ≡ count)) }
+            ensures { IfOk result (λ r. HasExchanged [] r.0.items r.1
+                × (r.1.share ≡ rejoined (half whole)) × (length r.0.items ≡ count)) }
         {
             let receives = started_with(rt, channel, receives, started)?;
-            receive_all(rt, alloc, channel, receives, count)
+            receive_all::<T, J, R, P>(rt, alloc, channel, receives, count)
         },
     )?;
     overseen(channel, sender, receiver);
@@ -273,5 +317,5 @@ pub fn exchanged<T: Drop + Send, J: LogId + Send + Sync, R: Threads + Wait + Syn
     ensures exchanged { IfOk result (λ got. got.items ≡ messages.items) }
 {
     let (channel, pass) = channel_of::<T, J>(alloc, capacity, opened)?;
-    between(rt, alloc, &channel, pass, messages)
+    between::<T, J, R, InThread>(rt, alloc, &channel, pass, messages)
 }

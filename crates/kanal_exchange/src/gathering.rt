@@ -7,8 +7,9 @@ ghost use Rattle.kanal_log.specs.Logs.{table_of};
 ghost use Rattle.kanal_log.specs.Shares.{IsWhole, both, half, whole};
 ghost use Rattle.kanal_log.specs.Views.{known};
 ghost use Rattle.kanal_exchange.specs.Merges.{IsMerge};
-ghost use Rattle.kanal_exchange.specs.Tales.{HasExchanged};
+ghost use Rattle.kanal_exchange.specs.Tales.{HasExchanged, rejoined};
 
+use crate::endpoint::InThread;
 use crate::error::{Answer, ExchangeError};
 use crate::exchange::{channel_of, receive_all, sending, started_with};
 use kanal_one_history::{Call, Channel, GhostPass, LogId, NewLog};
@@ -55,7 +56,8 @@ fn send_and_receive<T: Drop + Send, J: LogId + Send + Sync, R: Threads + Wait + 
     ensures sent { IfOk result (λ r. HasExchanged messages.items [] r.0) }
     ensures received { IfOk result (λ r. HasExchanged [] r.1.0.items r.1.1) }
     ensures count { IfOk result (λ r. length r.1.0.items ≡ count) }
-    ensures shares { IfOk result (λ r. (r.0.share ≡ sends.share) × (r.1.1.share ≡ receives.share)) }
+    ensures shares { IfOk result (λ r. (r.0.share ≡ rejoined sends.share)
+        × (r.1.1.share ≡ rejoined receives.share)) }
 {
     sending(
         rt,
@@ -64,11 +66,11 @@ fn send_and_receive<T: Drop + Send, J: LogId + Send + Sync, R: Threads + Wait + 
         messages,
         move |started: Answer<()>| -> Answer<(Vec<T>, GhostPass<T, J>)>
             requires { receives.own ≡ [] }
-            ensures { IfOk result (λ r. HasExchanged [] r.0.items r.1 × (r.1.share ≡ receives.share)
+            ensures { IfOk result (λ r. HasExchanged [] r.0.items r.1 × (r.1.share ≡ rejoined receives.share)
                 × (length r.0.items ≡ count)) }
         {
             let receives = started_with(rt, channel, receives, started)?;
-            receive_all(rt, alloc, channel, receives, count)
+            receive_all::<T, J, R, InThread>(rt, alloc, channel, receives, count)
         },
     )
 }
@@ -98,8 +100,8 @@ fn gathered_on<T: Drop + Send, J: LogId + Send + Sync, R: Threads + Wait + Sync>
         move |started: Answer<()>| -> Answer<(GhostPass<T, J>, (Vec<T>, GhostPass<T, J>))>
             requires { (two.share ≡ half (half whole)) × (two.own ≡ [])
                 × (other.share ≡ half (half whole)) × (other.own ≡ []) }
-            ensures { IfOk result (λ r. HasExchanged second.items [] r.0 × (r.0.share ≡ half (half whole))
-                × HasExchanged [] r.1.0.items r.1.1 × (r.1.1.share ≡ half (half whole))
+            ensures { IfOk result (λ r. HasExchanged second.items [] r.0 × (r.0.share ≡ rejoined (half (half whole)))
+                × HasExchanged [] r.1.0.items r.1.1 × (r.1.1.share ≡ rejoined (half (half whole)))
                 × (length r.1.0.items ≡ count)) }
         {
             let other = started_with(rt, channel, other, started)?;

@@ -4,6 +4,7 @@
 //! between them: so nobody else put a message or took one. Nothing is recorded when it runs.
 #![tactic(auto)]
 
+mod endpoint;
 mod error;
 mod exchange;
 mod gathering;

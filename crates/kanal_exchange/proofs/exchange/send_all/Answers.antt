@@ -1,14 +1,6 @@
-use Rattle.std.proofs.Common.{[], ◌∷◌, refl, ◌∙◌}
-use Rattle.kanal_exchange.proofs.Telling.{tells_none, tells_more}
+use Rattle.std.proofs.Common.{rules, []}
+use Rattle.kanal_exchange.proofs.Telling.{tells_longer}
 use Rattle.kanal_exchange.proofs.exchange.send_all.Goals as goal
 
-pub loop-message-init : goal.loop-message-init
-loop-message-init g c = (tells_none c.args.pass c.requires.fresh, refl)
-
-pub loop-message-preserved : goal.loop-message-preserved
-loop-message-preserved g c =
-    let i = c.loop-message.invariant in
-    let m = c.in-Some.message in
-    let put = c.in_default.ensures.put in
-    let told = tells_more g.J.LogId.capacity c.loop-message.yielded [] (m ∷ []) [] c.loop-message.pass c.send.new.pass i.0 put in
-    (told.0, told.1 ∙ i.1)
+pub returns-in-Ok-clause-sent : goal.returns-in-Ok-clause-sent
+returns-in-Ok-clause-sent g c = tells_longer c.args.messages.items [] c.in-Ok.sender c.learn.new.self c.in-Ok.ensures.sent c.learn.ensures.this (search rules)

@@ -1,6 +1,6 @@
 use Rattle.std.proofs.Common.{◌≡◌, []}
 use Rattle.kanal_exchange.specs.Tales.{HasExchanged}
-use Rattle.kanal_exchange.proofs.tasks.send_each.Given as goal
+use Rattle.kanal_exchange.proofs.exchange.send_each.Given as goal
 
 -- the messages so far were sent, and the share stays
 abbrev pub invariant-loop-message : goal.invariant-loop-message

@@ -1,7 +1,7 @@
 use Rattle.std.proofs.Common.{rules, ◌≡◌, [], ◌∷◌, ◌++◌, ap, arith, length, length-append, refl, sym, subst, ◌∙◌}
 use Rattle.kanal_exchange.specs.Tales.{HasExchanged}
 use Rattle.kanal_exchange.proofs.Telling.{tells_none, tells_more}
-use Rattle.kanal_exchange.proofs.tasks.receive_each.Goals as goal
+use Rattle.kanal_exchange.proofs.exchange.receive_each.Goals as goal
 
 pub loop-number-init : goal.loop-number-init
 loop-number-init g c =

@@ -1,6 +1,6 @@
 use Rattle.std.proofs.Common.{[], ◌∷◌, refl, ◌∙◌}
 use Rattle.kanal_exchange.proofs.Telling.{tells_none, tells_more}
-use Rattle.kanal_exchange.proofs.tasks.send_each.Goals as goal
+use Rattle.kanal_exchange.proofs.exchange.send_each.Goals as goal
 
 pub loop-message-init : goal.loop-message-init
 loop-message-init g c = (tells_none c.args.pass c.requires.fresh, refl)

@@ -1,6 +1,6 @@
 use Rattle.std.proofs.Common.{◌≡◌, [], length}
 use Rattle.kanal_exchange.specs.Tales.{HasExchanged}
-use Rattle.kanal_exchange.proofs.exchange.receive_all.Given as goal
+use Rattle.kanal_exchange.proofs.exchange.receive_each.Given as goal
 
 -- so many messages were received so far, and the share stays
 abbrev pub invariant-loop-number : goal.invariant-loop-number

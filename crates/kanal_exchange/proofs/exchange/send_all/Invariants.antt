@@ -1,7 +1,0 @@
-use Rattle.std.proofs.Common.{◌≡◌, []}
-use Rattle.kanal_exchange.specs.Tales.{HasExchanged}
-use Rattle.kanal_exchange.proofs.exchange.send_all.Given as goal
-
--- the messages so far were sent, and the share stays
-abbrev pub invariant-loop-message : goal.invariant-loop-message
-invariant-loop-message g l = HasExchanged l.yielded [] l.pass × (l.pass.share ≡ l.fn.pass.share)

@@ -1,6 +1,0 @@
-use Rattle.std.proofs.Common.{rules, []}
-use Rattle.kanal_exchange.proofs.Telling.{tells_longer}
-use Rattle.kanal_exchange.proofs.tasks.send_all_in_task.Goals as goal
-
-pub returns-in-Ok-clause-sent : goal.returns-in-Ok-clause-sent
-returns-in-Ok-clause-sent g c = tells_longer c.args.messages.items [] c.in-Ok.sender c.learn.new.self c.in-Ok.ensures.sent c.learn.ensures.this (search rules)

@@ -1,22 +1,7 @@
 -- What three passes tell together: two that put, and one that got.
-use Rattle.std.proofs.Common.{◌≡◌, ◌+◌, ℕ, suc, Bool, true, false, cond, List, [], ◌∷◌, ◌++◌, length, map, filter, take, sum_by, Option, Some, refl, sym, ap, ◌∙◌, subst, ⊎_elim, inl, inr, arith}
-use mathlib.Core.List.{IsPrefix}
-use Rattle.std.proofs.Math.Seq.{take-length}
-use Rattle.std.proofs.lemmas.Bool.{cases_Bool}
-use Rattle.kanal_log.specs.Views.{Known, IsAmong, AreDisjoint, OwnsAllBut}
-use Rattle.kanal_log.proofs.Places.{among-cases, among-left, among-right}
-use Rattle.kanal_journal.specs.Paired.{PairedHistory, Demand, sent, asked, cleared_by, kept, receipts, receipts_from, send_stays, demand_stays, without_last, ArePaired, Paired}
-use Rattle.kanal_state.specs.declared.call.Call.{Call}
-use Rattle.kanal_state.specs.Calls.{MovesNoMessage}
-use Rattle.kanal_one_history.specs.Calls.{IsLegal, history_of}
-use Rattle.kanal_one_history.specs.Puts.{ExchangesNothing, WaitsAsSettled}
-use Rattle.kanal_one_history.proofs.Exchanging.{got_longer, got_none, got_received, put_kept, put_longer, put_none}
-use Rattle.kanal_one_history.proofs.Pairing.{legal-paired}
-use Rattle.kanal_one_history.proofs.Waits.{waits_as_settled}
+use Rattle.kanal_exchange.proofs.Common.{◌≡◌, ◌+◌, ℕ, suc, Bool, true, false, cond, List, [], ◌∷◌, ◌++◌, length, map, filter, take, sum_by, Option, Some, refl, sym, ap, ◌∙◌, subst, ⊎_elim, inl, inr, arith, IsPrefix, take-length, cases_Bool, Known, IsAmong, AreDisjoint, OwnsAllBut, among-cases, among-left, among-right, PairedHistory, Demand, sent, asked, cleared_by, kept, receipts, receipts_from, send_stays, demand_stays, without_last, ArePaired, Paired, Call, MovesNoMessage, IsLegal, history_of, ExchangesNothing, WaitsAsSettled, got_longer, got_none, got_received, put_kept, put_longer, put_none, legal-paired, waits_as_settled, is_among, read_at, sent_in, asked_in, cleared_in, HasExchanged}
 use Rattle.kanal_exchange.specs.Merges.{IsMerge, Neither, First, Second}
-use Rattle.kanal_exchange.specs.Readings.{is_among, read_at}
-use Rattle.kanal_exchange.specs.Tales.{sent_in, asked_in, cleared_in, HasExchanged}
-use Rattle.kanal_exchange.proofs.Places.{AreCovered, at-false, at-true, covered-more, read_all, read-longer}
+use Rattle.kanal_exchange.proofs.Places.{AreCovered, at-false, at-true, covered-more, left-nil, read_all, read-longer, right-nil}
 use Rattle.kanal_exchange.proofs.Telling.{all-taken, along-calls, cleared-calls, cleared-none, owned_covered, paired-take}
 
 module _ {X : Type 0} where
@@ -98,14 +83,6 @@ module _ {E X : Type 0} (f : E → List X) where
       (subst (λ (us : List X). IsMerge (read_all f xs) (read_at f one (suc n) xs) (us ++ read_at f two (suc n) xs)) (sym (nil-either (is_among n two))) r)))
       all.0
     where
-      left-nil : (us bs : List X) → us ++ bs ≡ [] → us ≡ []
-      left-nil [] bs e = refl
-      left-nil (a ∷ us) bs e = absurd (cc)
-
-      right-nil : (us bs : List X) → us ++ bs ≡ [] → bs ≡ []
-      right-nil [] bs e = e
-      right-nil (a ∷ us) bs e = absurd (cc)
-
       nil-either : (b : Bool) → ◌≡◌ {A = List X} (cond b [] []) []
       nil-either true = refl
       nil-either false = refl

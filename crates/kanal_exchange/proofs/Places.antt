@@ -1,12 +1,16 @@
 -- Reading a history at places.
-use Rattle.std.proofs.Common.{◌≡◌, ◌+◌, ◌<◌, ◌≤◌, ◌==◌, ◌⊎◌, ℕ, suc, Bool, true, false, cond, List, [], ◌∷◌, ◌++◌, length, HoldsAt, refl, sym, ap, ◌∙◌, subst, ⊎_elim, inl, inr, arith, append_assoc}
+use Rattle.kanal_exchange.proofs.Common.{◌≡◌, ◌+◌, ◌<◌, ◌≤◌, ◌==◌, ◌⊎◌, ℕ, suc, Bool, true, false, cond, List, [], ◌∷◌, ◌++◌, length, HoldsAt, refl, sym, ap, ◌∙◌, subst, ⊎_elim, inl, inr, arith, append_assoc, cases_Bool, IsPrefix, IsAmong, AreDisjoint, AreBelow, among-cases, among-left, among-right, is_among, read_at}
 use Rattle.std.proofs.lemmas.List.{append-nil}
-use Rattle.std.proofs.lemmas.Bool.{cases_Bool}
 use Rattle.std.proofs.lemmas.Bool.Decides.{Decides-eqb}
-use mathlib.Core.List.{IsPrefix}
-use Rattle.kanal_log.specs.Views.{IsAmong, AreDisjoint, AreBelow}
-use Rattle.kanal_log.proofs.Places.{among-cases, among-left, among-right}
-use Rattle.kanal_exchange.specs.Readings.{is_among, read_at}
+
+-- two lists that are nothing together are nothing
+pub left-nil : {X : Type 0} (us bs : List X) → us ++ bs ≡ [] → us ≡ []
+left-nil [] bs e = refl
+left-nil (a ∷ us) bs e = absurd (cc)
+
+pub right-nil : {X : Type 0} (us bs : List X) → us ++ bs ≡ [] → bs ≡ []
+right-nil [] bs e = e
+right-nil (a ∷ us) bs e = absurd (cc)
 
 -- what f reads from all entries, in order
 abbrev pub read_all : {E X : Type 0} → (E → List X) → List E → List X
@@ -96,14 +100,6 @@ module _ {E X : Type 0} (f : E → List X) where
       all.0 in
       ap (λ zs. zs ++ read_all f xs) head ∙ ap (λ zs. cond (is_among n mine) (f x) [] ++ zs) r
     where
-      left-nil : (us bs : List X) → us ++ bs ≡ [] → us ≡ []
-      left-nil [] bs e = refl
-      left-nil (a ∷ us) bs e = absurd (cc)
-
-      right-nil : (us bs : List X) → us ++ bs ≡ [] → bs ≡ []
-      right-nil [] bs e = e
-      right-nil (a ∷ us) bs e = absurd (cc)
-
       still : (b : Bool) (us : List X) → us ≡ [] → us ≡ cond b us []
       still true us e = refl
       still false us e = e

@@ -1,9 +1,5 @@
 -- How the tale of a stage goes on, and what the passes of a channel between two stages tell together.
-use Rattle.std.proofs.Common.{◌≡◌, ◌+◌, ℕ, List, [], ◌∷◌, ◌++◌, length, map, take, Option, refl, sym, ap, ◌∙◌, subst, arith, length-append}
-use Rattle.kanal_log.specs.Views.{Known}
-use Rattle.kanal_state.specs.declared.call.Call.{Call}
-use Rattle.kanal_exchange.specs.Stages.{Handed, StagesMade, Staged}
-use Rattle.kanal_exchange.specs.Tales.{HasExchanged}
+use Rattle.kanal_exchange.proofs.Common.{◌≡◌, ◌+◌, ℕ, List, [], ◌∷◌, ◌++◌, length, map, take, Option, refl, sym, ap, ◌∙◌, subst, arith, length-append, Known, Call, Handed, StagesMade, Staged, HasExchanged}
 use Rattle.kanal_exchange.proofs.Telling.{tells_none, tells_more, took-all}
 
 map-more : {A B : Type 0} (f : A → B) (xs : List A) (x : A) → map f (xs ++ x ∷ []) ≡ map f xs ++ f x ∷ []

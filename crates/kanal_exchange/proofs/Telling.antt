@@ -1,29 +1,15 @@
 -- How a pass's tale goes on, and what two passes with all shares tell together.
-use Rattle.std.proofs.Common.{◌≡◌, ◌+◌, ◌-◌, ◌⊎◌, ℕ, zero, suc, HoldsAt, List, [], ◌∷◌, ◌++◌, length, map, filter, take, sum_by, Option, Some, refl, sym, ap, ◌∙◌, subst, ⊎_elim, inl, inr, arith, append-nil, append_assoc, length-append}
-use mathlib.Core.List.{IsPrefix}
+use Rattle.kanal_exchange.proofs.Common.{◌≡◌, ◌+◌, ◌-◌, ◌⊎◌, ℕ, zero, suc, HoldsAt, List, [], ◌∷◌, ◌++◌, length, map, filter, take, sum_by, Option, Some, refl, sym, ap, ◌∙◌, subst, ⊎_elim, inl, inr, arith, append-nil, append_assoc, length-append, IsPrefix, take-length, Known, IsAmong, AreDisjoint, AreBelow, OwnsAllBut, prefix_length, prefix_trans, PairedHistory, Demand, history_from, along, sent, asked, cleared_by, kept, receipts, receipts_from, send_stays, demand_stays, without_last, ArePaired, Paired, Call, MovesNoMessage, AreTold, IsLegal, with_calls, history_of, AreGot, ArePut, Exchanges, ExchangesNothing, HasMade, WaitsAsSettled, got_longer, got_more, got_none, got_received, put_kept, put_longer, put_more, put_none, legal-paired, waits_as_settled, read_at, marks_of, sent_in, asked_in, cleared_in, HasExchanged}
 use Rattle.std.proofs.lemmas.Option.{none-some}
-use Rattle.std.proofs.Math.Seq.{take-length}
 use Rattle.std.proofs.lemmas.List.Sums.{sum_by-append}
-use Rattle.kanal_log.specs.Views.{Known, IsAmong, AreDisjoint, AreBelow, OwnsAllBut}
-use Rattle.kanal_log.proofs.Readers.{prefix_length, prefix_trans}
 use Rattle.kanal_core.specs.Line.{Line}
 use Rattle.kanal_events.specs.Steps.{step}
 use Rattle.kanal_journal.specs.Runs.{numbered, opening_line}
 use Rattle.kanal_events.specs.declared.event.Event.{Event}
 use Rattle.kanal_events.specs.declared.event.Reply.{Reply}
 use Rattle.kanal_journal.specs.declared.journal.report.Settlement.{Settlement}
-use Rattle.kanal_journal.specs.Paired.{PairedHistory, Demand, history_from, along, sent, asked, cleared_by, kept, receipts, receipts_from, send_stays, demand_stays, without_last, ArePaired, Paired}
-use Rattle.kanal_state.specs.declared.call.Call.{Call}
-use Rattle.kanal_state.specs.Calls.{MovesNoMessage}
-use Rattle.kanal_one_history.specs.Calls.{AreTold, IsLegal, with_calls, history_of}
 use Rattle.kanal_one_history.specs.History.{Appends}
-use Rattle.kanal_one_history.specs.Puts.{AreGot, ArePut, Exchanges, ExchangesNothing, HasMade, WaitsAsSettled}
-use Rattle.kanal_one_history.proofs.Exchanging.{got_longer, got_more, got_none, got_received, put_kept, put_longer, put_more, put_none}
-use Rattle.kanal_one_history.proofs.Pairing.{legal-paired}
 use Rattle.kanal_one_history.proofs.NoMessage.{exchanges_nothing}
-use Rattle.kanal_one_history.proofs.Waits.{waits_as_settled}
-use Rattle.kanal_exchange.specs.Readings.{read_at}
-use Rattle.kanal_exchange.specs.Tales.{marks_of, sent_in, asked_in, cleared_in, HasExchanged}
 use Rattle.kanal_exchange.proofs.Places.{AreCovered, among-swap, covered-all, covered-more, read_all, read-behind, read-longer, read-call, read-whole}
 
 module _ {T : Type 0} where

@@ -1,8 +1,4 @@
-use Rattle.std.proofs.Common.{◌≡◌, ◌++◌, ap, ◌∙◌, subst}
-use mathlib.Core.List.{IsPrefix}
-use Rattle.kanal_log.specs.Views.{Known, OwnsAllBut}
-use Rattle.kanal_state.specs.declared.call.Call.{Call}
-use Rattle.kanal_state.specs.Calls.{MovesNoMessage}
+use Rattle.kanal_exchange.proofs.Common.{◌≡◌, ◌++◌, ap, ◌∙◌, subst, IsPrefix, Known, OwnsAllBut, Call, MovesNoMessage}
 use Rattle.kanal_exchange.proofs.Telling.{exchanged}
 use Rattle.kanal_exchange.proofs.exchange.overseen.Goals as goal
 

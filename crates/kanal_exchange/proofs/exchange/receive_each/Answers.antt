@@ -1,5 +1,4 @@
-use Rattle.std.proofs.Common.{rules, ◌≡◌, [], ◌∷◌, ◌++◌, ap, arith, length, length-append, refl, sym, subst, ◌∙◌}
-use Rattle.kanal_exchange.specs.Tales.{HasExchanged}
+use Rattle.kanal_exchange.proofs.Common.{rules, ◌≡◌, [], ◌∷◌, ◌++◌, ap, arith, length, length-append, refl, sym, subst, ◌∙◌, HasExchanged}
 use Rattle.kanal_exchange.proofs.Telling.{tells_none, tells_more}
 use Rattle.kanal_exchange.proofs.exchange.receive_each.Goals as goal
 

@@ -1,5 +1,4 @@
-use Rattle.std.proofs.Common.{◌≡◌, [], length}
-use Rattle.kanal_exchange.specs.Tales.{HasExchanged}
+use Rattle.kanal_exchange.proofs.Common.{◌≡◌, [], length, HasExchanged}
 use Rattle.kanal_exchange.proofs.exchange.receive_each.Given as goal
 
 -- so many messages were received so far, and the share stays

@@ -1,5 +1,4 @@
-use Rattle.std.proofs.Common.{◌≡◌, []}
-use Rattle.kanal_exchange.specs.Tales.{HasExchanged}
+use Rattle.kanal_exchange.proofs.Common.{◌≡◌, [], HasExchanged}
 use Rattle.kanal_exchange.proofs.exchange.send_each.Given as goal
 
 -- the messages so far were sent, and the share stays

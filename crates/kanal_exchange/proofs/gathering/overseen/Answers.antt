@@ -1,9 +1,4 @@
-use Rattle.std.proofs.Common.{◌≡◌, ◌++◌, ap, ◌∙◌, subst}
-use mathlib.Core.List.{IsPrefix}
-use Rattle.kanal_log.specs.Views.{AreDisjoint, Known, OwnsAllBut}
-use Rattle.kanal_log.proofs.Readers.{prefix_trans}
-use Rattle.kanal_state.specs.declared.call.Call.{Call}
-use Rattle.kanal_state.specs.Calls.{MovesNoMessage}
+use Rattle.kanal_exchange.proofs.Common.{◌≡◌, ◌++◌, ap, ◌∙◌, subst, IsPrefix, AreDisjoint, Known, OwnsAllBut, prefix_trans, Call, MovesNoMessage}
 use Rattle.kanal_exchange.proofs.Merging.{merged}
 use Rattle.kanal_exchange.proofs.gathering.overseen.Goals as goal
 

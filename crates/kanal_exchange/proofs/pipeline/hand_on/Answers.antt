@@ -1,5 +1,4 @@
-use Rattle.std.proofs.Common.{rules, ◌≡◌, [], ◌∷◌, subst}
-use Rattle.kanal_one_history.specs.Puts.{Exchanges}
+use Rattle.kanal_exchange.proofs.Common.{rules, ◌≡◌, [], ◌∷◌, subst, Exchanges}
 use Rattle.kanal_exchange.proofs.pipeline.hand_on.Goals as goal
 
 pub returns : goal.returns

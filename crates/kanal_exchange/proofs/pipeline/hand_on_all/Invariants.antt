@@ -1,5 +1,4 @@
-use Rattle.std.proofs.Common.{◌≡◌}
-use Rattle.kanal_exchange.specs.Stages.{Staged}
+use Rattle.kanal_exchange.proofs.Common.{◌≡◌, Staged}
 use Rattle.kanal_exchange.proofs.pipeline.hand_on_all.Given as goal
 
 -- so many were handed on so far, and the shares stay

@@ -1,5 +1,4 @@
-use Rattle.std.proofs.Common.{◌∙◌}
-use Rattle.kanal_exchange.specs.Stages.{by_two}
+use Rattle.kanal_exchange.proofs.Common.{◌∙◌, by_two}
 use Rattle.kanal_exchange.proofs.Staging.{made_all}
 use Rattle.kanal_exchange.proofs.pipeline.mapped_by_two_on.Goals as goal
 

@@ -46,6 +46,33 @@ fn handles_are_converted_and_cloned(rt: HostRuntime) {
 }
 
 #[test]
+fn clones_of_a_closed_channel_are_not_counted(rt: HostRuntime) {
+    let (sender, receiver) = ends::<u64>(&rt, 0);
+    equal(&rt, sender.close(&rt), Ok(()));
+    let sender = sender.clone(&rt).expect(&rt, "a clone");
+    let receiver = receiver.clone(&rt).expect(&rt, "a clone");
+    equal(
+        &rt,
+        [sender.sender_count(&rt), receiver.receiver_count(&rt)],
+        [0, 0],
+    );
+    let sender = sender.clone_sync(&rt).expect(&rt, "a clone");
+    let receiver = receiver.clone_sync(&rt).expect(&rt, "a clone");
+    equal(
+        &rt,
+        [sender.sender_count(&rt), receiver.receiver_count(&rt)],
+        [0, 0],
+    );
+    let sender = sender.clone(&rt).expect(&rt, "a clone");
+    let receiver = receiver.clone(&rt).expect(&rt, "a clone");
+    equal(
+        &rt,
+        [sender.sender_count(&rt), receiver.receiver_count(&rt)],
+        [0, 0],
+    );
+}
+
+#[test]
 fn a_thread_and_a_task_use_one_channel(rt: HostRuntime) {
     let (sender, receiver) = sync_ends::<u64>(&rt, 2);
     equal(&rt, sender.send(&rt, 1), Ok(()));

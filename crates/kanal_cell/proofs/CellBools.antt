@@ -1,4 +1,5 @@
 -- Facts about Bools, by trying all values, and about the bits of a word.
+pub use Rattle.std.specs.Cmp.{first_so as and_left, second_so as and_right}
 use Rattle.kanal_cell.proofs.Common.{◌≡◌, Bool, true, false, not, ◌&&◌, ◌||◌, cond, true≢false, refl, sym, ap, subst, Bits, implies, is_within}
 
 abbrev pub iff : Bool → Bool → Bool
@@ -6,14 +7,6 @@ iff a b = cond a b (not b)
 
 abbrev pub all : (Bool → Bool) → Bool
 all f = f true && f false
-
-pub and_left : (a b : Bool) → a && b ≡ true → a ≡ true
-and_left true b e = refl
-and_left false b e = e
-
-pub and_right : (a b : Bool) → a && b ≡ true → b ≡ true
-and_right true b e = e
-and_right false b e = absurd (true≢false (sym e))
 
 pub both : (a b : Bool) → a ≡ true → b ≡ true → a && b ≡ true
 both a b e f = subst (λ x. x && b ≡ true) (sym e) f

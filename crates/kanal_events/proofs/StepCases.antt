@@ -1,4 +1,4 @@
--- The cases of a step: every law of the line goes through them, and no other proof walks the definition of `step`.
+-- The cases of a step, as a type: a law has a clause a case, and the cases that it doesn't tell apart share one.
 use Rattle.kanal_events.proofs.Common.{◌≡◌, ℕ, ◌-◌, Bool, true, false, eqb, ◌==◌, ◌&&◌, List, [], ◌∷◌, ◌++◌, length, Option, Some, None, refl, sym, subst, inl, inr, cases_Bool, eqb-true, eqb-false, Reason, LineEntry, Line, bare, last_word, messages, has, has_place, found, last_count, raised, serve, enter, leave, drain, end_all, close, cleared, wait_send, wait_recv, without_entry, without_demand, seal, Event, Send, TrySend, Recv, RecvLate, TryRecv, Drain, Withdraw, CloneTx, CloneRx, DropTx, DropRx, Seal, Close, Asks, Terminated, Sent, Waits, Yes, No, Got, Nothing, Drained, Withdrawn, Done, Cleared, Number, Flag, Refused, StepSpec, only, moving, offer, take, take_front, nothing_there, wait, withdraw, seal_line, shut, take_line, cloned, answer, message_of, step, refused, is_no_memory}
 use Rattle.kanal_core.specs.declared.internal.outcome.Reason.TheVariants.{SendClosed as NoSendersLeft, ReceiveClosed as NoReceiversLeft}
 use Rattle.kanal_events.specs.declared.event.Side.{Side}

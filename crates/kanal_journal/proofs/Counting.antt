@@ -168,34 +168,13 @@ module _ {T : Type 0} where
       case-counts below (Enters e m r s some_receiver some_sender place) = entered e m r (send-read s).2
       case-counts below (TakesFront e x xs r some_receiver is) = front e x xs (Got x.message) (recv-read r x.message).2 is
       case-counts below (SendWaits m some_receiver some_sender full) =
-          record {
-            settled =
-                omega (
-                  arith,
-                  waits-weigh l,
-                  waits-weigh (wait_send l m),
-                  ap (weigh g) (tickets-append l.line (waiting m l.next ∷ [])),
-                  weigh-append g (tickets l.line) (l.next ∷ []),
-                  upto-next g l.next,
-                );
-            left = omega (arith, length-append l.line (waiting m l.next ∷ []));
-          }
+          record { settled = omega (arith, waits-weigh l, waits-weigh (wait_send l m), ap (weigh g) (tickets-append l.line (waiting m l.next ∷ [])), weigh-append g (tickets l.line) (l.next ∷ []), upto-next g l.next); left = omega (arith, length-append l.line (waiting m l.next ∷ [])) }
       case-counts below (RecvWaits some_receiver some_sender empty) =
           record { settled = omega (arith, waits-weigh l, waits-weigh (wait_recv l), weigh-append g l.demands (l.next ∷ []), upto-next g l.next); left = omega arith }
       case-counts below (WithdrawsDemand t there) =
           record { settled = omega (arith, waits-weigh l, waits-weigh (without_demand l t), without-one g t l.demands there); left = omega arith }
       case-counts below (WithdrawsEntry t m ms is) =
-          record {
-            settled =
-                omega (
-                  arith,
-                  waits-weigh l,
-                  weigh-append g (tickets (filter (λ e. not (holds_ticket t e)) l.line)) l.demands,
-                  ap (weigh g) (tickets-without t l.line),
-                  without-one g t (tickets l.line) (found-some t l.line m ms is),
-                );
-            left = omega (arith, fewer (λ e. not (holds_ticket t e)) l.line);
-          }
+          record { settled = omega (arith, waits-weigh l, weigh-append g (tickets (filter (λ e. not (holds_ticket t e)) l.line)) l.demands, ap (weigh g) (tickets-without t l.line), without-one g t (tickets l.line) (found-some t l.line m ms is)); left = omega (arith, fewer (λ e. not (holds_ticket t e)) l.line) }
       case-counts below (Drains some_receiver) =
           record { settled = omega (arith, waits-weigh l, ap (weigh g) (taken-tickets T (tickets l.line))); left = omega (arith, length-map l.line (λ e. e.message)) }
       case-counts below (Recounts e senders receivers c) = quiet e (only (record l { senders = senders; receivers = receivers }) Done) (count-plain c).2 refl refl refl (omega arith)

@@ -1,16 +1,9 @@
 -- Cutting a line into words.
 use Rattle.kanal_script.proofs.Common.{◌≡◌, ◌≢◌, ℕ, ◌<◌, ◌+◌, ◌⊎◌, ◌^◌, zero, suc, decimal, codes, nat_lt, ◌&&◌, Option, Some, None, IsSome, IsNone, Bool, true, false, true≢false, List, [], ◌∷◌, ◌++◌, length, take, drop, get_or, refl, sym, ap, ◌∙◌, subst, inl, inr, append_assoc, append-nil, add-one, drop-cons, arith, ne_eqb, take_more, drop_all, ltb-true, digit_from_value, decimal_is_IsNumeral, IsAscii, IsUtf8, AllDigits, capacity_words, is_separator, word_of, after_word, IsWord, EndsWord, FitsWord, limit_word}
+use Rattle.std.specs.Cmp.{first_so, second_so}
 use Rattle.std.specs.List.{list_all}
 use Rattle.std.proofs.lemmas.Str.{IsUtf8-from_ascii}
 use Rattle.std.proofs.lemmas.Str.Ascii.{IsAscii-nil}
-
-and_left : (a b : Bool) → a && b ≡ true → a ≡ true
-and_left true b e = refl
-and_left false b e = e
-
-and_right : (a b : Bool) → a && b ≡ true → b ≡ true
-and_right true b e = e
-and_right false b e = absurd (true≢false (sym e))
 
 -- the list from a place on: what stands there, and the rest
 at_place : (bytes : List ℕ) (i : ℕ) → i < length bytes → drop i bytes ≡ get_or bytes i 0 ∷ drop (i + 1) bytes
@@ -108,10 +101,10 @@ some_of (Some x) n = refl
 pub letters : (w : List ℕ) → list_all (λ b. nat_lt 32 b && nat_lt b 128) w ≡ true → IsWord w
 letters [] all = tt
 letters (b ∷ bs) all =
-    let here = and_left (nat_lt 32 b && nat_lt b 128) (list_all (λ b. nat_lt 32 b && nat_lt b 128) bs) all in
-    let low = ltb-true 32 b (and_left (nat_lt 32 b) (nat_lt b 128) here) in
-    let high = ltb-true b 128 (and_right (nat_lt 32 b) (nat_lt b 128) here) in
-    (high, (λ e. omega (arith, low, e)), (λ e. omega (arith, low, e)), letters bs (and_right (nat_lt 32 b && nat_lt b 128) (list_all (λ b. nat_lt 32 b && nat_lt b 128) bs) all))
+    let here = first_so (nat_lt 32 b && nat_lt b 128) (list_all (λ b. nat_lt 32 b && nat_lt b 128) bs) all in
+    let low = ltb-true 32 b (first_so (nat_lt 32 b) (nat_lt b 128) here) in
+    let high = ltb-true b 128 (second_so (nat_lt 32 b) (nat_lt b 128) here) in
+    (high, (λ e. omega (arith, low, e)), (λ e. omega (arith, low, e)), letters bs (second_so (nat_lt 32 b && nat_lt b 128) (list_all (λ b. nat_lt 32 b && nat_lt b 128) bs) all))
 
 -- the words of a capacity's line
 pub cap_word : IsWord (codes "cap")

@@ -39,6 +39,7 @@ impl<E: LogEntry> NewLog<E> {
     ghost use Rattle.kanal_log.specs.Logs.{table_of};
 
     /// A log on which nothing is written.
+    /// Example: `let opened = NewLog::new(alloc)?`; then `let (log, writer, reader) = opened.named::<J>()`.
     ///
     /// # Errors
     /// `AllocError` where there is no memory for its one word.

@@ -2,74 +2,67 @@
 //! them.
 use crate::tests::given::{ends as sync_ends, equal};
 use crate::tests::tasks::given::{ends, receive_in_task, send_in_task};
+use std::alloc::AllocGlobal;
+use std::process::Abort;
+use std::sync::Wait;
 
-/// Clones a handle for threads as one for tasks, converts it, and drops the clone; what is counted
-/// after each step, and last by the view of what the handle has become.
-macro_rules! counts_to_async {
-    ($rt:expr, $handle:ident, $count:ident) => {{
-        let other = $handle.clone_async($rt).expect($rt, "a clone");
-        let cloned = $handle.$count($rt);
-        let converted = $handle.to_async();
-        let kept = converted.$count($rt);
-        drop(other);
-        let left = converted.$count($rt);
-        [cloned, kept, left, converted.as_sync().$count($rt)]
-    }};
-}
-
-/// Clones a handle for tasks as one for threads and as one for tasks, converts it, and drops both
-/// clones; what is counted after each step, by each clone and by the view.
-macro_rules! counts_to_sync {
-    ($rt:expr, $handle:ident, $count:ident) => {{
-        let other = $handle.clone_sync($rt).expect($rt, "a clone");
+/// Clones a handle as one of the other kind and as one of its own, converts it, and drops both clones; what is
+/// counted after each step, and last by the view of what the handle has become.
+macro_rules! counts {
+    ($rt:expr, $handle:ident, $count:ident, $clone:ident, $convert:ident, $view:ident) => {{
+        let other = $handle.$clone($rt).expect($rt, "a clone");
         let cloned = other.$count($rt);
         let another = $handle.clone($rt).expect($rt, "a clone");
         let cloned_again = another.$count($rt);
-        let converted = $handle.to_sync();
+        let converted = $handle.$convert();
         let kept = converted.$count($rt);
         drop(other);
         drop(another);
-        [cloned, cloned_again, kept, converted.as_async().$count($rt)]
+        [cloned, cloned_again, kept, converted.$view().$count($rt)]
     }};
+}
+
+/// What is counted of each of the four handles, of a channel that is open or closed.
+fn counts_of(rt: &(impl Abort + AllocGlobal + Wait), closed: bool) -> [[u32; 4]; 4] {
+    let (sender, receiver) = sync_ends::<u64>(rt, 0);
+    let (async_sender, async_receiver) = ends::<u64>(rt, 0);
+    if closed {
+        equal(
+            rt,
+            (sender.close(rt), async_sender.close(rt)),
+            (Ok(()), Ok(())),
+        );
+    }
+    [
+        counts!(rt, sender, sender_count, clone_async, to_async, as_sync),
+        counts!(rt, receiver, receiver_count, clone_async, to_async, as_sync),
+        counts!(
+            rt,
+            async_sender,
+            sender_count,
+            clone_sync,
+            to_sync,
+            as_async
+        ),
+        counts!(
+            rt,
+            async_receiver,
+            receiver_count,
+            clone_sync,
+            to_sync,
+            as_async
+        ),
+    ]
 }
 
 #[test]
 fn handles_are_converted_and_cloned(rt: HostRuntime) {
-    let (sender, receiver) = sync_ends::<u64>(&rt, 1);
-    let senders = counts_to_async!(&rt, sender, sender_count);
-    let receivers = counts_to_async!(&rt, receiver, receiver_count);
-    equal(&rt, [senders, receivers], [[2, 2, 1, 1], [2, 2, 1, 1]]);
-    let (sender, receiver) = ends::<u64>(&rt, 1);
-    let senders = counts_to_sync!(&rt, sender, sender_count);
-    let receivers = counts_to_sync!(&rt, receiver, receiver_count);
-    equal(&rt, [senders, receivers], [[2, 3, 3, 1], [2, 3, 3, 1]]);
+    equal(&rt, counts_of(&rt, false), [[2, 3, 3, 1]; 4]);
 }
 
 #[test]
 fn clones_of_a_closed_channel_are_not_counted(rt: HostRuntime) {
-    let (sender, receiver) = ends::<u64>(&rt, 0);
-    equal(&rt, sender.close(&rt), Ok(()));
-    let sender = sender.clone(&rt).expect(&rt, "a clone");
-    let receiver = receiver.clone(&rt).expect(&rt, "a clone");
-    equal(
-        &rt,
-        [sender.sender_count(&rt), receiver.receiver_count(&rt)],
-        [0, 0],
-    );
-    let sender = sender.clone_sync(&rt).expect(&rt, "a clone");
-    let receiver = receiver.clone_sync(&rt).expect(&rt, "a clone");
-    equal(
-        &rt,
-        [sender.sender_count(&rt), receiver.receiver_count(&rt)],
-        [0, 0],
-    );
-    let sender = sender.clone(&rt).expect(&rt, "a clone");
-    let receiver = receiver.clone(&rt).expect(&rt, "a clone");
-    equal(
-        &rt,
-        [sender.sender_count(&rt), receiver.receiver_count(&rt)],
-        [0, 0],
-    );
+    equal(&rt, counts_of(&rt, true), [[0; 4]; 4]);
 }
 
 #[test]

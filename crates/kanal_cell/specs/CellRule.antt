@@ -59,6 +59,10 @@ HasNotLeft v = v.set.left ≡ false
 abbrev pub HasNotSettled : CellView → Type 0
 HasNotSettled v = v.set.ended ≡ false
 
+-- the end is still waited at: it has neither left nor had the outcome
+abbrev pub StillWaits : CellView → Type 0
+StillWaits v = HasNotLeft v × (v.had ≡ false)
+
 abbrev pub MaySleep : CellView → Type 0
 MaySleep v = HasNotLeft v × (v.set.sleeping ≡ false) × (v.had ≡ false)
 

@@ -32,7 +32,6 @@ const NAP: u64 = 1_000_000;
 #[derive(Drop)]
 enum Watch<P> {
     Awake(Awake<P>),
-    /// It does, or the outcome was there.
     Asleep(Asleep<P>),
 }
 
@@ -194,8 +193,9 @@ fn park<P: Drop, R: Wait>(rt: &R, asleep: Asleep<P>) -> P {
     let mut asleep = asleep;
     for _ in rt.forever() {
         asleep.park(rt);
-        if let Some(outcome) = asleep.poll() {
-            return outcome;
+        match asleep.poll() {
+            Ok(outcome) => return outcome,
+            Err(back) => asleep = back,
         }
     }
     unreachable!()
@@ -215,8 +215,9 @@ fn park_until<P: Drop, R: Wait + time::Clock, C: Clock>(
     let mut asleep = asleep;
     for _ in rt.forever() {
         let now = clock.now();
-        if let Some(outcome) = asleep.poll() {
-            return Ok(outcome);
+        match asleep.poll() {
+            Ok(outcome) => return Ok(outcome),
+            Err(back) => asleep = back,
         }
         if now >= deadline {
             return Err((asleep, now));

@@ -1,9 +1,9 @@
 //! The waiting end of a blocked call, before and after the cell knows that it sleeps.
 //!
 //! A call sleeps on the word of its cell, so it asks for no memory. The types keep that an end is polled only before
-//! it left, and put to sleep once.
+//! it left or had its outcome, so no outcome is thrown away, and that it is put to sleep once.
 ghost use Rattle.std.specs.Prelude.{◌≡◌};
-ghost use Rattle.kanal_cell.specs.CellRule.{HasNotLeft, MaySleep};
+ghost use Rattle.kanal_cell.specs.CellRule.{MaySleep, StillWaits};
 ghost use Rattle.kanal_cell.specs.CellEnds.{wait_view};
 
 use crate::signal::WaitEnd;
@@ -17,11 +17,11 @@ pub(super) struct Awake<P> {
     ghost unspent: { MaySleep (wait_view end) },
 }
 
-/// A waiting end whose cell may know that it sleeps.
+/// A waiting end whose cell knows that it sleeps, and that has not had its outcome.
 #[derive(Drop)]
 pub(super) struct Asleep<P> {
     end: WaitEnd<P>,
-    ghost unspent: { HasNotLeft (wait_view end) },
+    ghost unspent: { StillWaits (wait_view end) },
 }
 
 impl<P: Drop> Awake<P> {
@@ -55,8 +55,12 @@ impl<P: Drop> Awake<P> {
 }
 
 impl<P: Drop> Asleep<P> {
-    pub(super) fn poll(&mut self) -> Option<P> {
-        self.end.poll()
+    pub(super) fn poll(self) -> Result<P, Self> {
+        let Asleep { mut end } = self;
+        match end.poll() {
+            Some(outcome) => Ok(outcome),
+            None => Err(Asleep { end }),
+        }
     }
 
     /// Sleeps until the settle wakes it, or for no reason.

@@ -195,7 +195,7 @@ impl<T: Drop, H: History<T>> Shared<T, H> {
     {
         let _another = match counted.learn(&self.log, pass, delivered) {
             Ok(outcome) => return outcome,
-            Err(counted) => counted,
+            Err(another) => another,
         };
         for _ in rt.forever() {
             thread::yield_now();

@@ -142,6 +142,7 @@ impl<'a, T: Drop, H: History<T>, M: Drop, A: Operation<T, M>> TaskCall<'a, T, H,
         ensures pending { result ≡ Poll.Pending }
         ensures goes_on { call_begun self.new ≡ Some (pass, asked) }
         ensures registered { Covers cx.new (λ s. s ≡ call_source self.new) }
+        ensures woken { cx.new.is_woken ≡ true }
         ensures kept { Keeps cx.old cx.new }
         ensures source { call_source self.new ≡ call_source self.old }
     {

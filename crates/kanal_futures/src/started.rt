@@ -4,7 +4,7 @@
 //! let it go.
 ghost use Rattle.std.specs.Prelude.{◌≡◌, IfErr, IfOk, Some, true};
 ghost use Rattle.futures.specs.Task.{Covers, Keeps};
-ghost use Rattle.kanal_cell.specs.CellRule.{HasNotLeft, MaySleep};
+ghost use Rattle.kanal_cell.specs.CellRule.{MaySleep, StillWaits};
 ghost use Rattle.kanal_cell.specs.CellEnds.{wait_view};
 ghost use Rattle.kanal_events.specs.StepResult.{may_wait};
 ghost use Rattle.kanal_state.specs.Makes.{HasReplied, HasWaited};
@@ -17,9 +17,9 @@ use crate::wakers::Wakers;
 use futures::task::{Context, Poll};
 use kanal_cell::signal::WaitEnd;
 use kanal_channel::{Locked, Shared, StartedWait};
-use kanal_core::internal::{Outcome, Ticket};
+use kanal_core::internal::Outcome;
 use kanal_events::event::{Event, Reply};
-use kanal_state::{CountedWait, History, WaitResult};
+use kanal_state::{CountedWait, History, OtherResult, WaitResult};
 use std::marker::{Model, PhantomData};
 
 /// A call that was answered at once: what it began with, the pass, and the reply.
@@ -38,15 +38,20 @@ pub(crate) type SettledCall<T, H, M> = (
 
 /// A wait that was started, with the pass whose call it is. Contracts see what the pass was at first, and what
 /// was asked. Only `look` and `leave` let it go.
+///
+/// Invariant: the end has not left, and has had no outcome but another wait's. So no outcome is thrown away.
 pub(crate) struct Started<T, H: History<T>, M, A: Operation<T, M>> {
     opening: GhostStart<H::Pass, M>,
     pass: H::Pass,
     counted: CountedWait,
     end: WaitEnd<WaitResult<T, H>>,
+    /// A result came that was another wait's (never seen), so none comes any more.
+    other: Option<OtherResult>,
     asks: PhantomData<A>,
 }
 
 impl<T, H: History<T>, M, A: Operation<T, M>> Model for Started<T, H, M, A> {
+    ghost use Rattle.std.specs.Prelude.{◌≡◌, is_some};
     ghost use Rattle.kanal_cell.specs.CellRule.{HasNotLeft};
     ghost use Rattle.kanal_cell.specs.CellEnds.{wait_view};
     ghost use Rattle.kanal_state.specs.Waits.{IsWaiting};
@@ -55,7 +60,7 @@ impl<T, H: History<T>, M, A: Operation<T, M>> Model for Started<T, H, M, A> {
 
     ghost view = { λ s. (s.opening.pass.value, s.opening.asked.value) };
 
-    ghost invariant = { λ s. HasNotLeft (wait_view s.end)
+    ghost invariant = { λ s. HasNotLeft (wait_view s.end) × ((wait_view s.end).had ≡ is_some s.other)
         × IsWaiting H.relations s.opening.pass.value s.pass (A.event s.opening.asked.value) s.counted };
 }
 
@@ -66,7 +71,7 @@ impl<T: Drop, H: History<T>, M: Drop, A: Operation<T, M>> Started<T, H, M, A> {
         counted: CountedWait,
         end: WaitEnd<WaitResult<T, H>>,
     ) -> Self
-        requires unspent { HasNotLeft (wait_view end) }
+        requires unspent { StillWaits (wait_view end) }
         requires waits { IsWaiting H.relations opening.pass.value pass (A.event opening.asked.value) counted }
         ensures { result ≡ started_with opening }
     {
@@ -75,45 +80,8 @@ impl<T: Drop, H: History<T>, M: Drop, A: Operation<T, M>> Started<T, H, M, A> {
             pass,
             counted,
             end,
+            other: None,
             asks: PhantomData,
-        }
-    }
-
-    fn ticket(&self) -> Ticket {
-        self.counted.ticket()
-    }
-
-    fn poll(&mut self) -> Option<WaitResult<T, H>>
-        ensures same { self.new ≡ self.old }
-    {
-        self.end.poll()
-    }
-
-    /// Ends the call, or returns `self` if the ticket differs.
-    fn finish(self, log: &H::Log, delivered: WaitResult<T, H>) -> Result<SettledCall<T, H, M>, Self>
-        ensures begun { IfOk result (λ r. started_with r.0 ≡ self) }
-        ensures waited { IfOk result (λ r. HasWaited H.relations self.0 r.1 (A.event self.1) r.2) }
-        ensures lost { IfErr result (λ started. started ≡ self) }
-    {
-        let Started {
-            opening,
-            mut pass,
-            counted,
-            end,
-            asks,
-        } = self;
-        match counted.learn(log, &mut pass, delivered) {
-            Ok(outcome) => {
-                drop(end);
-                Ok((opening, pass, outcome))
-            },
-            Err(counted) => Err(Started {
-                opening,
-                pass,
-                counted,
-                end,
-                asks,
-            }),
         }
     }
 
@@ -132,18 +100,38 @@ impl<T: Drop, H: History<T>, M: Drop, A: Operation<T, M>> Started<T, H, M, A> {
         ensures kept { Keeps cx.old cx.new }
         ensures source { source_of wakers.new ≡ source_of wakers.old }
     {
-        let mut started = self;
-        let Some(delivered) = started.poll() else {
-            wakers.renew(shared, started.ticket(), cx);
-            return Err(started);
-        };
-        match started.finish(shared.log(), delivered) {
-            Ok(settled) => Ok(settled),
-            Err(started) => {
-                let _: Poll<()> = cx.yield_now();
-                Err(started)
+        let Started {
+            opening,
+            mut pass,
+            counted,
+            mut end,
+            other,
+            asks,
+        } = self;
+        let (counted, other) = match end.poll() {
+            Some(delivered) => match counted.learn(shared.log(), &mut pass, delivered) {
+                Ok(outcome) => {
+                    drop(end);
+                    return Ok((opening, pass, outcome));
+                },
+                Err((counted, other)) => {
+                    let _: Poll<()> = cx.yield_now();
+                    (counted, Some(other))
+                },
             },
-        }
+            None => {
+                wakers.renew(shared, counted.ticket(), cx);
+                (counted, other)
+            },
+        };
+        Err(Started {
+            opening,
+            pass,
+            counted,
+            end,
+            other,
+            asks,
+        })
     }
 
     /// Gives the wait up: an internal call withdraws it, or a notice is left. It never waits.
@@ -154,6 +142,7 @@ impl<T: Drop, H: History<T>, M: Drop, A: Operation<T, M>> Started<T, H, M, A> {
             pass,
             counted,
             mut end,
+            other: _,
             asks: _,
         } = self;
         match end.leave() {

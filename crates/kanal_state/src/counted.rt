@@ -126,6 +126,10 @@ pub struct CountedWait {
     stands: Stands,
 }
 
+/// That the result which came to a wait was another's. Only `CountedWait::learn` makes it.
+#[derive(Drop)]
+pub struct OtherResult(());
+
 impl Drop for CountedWait {
     fn drop(self)
         requires counted_out { waits self ≡ false }
@@ -220,20 +224,20 @@ impl CountedWait {
     /// The pass learns what became of the wait, which is counted out.
     ///
     /// # Errors
-    /// The wait, where that is another's: the pass has learnt nothing.
+    /// The wait, and that the result was another's: the pass has learnt nothing.
     pub fn learn<T: Drop, H: History<T>>(
         self,
         log: &H::Log,
         pass: &mut H::Pass,
         delivered: WaitResult<T, H>,
-    ) -> Result<Outcome<T>, Self>
+    ) -> Result<Outcome<T>, (Self, OtherResult)>
         ensures extends { IfOk result (λ _. H.relations.extends pass.old pass.new) }
         ensures settled { IfOk result (λ outcome.
             H.relations.saw_settled pass.new (number_of (ticket_of self), outcome)) }
-        ensures other { IfErr result (λ back. (back ≡ self) × (pass.new ≡ pass.old)) }
+        ensures other { IfErr result (λ back. (back.0 ≡ self) × (pass.new ≡ pass.old)) }
     {
         if let Some(counted) = self.told(&delivered) {
-            return Err(counted);
+            return Err((counted, OtherResult(())));
         }
         let (outcome, prefix) = delivered.into_parts();
         H::learn(log, pass, prefix);

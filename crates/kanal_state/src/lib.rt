@@ -20,6 +20,7 @@ pub use call::Call;
 pub use call_context::CallContext;
 pub use counted::{
     CountedHandle, CountedReceiver, CountedSender, CountedWait, FirstHandles, MustDrain, Notices,
+    OtherResult,
 };
 pub use history::History;
 pub use none::NoHistory;

@@ -5,7 +5,7 @@
 ghost use Rattle.std.specs.Prelude.{◌≡◌, ◌↔◌, ◌==◌, ◌++◌, true, false, not, None, Some, IsSome, IfErr, IfNone, IfOk, IfSome, OnOk};
 ghost use Rattle.std.specs.Vec.{vec_capacity, vec_len};
 ghost use Rattle.kanal_core.specs.Channel.{line_of};
-ghost use Rattle.kanal_core.specs.Line.{Line, last_word};
+ghost use Rattle.kanal_core.specs.Line.{Line, buffered, is_at, last_word};
 ghost use Rattle.kanal_core.specs.Tickets.{number_of};
 ghost use Rattle.kanal_core.specs.Waiters.{waiter_of, without};
 ghost use Rattle.kanal_events.specs.Leaving.{Leave, LeaveTried, gone_of};
@@ -282,13 +282,17 @@ impl<T: Drop, H: History<T>> State<T, H> {
 
     /// Whether the buffer has no place: always at capacity 0, and never without a limit.
     #[inline]
-    pub fn is_full(&self) -> bool {
+    pub fn is_full(&self) -> bool
+        ensures { result ≡ is_at (buffered self.now.1) self.now.1.capacity }
+    {
         self.core.is_full()
     }
 
     /// Whether no message is in the buffer, whoever waits.
     #[inline]
-    pub fn is_empty(&self) -> bool {
+    pub fn is_empty(&self) -> bool
+        ensures { result ≡ buffered self.now.1 == 0 }
+    {
         self.core.is_empty()
     }
 

@@ -1,5 +1,5 @@
 -- The calls that count a handle in or out.
-use Rattle.kanal_state.proofs.Common.{◌≡◌, ℕ, ◌==◌, true, [], Result, refl, ap, ◌∙◌, subst, inl, inr, cases_Bool, Line, add_receiver, add_sender, last_count, Event, Side, Tx, Rx, StepResult, reply_of, StepSpec, Tells, cloned, StepAppendPost, IsReplied, counted_by, HistoryRelations, one_more}
+use Rattle.kanal_state.proofs.Common.{◌≡◌, ℕ, ◌==◌, true, [], Result, refl, ap, ◌∙◌, subst, inl, inr, cases_Bool, Line, add_receiver, add_sender, last_count, Event, Side, Tx, Rx, StepResult, reply_of, StepSpec, Tells, cloned, StepAppendPost, IsReplied, counted_by, HistoryRelations, count_of, one_less, one_more}
 use Rattle.kanal_core.specs.declared.error.TooMany.{TooMany as NoMore}
 use Rattle.kanal_state.proofs.Settling.{free_replied, is_free, noted_answered}
 
@@ -31,3 +31,10 @@ module _ {T : Type 0} where
   more_counted w old new side event made answer is noted reads =
       let here : StepAppendPost w old new (one_more side) made = subst (λ e. StepAppendPost w old new e made) is noted in
       free_replied w old new (one_more side) counted_by answer (reply_of made) (noted_answered w old new (one_more side) made here) (more-is-free T side) reads
+
+  -- the last handle of a side leaves none of it
+  pub none_left : (l : Line T) (side : Side) (told : StepSpec T) → count_of side l ≡ 1 → Tells l (one_less side) told → count_of side told.line ≡ 0
+  none_left l Tx told one (inl was) = ap (λ (t : StepSpec T). t.line.senders) was ∙ rw one refl
+  none_left l Tx told one (inr m) = absurd m.0
+  none_left l Rx told one (inl was) = ap (λ (t : StepSpec T). t.line.receivers) was ∙ rw one refl
+  none_left l Rx told one (inr m) = absurd m.0

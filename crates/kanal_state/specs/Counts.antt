@@ -35,6 +35,10 @@ waits counted = stands counted.stands.numbers
 abbrev pub ticket_of : CountedWait → Ticket
 ticket_of counted = counted.ticket
 
+-- whether waits were left
+abbrev pub were_left : GoneWaits → Bool
+were_left gone = gone.are_some
+
 -- whether the waits that were left are sought
 abbrev pub are_sought : GoneWaits → Bool
 are_sought gone = gone.are_sought

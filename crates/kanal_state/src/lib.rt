@@ -19,13 +19,13 @@ mod waiter_handle;
 pub use call::Call;
 pub use call_context::CallContext;
 pub use counted::{
-    CountedHandle, CountedReceiver, CountedSender, CountedWait, FirstHandles, MustDrain, Notices,
-    OtherResult,
+    CountedHandle, CountedReceiver, CountedSender, CountedWait, FirstHandles, GoneWaits, MustDrain,
+    Notices, OtherResult,
 };
 pub use history::History;
 pub use none::NoHistory;
 pub use released::{Deferred, Released};
 pub use side::{OfSide, ReceiveSide, SendSide};
-pub use state::{DropResult, State, WaitStart};
+pub use state::{DropResult, State, TakenOut, WaitStart};
 pub use wait_result::WaitResult;
 pub use waiter_handle::{Core, LeftWaits, WaiterHandle, ends};

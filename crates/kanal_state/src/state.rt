@@ -28,7 +28,7 @@ use crate::counted::{CountedWait, FirstHandles, Notices};
 use crate::released::Deferred;
 use crate::waiter_handle::{Core, WaiterHandle};
 use futures::task::Waker;
-pub use internal_calls::DropResult;
+pub use internal_calls::{DropResult, TakenOut};
 use kanal_core::internal::{Ticket, Waiter};
 use kanal_events::event::{Event, Refusal, Reply, Side};
 use kanal_events::step_result::{FastResult, Placement, StepResult};

@@ -6,7 +6,9 @@ ghost use Rattle.kanal_channel.specs.Locks.{is_held, takes_nothing};
 
 use super::Shared;
 use kanal_cell::{Contention, LOCK_TRIES};
-use kanal_state::{Deferred, DropResult, History, LeftWaits, ReceiveSide, SendSide, State};
+use kanal_state::{
+    Deferred, DropResult, GoneWaits, History, LeftWaits, ReceiveSide, SendSide, State, TakenOut,
+};
 use std::marker::Model;
 use std::snapshot::Snapshot;
 use std::sync::{MutexGuard, Wait};
@@ -38,6 +40,36 @@ pub(super) struct Applied<T, H: History<T>> {
     pub(super) gone: Option<Deferred<LeftWaits<T, H>>>,
     pub(super) senders: Option<DropResult<T, H>>,
     pub(super) receivers: Option<DropResult<T, H>>,
+}
+
+/// That the notices of all kinds were applied, with what each kind took out.
+pub(super) struct AllApplied<T, H: History<T>> {
+    waits: TakenOut<GoneWaits, Deferred<LeftWaits<T, H>>>,
+    senders: TakenOut<SendSide, DropResult<T, H>>,
+    receivers: TakenOut<ReceiveSide, DropResult<T, H>>,
+}
+
+impl<T: Drop, H: History<T>> AllApplied<T, H> {
+    /// What they took out, if anything.
+    pub(super) fn into_applied(self) -> Option<Applied<T, H>> {
+        let AllApplied {
+            waits,
+            senders,
+            receivers,
+        } = self;
+        match (
+            waits.into_inner(),
+            senders.into_inner(),
+            receivers.into_inner(),
+        ) {
+            (None, None, None) => None,
+            (gone, senders, receivers) => Some(Applied {
+                gone,
+                senders,
+                receivers,
+            }),
+        }
+    }
 }
 
 /// What the notices took out under a lock that one try got, if there were some. It goes back with that lock.
@@ -92,7 +124,9 @@ impl<'a, T: Drop, H: History<T>> Locked<'a, T, H> {
     fn take_pending(&mut self) -> Pending<T, H> {
         let applied = self.shared.apply(&mut self.state);
         self.internal_pass = self.state.internal_pass();
-        Pending { applied }
+        Pending {
+            applied: applied.into_applied(),
+        }
     }
 }
 
@@ -178,25 +212,19 @@ impl<T: Drop, H: History<T>> Shared<T, H> {
     /// Applies all notices: first those of left waits, then the senders', then the receivers'. The flag is
     /// cleared first, so that a later notice sets it again.
     #[cold]
-    pub(super) fn apply(&self, state: &mut State<T, H>) -> Option<Applied<T, H>> {
+    pub(super) fn apply(&self, state: &mut State<T, H>) -> AllApplied<T, H> {
         self.notices.read();
-        let gone = match self.notices.take_waits() {
-            Some(waits) => Some(state.withdraw_left(&self.log, self.alloc, waits)),
-            None => None,
-        };
+        let waits = state.withdraw_left(&self.log, self.alloc, self.notices.take_waits());
         let senders = self.notices.take_handles::<SendSide>();
         let (senders, rest) = state.drop_handles(&self.log, senders);
-        self.notices.put_back(rest);
+        self.notices.put_back(state, rest);
         let receivers = self.notices.take_handles::<ReceiveSide>();
         let (receivers, rest) = state.drop_handles(&self.log, receivers);
-        self.notices.put_back(rest);
-        match (gone, senders, receivers) {
-            (None, None, None) => None,
-            (gone, senders, receivers) => Some(Applied {
-                gone,
-                senders,
-                receivers,
-            }),
+        self.notices.put_back(state, rest);
+        AllApplied {
+            waits,
+            senders,
+            receivers,
         }
     }
 

@@ -53,7 +53,7 @@ impl<T: Drop, H: History<T>> Shared<T, H> {
         state: MutexGuard<'a, State<T, H>>,
     ) -> Option<MutexGuard<'a, State<T, H>>> {
         let mut state = state;
-        let Some(applied) = self.apply(&mut state) else {
+        let Some(applied) = self.apply(&mut state).into_applied() else {
             return Some(state);
         };
         let (released, due) = Released::by(state);

@@ -2,11 +2,13 @@
 //!
 //! A notice counts a token out; who takes the handles' notices has the tokens again. Notices go with their channel
 //! alone, so none is added where nobody looks.
-ghost use Rattle.std.specs.Prelude.{◌≡◌, ◌+◌, false, true, IfNone, IfSome};
-ghost use Rattle.kanal_state.specs.Counts.{are_sought, gone_handles, has_channel, is_due};
+ghost use Rattle.std.specs.Prelude.{◌≡◌, ◌+◌, ◌⊎◌, false, true, IfNone, IfSome};
+ghost use Rattle.kanal_state.specs.Counts.{are_sought, count_of, gone_handles, has_channel, is_due, were_left};
 
 use super::{CountedHandle, CountedWait, Stands, stands};
+use crate::History;
 use crate::side::OfSide;
+use crate::state::State;
 use kanal_events::event::Side;
 use std::marker::PhantomData;
 use std::sync::atomic::AtomicU64;
@@ -47,8 +49,9 @@ impl<S> GoneHandles<S> {
     }
 }
 
-/// Waits that were left while the lock was held: they have to be sought and withdrawn.
+/// Waits that were left while the lock was held, if some were: they have to be sought and withdrawn.
 pub struct GoneWaits {
+    are_some: bool,
     are_sought: bool,
 }
 
@@ -57,17 +60,22 @@ impl Drop for GoneWaits {
         requires sought { are_sought self ≡ true }
     {
         let GoneWaits {
+            are_some: _are_some,
             are_sought: _are_sought,
         } = self;
     }
 }
 
 impl GoneWaits {
-    /// Discharges the duty; only `withdraw_left` calls it.
-    pub(crate) fn seek(self) {
+    /// Whether some were left; this discharges the duty, and only `withdraw_left` calls it.
+    pub(crate) fn seek(self) -> bool
+        ensures { result ≡ were_left self }
+    {
         let GoneWaits {
+            are_some,
             are_sought: _are_sought,
         } = self;
+        are_some
     }
 }
 
@@ -191,8 +199,11 @@ impl Notices {
         }
     }
 
-    /// Puts back those that were not counted out.
-    pub fn put_back<S: OfSide>(&self, gone: GoneHandles<S>) {
+    /// Puts back those that were not counted out, since their side has none left.
+    pub fn put_back<T, H: History<T>, S: OfSide>(&self, state: &State<T, H>, gone: GoneHandles<S>)
+        requires over { (gone_handles gone ≡ 0) ⊎ (count_of S.side state.now.1 ≡ 0) }
+    {
+        let _ = state;
         let count = gone.into_count();
         if count > 0 {
             self.counter(S::side()).fetch_add(count, SeqCst);
@@ -211,10 +222,10 @@ impl Notices {
         self.waits.load(SeqCst)
     }
 
-    pub fn take_waits(&self) -> Option<GoneWaits> {
-        if emptied(&self.waits) == 0 {
-            return None;
+    pub fn take_waits(&self) -> GoneWaits {
+        GoneWaits {
+            are_some: emptied(&self.waits) > 0,
+            are_sought: false,
         }
-        Some(GoneWaits { are_sought: false })
     }
 }

@@ -1,7 +1,7 @@
 //! The internal calls: of a handle that is gone, and of a wait that was left.
 //!
 //! They are made here alone: what a handle's drop or a notice counts out, it counts out by such a call.
-ghost use Rattle.std.specs.Prelude.{◌≡◌, IfNone, IfSome, Some, is_some};
+ghost use Rattle.std.specs.Prelude.{◌≡◌, false, IfNone, IfSome, Some, is_some};
 ghost use Rattle.kanal_core.specs.Channel.{line_of};
 ghost use Rattle.kanal_core.specs.Tickets.{number_of};
 ghost use Rattle.kanal_core.specs.Waiters.{IsPlaced, waiter_of, with_w, without};
@@ -11,7 +11,7 @@ ghost use Rattle.kanal_events.specs.StepResult.{not_waiting, settled_of, told_of
 ghost use Rattle.kanal_state.specs.Calls.{IsDrop};
 ghost use Rattle.kanal_state.specs.Entries.{call_from, withdrawal};
 ghost use Rattle.kanal_state.specs.HistoryRelations.{HaveShown};
-ghost use Rattle.kanal_state.specs.Counts.{one_less, ticket_of};
+ghost use Rattle.kanal_state.specs.Counts.{count_of, gone_handles, one_less, ticket_of, were_left};
 ghost use Rattle.kanal_state.specs.Renewing.{TakesNode};
 ghost use Rattle.kanal_state.specs.WaiterHandles.{HaveLeft};
 
@@ -29,7 +29,7 @@ use kanal_events::step_result::StepResult;
 use kanal_events::steps;
 use std::alloc::Global;
 use std::collections::LinkedList;
-use std::marker::Model;
+use std::marker::{Model, PhantomData};
 use std::snapshot::Snapshot;
 
 /// A bound that is never reached; it gives the loop its measure.
@@ -63,6 +63,39 @@ impl<T: Drop, H: History<T>> DropResult<T, H> {
     {
         let DropResult { made, prefix } = self;
         (made, prefix)
+    }
+}
+
+/// What the notices of one kind took out of the core, if anything. Only the call that applies those notices makes
+/// it: whoever has one of each kind has had all of them applied. Contracts see what it is.
+pub struct TakenOut<K, X> {
+    inside: Option<X>,
+    kind: PhantomData<K>,
+}
+
+impl<K, X> Model for TakenOut<K, X> {
+    ghost use Rattle.std.specs.Prelude.{Option};
+
+    ghost Value = { Option X };
+
+    ghost view = { λ t. t.inside };
+}
+
+impl<K, X> TakenOut<K, X> {
+    fn new(inside: Option<X>) -> Self
+        ensures { result ≡ inside }
+    {
+        TakenOut {
+            inside,
+            kind: PhantomData,
+        }
+    }
+
+    pub fn into_inner(self) -> Option<X>
+        ensures { result ≡ self }
+    {
+        let TakenOut { inside, kind: _ } = self;
+        inside
     }
 }
 
@@ -184,54 +217,68 @@ impl<T: Drop, H: History<T>> State<T, H> {
     }
 
     /// Makes the drops of these handles until the last one's of their side; what that ended, with what was seen
-    /// of it, and those that are left.
+    /// of it, and those that are left, if their side has none.
+    #[tactic(auto, using(crate::proofs::Counting::none_left))]
     pub fn drop_handles<S: OfSide>(
         &mut self,
         log: &H::Log,
         gone: GoneHandles<S>,
-    ) -> (Option<DropResult<T, H>>, GoneHandles<S>)
+    ) -> (TakenOut<S, DropResult<T, H>>, GoneHandles<S>)
         ensures ended { IfSome result.0 (λ ended. Leave self.old.2 (gone_of ended) self.new.2) }
+        ensures last { IfSome result.0 (λ _. count_of S.side self.new.1 ≡ 0) }
         ensures none { IfNone result.0 (self.new.2 ≡ self.old.2) }
+        ensures all { IfNone result.0 (gone_handles result.1 ≡ 0) }
     {
         let mut gone = gone;
         while let Some(counted) = gone.next() {
             let is_last = self.count_of(S::side()) == 1;
             let (made, prefix) = self.handle_out(log, counted);
             if is_last {
-                return (Some(DropResult { made, prefix }), gone);
+                return (TakenOut::new(Some(DropResult { made, prefix })), gone);
             }
             drop(made);
         }
-        (None, gone)
+        (TakenOut::new(None), gone)
     }
 
-    /// Withdraws all waits that were left, and hands out their entries, the last that left first. It asks for
-    /// no memory: each is kept in the reserved node that its handle brought. No clause says that these are all:
-    /// who leaves does so in its cell, and at any moment.
+    /// Withdraws all waits that were left, if there is a notice of one, and hands out their entries, the last that
+    /// left first. It asks for no memory: each is kept in the reserved node that its handle brought. No clause says
+    /// that these are all: who leaves does so in its cell, and at any moment.
     pub fn withdraw_left(
         &mut self,
         log: &H::Log,
         alloc: Global,
         waits: GoneWaits,
-    ) -> Deferred<LeftWaits<T, H>>
+    ) -> TakenOut<GoneWaits, Deferred<LeftWaits<T, H>>>
+        ensures left { IfSome result (λ left. HaveLeft self.old.2 left self.new.2) }
+        ensures none { IfNone result (self.new ≡ self.old) }
+        ensures sought { IfNone result (were_left waits ≡ false) }
+    {
+        if !waits.seek() {
+            return TakenOut::new(None);
+        }
+        let left = self.withdraw_leavers(log, alloc);
+        TakenOut::new(Some(Deferred { inside: left }))
+    }
+
+    fn withdraw_leavers(&mut self, log: &H::Log, alloc: Global) -> LeftWaits<T, H>
         ensures left { HaveLeft self.old.2 result self.new.2 }
     {
-        waits.seek();
         let mut leavers = LinkedList::new(alloc);
         let mut found = self.core.first_waiter(|handle| handle.is_left());
         for _count in 0..MOST {
             let Some(ticket) = found else {
-                return Deferred { inside: leavers };
+                return leavers;
             };
             found = self.core.next_waiter(ticket, |handle| handle.is_left());
             let Some(node) = take_node(&mut self.core, ticket) else {
-                return Deferred { inside: leavers };
+                return leavers;
             };
             let Some(waiter) = self.withdraw_internal(log, ticket) else {
                 unreachable!()
             };
             leavers = node.keep(waiter, leavers);
         }
-        Deferred { inside: leavers }
+        leavers
     }
 }

@@ -1,5 +1,5 @@
 use Rattle.kanal_state.proofs.Common.{◌≤◌, length, HaveLeft}
-use Rattle.kanal_state.proofs.state.State.withdraw_left.Given as goal
+use Rattle.kanal_state.proofs.state.State.withdraw_leavers.Given as goal
 
 -- at most one is kept a round, and those that are kept have left
 abbrev pub invariant-loop-count : goal.invariant-loop-count

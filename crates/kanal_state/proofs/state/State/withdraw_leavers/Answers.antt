@@ -1,6 +1,6 @@
 use Rattle.std.proofs.Common.{arith}
 use Rattle.kanal_state.proofs.Leaving.{has_left, none_taken, waits_still}
-use Rattle.kanal_state.proofs.state.State.withdraw_left.Goals as goal
+use Rattle.kanal_state.proofs.state.State.withdraw_leavers.Goals as goal
 
 pub returns-in_default-take_node : goal.returns-in_default-take_node
 returns-in_default-take_node g c =

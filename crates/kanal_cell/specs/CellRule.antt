@@ -59,12 +59,12 @@ HasNotLeft v = v.set.left ≡ false
 abbrev pub HasNotSettled : CellView → Type 0
 HasNotSettled v = v.set.ended ≡ false
 
+abbrev pub MaySleep : CellView → Type 0
+MaySleep v = HasNotLeft v × (v.set.sleeping ≡ false) × (v.had ≡ false)
+
 -- the end is still waited at: it has neither left nor had the outcome
 abbrev pub StillWaits : CellView → Type 0
 StillWaits v = HasNotLeft v × (v.had ≡ false)
-
-abbrev pub MaySleep : CellView → Type 0
-MaySleep v = HasNotLeft v × (v.set.sleeping ≡ false) × (v.had ≡ false)
 
 -- the bits of the word, by the views of the waiter and the settler: each bit is set by the end that it belongs to
 abbrev pub word_bits : CellView → CellView → Bits

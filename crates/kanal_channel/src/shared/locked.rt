@@ -35,41 +35,11 @@ impl<'a, T, H: History<T>> Model for Locked<'a, T, H> {
     ghost invariant = { λ l. l.state.value.0 ≡ l.internal_pass.value };
 }
 
-/// What applying the notices took out of the core. It has to be told.
+/// That the notices of all kinds were applied, with what each kind took out of the core. That has to be told.
 pub(super) struct Applied<T, H: History<T>> {
-    pub(super) gone: Option<Deferred<LeftWaits<T, H>>>,
-    pub(super) senders: Option<DropResult<T, H>>,
-    pub(super) receivers: Option<DropResult<T, H>>,
-}
-
-/// That the notices of all kinds were applied, with what each kind took out.
-pub(super) struct AllApplied<T, H: History<T>> {
-    waits: TakenOut<GoneWaits, Deferred<LeftWaits<T, H>>>,
-    senders: TakenOut<SendSide, DropResult<T, H>>,
-    receivers: TakenOut<ReceiveSide, DropResult<T, H>>,
-}
-
-impl<T: Drop, H: History<T>> AllApplied<T, H> {
-    /// What they took out, if anything.
-    pub(super) fn into_applied(self) -> Option<Applied<T, H>> {
-        let AllApplied {
-            waits,
-            senders,
-            receivers,
-        } = self;
-        match (
-            waits.into_inner(),
-            senders.into_inner(),
-            receivers.into_inner(),
-        ) {
-            (None, None, None) => None,
-            (gone, senders, receivers) => Some(Applied {
-                gone,
-                senders,
-                receivers,
-            }),
-        }
-    }
+    pub(super) waits: TakenOut<GoneWaits, Deferred<LeftWaits<T, H>>>,
+    pub(super) senders: TakenOut<SendSide, DropResult<T, H>>,
+    pub(super) receivers: TakenOut<ReceiveSide, DropResult<T, H>>,
 }
 
 /// What the notices took out under a lock that one try got, if there were some. It goes back with that lock.
@@ -122,11 +92,9 @@ impl<'a, T: Drop, H: History<T>> Locked<'a, T, H> {
     /// Applies the notices under a lock that one try got. What they take out goes back with the lock.
     #[cold]
     fn take_pending(&mut self) -> Pending<T, H> {
-        let applied = self.shared.apply(&mut self.state);
+        let applied = Some(self.shared.apply(&mut self.state));
         self.internal_pass = self.state.internal_pass();
-        Pending {
-            applied: applied.into_applied(),
-        }
+        Pending { applied }
     }
 }
 
@@ -160,9 +128,7 @@ impl<T: Drop, H: History<T>> Shared<T, H> {
             if self.has_no_notices() {
                 return state;
             }
-            if let Some(state) = self.apply_notices(state) {
-                return state;
-            }
+            self.apply_notices(state);
         }
         unreachable!()
     }
@@ -212,7 +178,7 @@ impl<T: Drop, H: History<T>> Shared<T, H> {
     /// Applies all notices: first those of left waits, then the senders', then the receivers'. The flag is
     /// cleared first, so that a later notice sets it again.
     #[cold]
-    pub(super) fn apply(&self, state: &mut State<T, H>) -> AllApplied<T, H> {
+    pub(super) fn apply(&self, state: &mut State<T, H>) -> Applied<T, H> {
         self.notices.read();
         let waits = state.withdraw_left(&self.log, self.alloc, self.notices.take_waits());
         let senders = self.notices.take_handles::<SendSide>();
@@ -221,7 +187,7 @@ impl<T: Drop, H: History<T>> Shared<T, H> {
         let receivers = self.notices.take_handles::<ReceiveSide>();
         let (receivers, rest) = state.drop_handles(&self.log, receivers);
         self.notices.put_back(state, rest);
-        AllApplied {
+        Applied {
             waits,
             senders,
             receivers,

@@ -34,32 +34,24 @@ impl<T: Drop, H: History<T>> Locked<'_, T, H> {
         Released::by(self.into_guard())
     }
 
-    /// Applies the notices under a lock that one try got. Where they take something out, the lock is released,
-    /// that is told, and the lock is tried once more; `None` where another has it then.
+    /// Applies the notices under a lock that one try got, releases it, tells what they took out, and tries the lock
+    /// once more; `None` where another has it then.
     #[cold]
     pub fn apply_notices(self) -> Option<Self> {
         let shared = self.shared;
-        match shared.apply_notices(self.into_guard()) {
-            Some(state) => Some(shared.locked(state)),
-            None => shared.try_lock_raw(),
-        }
+        shared.apply_notices(self.into_guard());
+        shared.try_lock_raw()
     }
 }
 
 impl<T: Drop, H: History<T>> Shared<T, H> {
     #[cold]
-    pub(super) fn apply_notices<'a>(
-        &'a self,
-        state: MutexGuard<'a, State<T, H>>,
-    ) -> Option<MutexGuard<'a, State<T, H>>> {
+    pub(super) fn apply_notices(&self, state: MutexGuard<'_, State<T, H>>) {
         let mut state = state;
-        let Some(applied) = self.apply(&mut state).into_applied() else {
-            return Some(state);
-        };
+        let applied = self.apply(&mut state);
         let (released, due) = Released::by(state);
         self.tell_applied(applied, &released);
         self.drain_notices(due);
-        None
     }
 
     /// Releases the lock, wakes those whose waits the step settled, drops what it cleared, and drains new notices.
@@ -198,17 +190,17 @@ impl<T: Drop, H: History<T>> Shared<T, H> {
     #[cold]
     pub(super) fn tell_applied(&self, applied: Applied<T, H>, released: &Released) {
         let Applied {
-            gone,
+            waits,
             senders,
             receivers,
         } = applied;
-        if let Some(gone) = gone {
-            drop(gone.open(released));
+        if let Some(left) = waits.into_inner() {
+            drop(left.open(released));
         }
-        if let Some(senders) = senders {
+        if let Some(senders) = senders.into_inner() {
             self.tell_dropped(senders, released);
         }
-        if let Some(receivers) = receivers {
+        if let Some(receivers) = receivers.into_inner() {
             self.tell_dropped(receivers, released);
         }
     }

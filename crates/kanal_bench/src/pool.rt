@@ -1,5 +1,5 @@
 //! The scenario of jobs without work, by a pool or in turn: what a pool costs a job.
-ghost use Rattle.std.proofs.Common.{rules};
+ghost use Rattle.kanal_pool.specs.Equality.{equal_fields};
 
 use crate::number;
 use anyhow::Result;
@@ -21,7 +21,7 @@ impl Job for IdleJob {
         Ok(self.0)
     }
 
-    ghost equal_values = { Prim.search rules };
+    ghost equal_values = { Prim.search equal_fields };
 }
 
 /// How many workers the first of these words names: none, where it is `in-turn`.

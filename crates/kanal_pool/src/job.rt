@@ -22,7 +22,7 @@ use kanal::error::NoMemory;
 ///         Ok(u64::from(self.0) * u64::from(self.0))
 ///     }
 ///
-///     ghost equal_values = { Prim.search rules };
+///     ghost equal_values = { Prim.search equal_fields };
 /// }
 /// ```
 pub trait Job: Eq {

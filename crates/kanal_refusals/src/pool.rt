@@ -1,5 +1,5 @@
 //! A pool whose growths, threads and jobs may be refused: its workers have ended then.
-ghost use Rattle.std.proofs.Common.{rules};
+ghost use Rattle.kanal_pool.specs.Equality.{equal_fields};
 
 use crate::driver::{Score, holds};
 use kanal_pool::{Gate, Job, NoMemory, PoolError, map_jobs};
@@ -22,7 +22,7 @@ impl Job for NumberJob {
         Ok(self.0)
     }
 
-    ghost equal_values = { Prim.search rules };
+    ghost equal_values = { Prim.search equal_fields };
 }
 
 /// How many jobs were begun, and how many have ended.

@@ -1,6 +1,6 @@
 //! One caller of each crate that has a page for callers, with a contract of its own where one can be had.
 ghost use Rattle.std.specs.Prelude.{◌≡◌, ◌≢◌, ◌*◌, ℕ, Ok, Some, None, true, IfOk, IfSome};
-ghost use Rattle.std.proofs.Common.{rules};
+ghost use Rattle.kanal_pool.specs.Equality.{equal_fields};
 ghost use Rattle.kanal_journal.specs.Paired.{Paired, until};
 ghost use Rattle.kanal_pool.specs.Answers.{answers};
 ghost use Rattle.kanal_recorded.specs.Merges.{journal_history};
@@ -89,7 +89,7 @@ impl Job for SquareJob {
         Ok(u64::from(self.0) * u64::from(self.0))
     }
 
-    ghost equal_values = { Prim.search rules };
+    ghost equal_values = { Prim.search equal_fields };
 }
 
 /// The values of all jobs, by two workers.

@@ -1,6 +1,6 @@
 //! What the tests of the pool share: jobs, and the comparison of an answer with the expected one.
 ghost use Rattle.std.specs.Prelude.{◌*◌, ◌≡◌, true};
-ghost use Rattle.std.proofs.Common.{rules};
+ghost use Rattle.kanal_pool.specs.Equality.{equal_fields};
 
 use kanal_pool::{Job, NoMemory, PoolError};
 use std::alloc::AllocGlobal;
@@ -20,7 +20,7 @@ impl Job for Square {
         Ok(side * side)
     }
 
-    ghost equal_values = { Prim.search rules };
+    ghost equal_values = { Prim.search equal_fields };
 }
 
 /// A job whose work never finds memory.
@@ -36,7 +36,7 @@ impl Job for Starved {
         Err(NoMemory)
     }
 
-    ghost equal_values = { Prim.search rules };
+    ghost equal_values = { Prim.search equal_fields };
 }
 
 /// The squares to be found, of 0 up to the number before the end.

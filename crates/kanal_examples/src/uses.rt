@@ -1,8 +1,7 @@
 //! Short uses of a channel, one function each, in the order in which a reader meets them: between
-//! threads, between tasks, from one to the other, with a deadline, in a loop, and to the end; and the
+//! threads, between tasks, from one to the other, with a deadline, in a loop, and with many of them; and the
 //! callers of the pages CALLING.md.
 mod callers;
-mod ends;
 mod facts;
 mod faults;
 mod loops;
@@ -63,21 +62,16 @@ where
     tasks::within_one_task(&rt)?;
     tasks::a_sender_lent_to_a_task(rt)?;
     tasks::a_receiver_for_a_task_and_one_for_a_thread(rt)?;
-    timed::nothing_came(&rt)?;
     timed::no_place_came(&rt)?;
-    timed::by_a_clock_that_moves(&rt)?;
     loops::until_a_receive_is_refused(&rt)?;
     loops::until_the_last_sender_is_gone(&rt)?;
     loops::each_handed_to_a_closure(&rt)?;
-    ends::sealed(&rt)?;
-    ends::closed(&rt)?;
-    ends::last_sender_dropped(&rt)?;
-    ends::last_receiver_dropped(&rt)?;
     many::a_clone_for_each_thread(rt)?;
     many::a_seal_and_then_a_join(rt)?;
     many::one_of_several(rt)?;
+    many::urgent_jobs_first(&rt)?;
     polls::before_the_message_and_after_it(&rt)?;
-    polls::many_channels_in_one_task(&rt)?;
+    polls::clients_of_one_hub(&rt)?;
     println!(rt; "{}", faults::each_by_a_question_mark(&rt)?)?;
     faults::a_sealed_one(&rt)?;
     facts::through_a_channel(&rt)?;

@@ -1,5 +1,4 @@
-//! Tests of a channel: calls, polls and drops while its lock is held by the test, waits whose begin the lock
-//! shows, and calls of a channel with one history.
+//! Tests of a channel whose lock the test holds, of how waits begin, and of calls of a channel with one history.
 #![tactic(auto)]
 
 #[cfg(test)]

@@ -1,5 +1,4 @@
-//! Tests of the core and of the hand-over cell: each call of the core once, with ample memory, texts, edges and
-//! drops, and the cell's steps, drops, threads and wakes.
+//! Tests of the core (calls, texts, edges, drops) and of the hand-over cell (steps, drops, threads, wakes).
 #![tactic(auto)]
 
 #[cfg(test)]

@@ -1,5 +1,4 @@
-//! Draws the calls of several parties on one channel, read from standard input, as an SVG picture on standard
-//! output; nothing is written before all is read and drawn.
+//! Draws the calls of several parties on one channel, read from standard input, as an SVG picture.
 #![tactic(auto)]
 
 mod fault;

@@ -1,5 +1,4 @@
-//! Runs stored scripts, whose answers are known, through `serve`, and prints a line a file: how many
-//! scripts it has, how many are answered otherwise, and the first of these.
+//! Runs stored scripts, whose answers are known, through `serve`, and prints per file how many are answered otherwise.
 //!
 //! Its tests are those of scripts, of journals and of recorded channels.
 #![tactic(auto)]

@@ -71,7 +71,8 @@ where
     many::one_of_several(rt)?;
     many::urgent_jobs_first(&rt)?;
     polls::before_the_message_and_after_it(&rt)?;
-    polls::clients_of_one_hub(&rt)?;
+    polls::three_in_one_task(&rt)?;
+    polls::many_channels_in_one_task(&rt)?;
     println!(rt; "{}", faults::each_by_a_question_mark(&rt)?)?;
     faults::a_sealed_one(&rt)?;
     facts::through_a_channel(&rt)?;

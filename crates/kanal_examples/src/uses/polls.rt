@@ -3,7 +3,7 @@ use anyhow::Result;
 use futures::executor::block_on;
 use futures::task::Poll;
 use futures::test::MockTask;
-use futures::{Future, FutureExt, StreamExt, TryStreamExt, future, stream};
+use futures::{Future, StreamExt, future, stream};
 use std::alloc::AllocGlobal;
 use std::random::RandomSource;
 use std::sync::Wait;
@@ -38,32 +38,33 @@ where
     Ok(block_on(rt, future::join3(a, b, c))?)
 }
 
-/// Two clients and a hub as tasks on one executor. A client that has sent all seals its channel, and the hub ends with
-/// the last.
-pub fn clients_of_one_hub<R>(rt: &R) -> Result<()>
+/// Two sends and a receive on one executor.
+pub fn three_in_one_task<R: Wait + RandomSource + AllocGlobal + Print>(rt: &R) -> Result<()> {
+    let (sender, receiver) = kanal::bounded_async::<u64>(rt.alloc(), 1)?;
+    let (one, two) = (sender.send(4), sender.send(5));
+    let (one, two, got) = run_three(rt, one, two, receiver.recv())?;
+    one?;
+    two?;
+    println!(rt; "{}", got?)?;
+    Ok(())
+}
+
+/// As many channels in one task as there are, each of which brings one number.
+pub fn many_channels_in_one_task<R>(rt: &R) -> Result<()>
 where
     R: Wait + RandomSource + AllocGlobal + Print,
 {
     let (to_a, a) = kanal::bounded_async::<u64>(rt.alloc(), 1)?;
     let (to_b, b) = kanal::bounded_async::<u64>(rt.alloc(), 1)?;
-    let sends = stream::iter(1..=4).map(Ok);
-    let one = sends.try_for_each(|n| to_a.send(n)).map(|sent| {
-        let _sealed = to_a.seal(rt);
-        sent
-    });
-    let sends = stream::iter(14..=17).map(Ok);
-    let other = sends.try_for_each(|n| to_b.send(n)).map(|sent| {
-        let _sealed = to_b.seal(rt);
-        sent
-    });
+    block_on(rt, to_a.send(4))??;
+    block_on(rt, to_b.send(50))??;
+    drop(to_a);
+    drop(to_b);
     let mut streams = Vec::new(rt.alloc());
     streams.push(a.stream())?;
     streams.push(b.stream())?;
     let all = stream::select_all(rt.alloc(), streams)?;
-    let hub = all.fold(0, |sum: u64, n| future::ready(sum.wrapping_add(n)));
-    let (one, other, sum) = run_three(rt, one, other, hub)?;
-    one?;
-    other?;
-    println!(rt; "{sum}")?;
+    let sum = all.fold(0, |sum: u64, n| future::ready(sum.wrapping_add(n)));
+    println!(rt; "{}", block_on(rt, sum)?)?;
     Ok(())
 }

@@ -16,7 +16,7 @@ use crate::clock::Clock;
 use crate::signal::WaitEnd;
 use awake::{Asleep, Awake};
 pub use contention::{Contention, LOCK_TRIES};
-use policy::Backoff;
+use policy::Looks;
 pub use policy::WaitPolicy;
 use std::sync::Wait;
 use std::time;
@@ -140,19 +140,19 @@ fn sleep_until<P: Drop, R: Wait + time::Clock, C: Clock>(
 }
 
 fn look<P: Drop>(policy: &WaitPolicy, awake: Awake<P>) -> Result<P, Awake<P>> {
-    let mut backoff = Backoff::new(policy);
+    let mut looks = Looks::new(policy);
     let mut awake = awake;
     for _ in 0..LOOKS {
         if awake.is_settled() {
             match awake.poll() {
                 Ok(outcome) => {
-                    backoff.end();
+                    looks.end();
                     return Ok(outcome);
                 },
                 Err(back) => awake = back,
             }
         }
-        if !backoff.snooze() {
+        if !looks.snooze() {
             return Err(awake);
         }
     }
@@ -168,13 +168,13 @@ fn look_until<P: Drop, C: Clock>(
 ) -> Looked<P>
     ensures late { LooksBy (C.answers clock.now) deadline result }
 {
-    let mut backoff = Backoff::new(policy);
+    let mut looks = Looks::new(policy);
     let mut awake = awake;
     for _ in 0..LOOKS {
         let moment = clock.now();
         match awake.poll() {
             Ok(outcome) => {
-                backoff.end();
+                looks.end();
                 return Looked::Outcome(outcome);
             },
             Err(back) => awake = back,
@@ -182,7 +182,7 @@ fn look_until<P: Drop, C: Clock>(
         if moment >= deadline {
             return Looked::Late(awake, moment);
         }
-        if !backoff.snooze() {
+        if !looks.snooze() {
             return Looked::Early(awake);
         }
     }

@@ -13,4 +13,4 @@ pub mod signal;
 
 pub use backoff::{Contention, LOCK_TRIES, WaitPolicy, Waiting};
 pub use clock::{Clock, SystemClock, TestClock, deadline_after};
-pub use pauses::{PollBackoff, pause_once};
+pub use pauses::PollBackoff;

@@ -1,32 +1,32 @@
-//! Pauses by spins alone, which keep the processor.
+//! Pauses that keep the processor: by the spins of `crossbeam_utils::Backoff`, and at a held lock by longer ones.
 //!
-//! A call pauses between its tries of a held lock, and before it looks at the buffer once more. Nothing else may
-//! make a poll wait.
+//! Nothing else may make a poll wait.
+use crossbeam_utils::Backoff;
 use std::hint;
 
-/// The longest pause, as a power of two of spins.
+/// The longest pause at a held lock, as a power of two of turns.
 const LONGEST: u32 = 10;
 
-/// The first pause of a poll that finds the lock held, as a power of two of spins.
-const FIRST: u32 = 4;
+/// How often a poll that finds the lock held spins at first.
+const POLL_SPINS: u32 = 4;
 
-/// By what power of two the pause grows where the next poll finds the lock held, too.
-const GROWTH: u32 = 2;
+/// How much more often the next spins that finds it held, too.
+const POLL_GROWTH: u32 = 3;
 
-/// How long a blocked call pauses before its second look, in spins.
-const SECOND_LOOK: u32 = 80;
+/// How often such a poll spins at most: 895 turns.
+const MOST_POLL_SPINS: u32 = 19;
 
-/// Spins for two to this power times, and for 1,024 times at most.
-pub fn pause(power: u32) {
-    for _ in 0..1u32 << power.min(LONGEST) {
-        hint::spin_loop();
+/// Spins so often: each time twice as long as before, and 64 turns at most.
+pub(crate) fn spin(times: u32) {
+    let backoff = Backoff::new();
+    for _ in 0..times {
+        backoff.spin();
     }
 }
 
-/// Spins once before a blocked call looks again for a place or a message, where there is a buffer.
-/// Example: `pause_once()` spins 80 times.
-pub fn pause_once() {
-    for _ in 0..SECOND_LOOK {
+/// Spins for two to this power turns, and for 1,024 at most, of which `Backoff` has 64.
+pub(crate) fn pause(power: u32) {
+    for _ in 0..1u32 << power.min(LONGEST) {
         hint::spin_loop();
     }
 }
@@ -36,24 +36,24 @@ pub fn pause_once() {
 /// # Examples
 /// ```text
 /// let mut pauses = PollBackoff::new();
-/// pauses.pause();   spins 16 times
-/// pauses.pause();   spins 64 times
+/// pauses.pause();   spins 15 turns
+/// pauses.pause();   spins 127 turns
 /// ```
 #[derive(Copy, Clone)]
 pub struct PollBackoff {
-    power: u32,
+    spins: u32,
 }
 
 impl PollBackoff {
     /// Of a future whose last poll did not find the lock held.
     pub fn new() -> Self {
-        PollBackoff { power: FIRST }
+        PollBackoff { spins: POLL_SPINS }
     }
 
     /// Pauses, and longer at the next call.
     #[cold]
     pub fn pause(&mut self) {
-        pause(self.power);
-        self.power = self.power.saturating_add(GROWTH).min(LONGEST);
+        spin(self.spins);
+        self.spins = self.spins.saturating_add(POLL_GROWTH).min(MOST_POLL_SPINS);
     }
 }

@@ -15,7 +15,7 @@ ghost use Rattle.kanal_channel.specs.Starts.{BlockingPost, never_late};
 
 use crate::shared::{Locked, Shared};
 use kanal_cell::signal::WaitEnd;
-use kanal_cell::{Waiting, pause_once};
+use kanal_cell::Waiting;
 use kanal_core::internal::Outcome;
 use kanal_events::event::{Event, Refusal, Reply};
 use kanal_state::{CountedWait, History, WaitResult, WaitStart, WaiterHandle, ends};
@@ -106,7 +106,7 @@ impl<T: Drop, H: History<T>> Shared<T, H> {
         locked: Locked<'_, T, H>,
     ) -> Locked<'_, T, H> {
         locked.unlock_and_drain();
-        pause_once();
+        self.policy.pause_once();
         self.lock(rt)
     }
 

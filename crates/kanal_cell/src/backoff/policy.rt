@@ -3,16 +3,14 @@
 //! A yield hands the processor to any ready thread: one of this channel gives it back within a microsecond, another
 //! may keep it for milliseconds. So a call yields on credit alone, which the channel gets from waits that end
 //! before they sleep.
-use crate::pauses::pause;
+use crate::pauses::spin;
+use crossbeam_utils::Backoff;
 use std::sync::atomic::AtomicU64;
 use std::sync::atomic::Ordering::SeqCst;
 use std::thread;
 
 /// From how many places on a buffer is long.
 const LONG: usize = 128;
-
-/// The longest pause between two looks, as a power of two of spins.
-const LONGEST: u32 = 6;
 
 /// How often a call pauses before it yields or sleeps, where the buffer is short.
 const PAUSES: u32 = 23;
@@ -37,6 +35,17 @@ const FIRST_PAUSE: u32 = 5;
 /// The first pause where the buffer is long: more tries take the lock's line from who has the lock.
 const LONG_FIRST_PAUSE: u32 = 6;
 
+/// How often a blocked call spins before its second look: 63 turns.
+const SECOND_LOOK: u32 = 6;
+
+/// How often it spins after that where the buffer has several places, so that the other side fills or empties more
+/// of them: 15 turns, and 63 from `SEVERAL` places on.
+const FURTHER: u32 = 4;
+
+const MUCH_FURTHER: u32 = 6;
+
+const SEVERAL: usize = 16;
+
 /// How the calls of one channel wait: for the lock, and for their outcome before they sleep. All of them share it.
 ///
 /// It is advice alone: whatever it says, a call looks at its cell before it sleeps.
@@ -49,6 +58,7 @@ const LONG_FIRST_PAUSE: u32 = 6;
 #[derive(Drop)]
 pub struct WaitPolicy {
     first_pause: u32,
+    further: u32,
     pauses: u32,
     cost: u64,
     credit: AtomicU64,
@@ -62,8 +72,14 @@ impl WaitPolicy {
         } else {
             (LONG_FIRST_PAUSE, FEW_PAUSES, LOW_COST)
         };
+        let further = match places {
+            0 | 1 => 0,
+            2..SEVERAL => FURTHER,
+            _ => MUCH_FURTHER,
+        };
         WaitPolicy {
             first_pause,
+            further,
             pauses,
             cost,
             credit: AtomicU64::new(0),
@@ -72,6 +88,12 @@ impl WaitPolicy {
 
     pub(super) fn first_pause(&self) -> u32 {
         self.first_pause
+    }
+
+    /// Pauses before a blocked call looks once more for a place or a message, where there is a buffer.
+    pub fn pause_once(&self) {
+        spin(SECOND_LOOK);
+        spin(self.further);
     }
 
     fn add_credit(&self) {
@@ -93,14 +115,19 @@ impl WaitPolicy {
 
 /// How often one call has looked at its cell.
 #[derive(Drop)]
-pub(super) struct Backoff<'a> {
+pub(super) struct Looks<'a> {
     policy: &'a WaitPolicy,
     count: u32,
+    pauses: Backoff,
 }
 
-impl<'a> Backoff<'a> {
+impl<'a> Looks<'a> {
     pub(super) fn new(policy: &'a WaitPolicy) -> Self {
-        Backoff { policy, count: 0 }
+        Looks {
+            policy,
+            count: 0,
+            pauses: Backoff::new(),
+        }
     }
 
     /// The call found its outcome.
@@ -115,7 +142,7 @@ impl<'a> Backoff<'a> {
         self.count = count.saturating_add(1);
         let pauses = self.policy.pauses;
         if count < pauses {
-            pause(count.min(LONGEST));
+            self.pauses.spin();
             return true;
         }
         if count == pauses && !self.policy.take_credit() {

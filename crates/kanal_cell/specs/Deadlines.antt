@@ -1,5 +1,5 @@
--- When a deadline has come, and when a look at a cell is late.
-use Rattle.std.specs.Prelude.{◌≤◌, ℕ}
+-- When a deadline has come, how long it is until then, and when a look at a cell is late.
+use Rattle.std.specs.Prelude.{◌≤◌, ◌+◌, ℕ}
 use Rattle.kanal_cell.specs.declared.backoff.Looked.{Looked}
 use Rattle.kanal_cell.specs.declared.backoff.Looked.TheVariants.{Late, Early, Outcome}
 
@@ -7,8 +7,12 @@ use Rattle.kanal_cell.specs.declared.backoff.Looked.TheVariants.{Late, Early, Ou
 abbrev pub DeadlineReached : (ℕ → Type 0) → ℕ → Type 0
 DeadlineReached answered deadline = (moment : ℕ) × answered moment × (deadline ≤ moment)
 
--- who looked is late by a moment that was answered, and that is not before the deadline
-abbrev pub LooksBy : {P : Type 0} → (ℕ → Type 0) → ℕ → Looked P → Type 0
-LooksBy answered deadline (Late waiter moment) = answered moment × (deadline ≤ moment)
-LooksBy answered deadline (Early waiter) = Unit {0}
-LooksBy answered deadline (Outcome outcome) = Unit {0}
+-- the clock has answered a moment from which it is so long to the deadline
+abbrev pub IsLeft : (ℕ → Type 0) → ℕ → ℕ → Type 0
+IsLeft answered deadline left = (moment : ℕ) × answered moment × (moment + left ≤ deadline)
+
+-- who looked in vain and is late shows that the deadline has come
+abbrev pub LooksUntil : {P : Type 0} → Type 0 → Looked P → Type 0
+LooksUntil come (Late waiter) = come
+LooksUntil come (Early waiter) = Unit {0}
+LooksUntil come (Outcome outcome) = Unit {0}

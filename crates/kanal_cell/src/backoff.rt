@@ -2,31 +2,26 @@
 //!
 //! No other module puts a thread to sleep for an outcome. It sleeps on the word of its cell and asks for no memory,
 //! so a wait that has begun is never refused.
-ghost use Rattle.std.specs.Prelude.{◌≡◌, ◌≤◌, IfErr};
+ghost use Rattle.std.specs.Prelude.{◌≡◌, IfErr};
 ghost use Rattle.kanal_cell.specs.CellRule.{MaySleep};
 ghost use Rattle.kanal_cell.specs.CellEnds.{wait_view};
-ghost use Rattle.kanal_cell.specs.Deadlines.{LooksBy};
+ghost use Rattle.kanal_cell.specs.Deadlines.{LooksUntil};
 ghost use Rattle.kanal_cell.specs.Waits.{waits_at};
 
 mod awake;
 mod contention;
 mod policy;
 
-use crate::clock::Clock;
+use crate::deadline::Deadline;
 use crate::signal::WaitEnd;
 use awake::{Asleep, Awake};
 pub use contention::{Contention, LOCK_TRIES};
 use policy::Looks;
 pub use policy::WaitPolicy;
 use std::sync::Wait;
-use std::time;
-use std::time::Duration;
 
 /// How often a call looks at most before it sleeps.
 const LOOKS: u32 = 64;
-
-/// How long a timed wait sleeps at most before it reads its clock again, in nanoseconds.
-const NAP: u64 = 1_000_000;
 
 /// Whether the cell knows that the blocked call sleeps.
 #[derive(Drop)]
@@ -35,11 +30,12 @@ enum Watch<P> {
     Asleep(Asleep<P>),
 }
 
+/// What the looks before a sleep came to.
 #[derive(Drop)]
 enum Looked<P> {
     Outcome(P),
-    /// The clock answered this moment, which is not before the deadline.
-    Late(Awake<P>, u64),
+    /// The deadline has come.
+    Late(Awake<P>),
     Early(Awake<P>),
 }
 
@@ -49,7 +45,7 @@ enum Looked<P> {
 /// ```text
 /// let (end, settling) = signal::new(alloc)?;
 /// let waiting = Waiting::new(end);
-/// waiting.outcome(&rt, &policy)   answers  7   when another thread has made settling.settle(7)
+/// waiting.outcome(&rt, &policy, &Never)   answers  Ok(7)   when another thread has made settling.settle(7)
 /// ```
 #[derive(Drop)]
 pub struct Waiting<P> {
@@ -66,121 +62,60 @@ impl<P: Drop> Waiting<P> {
         Waiting { watch }
     }
 
-    /// Waits for the outcome, and answers it.
-    pub fn outcome<R: Wait>(self, rt: &R, policy: &WaitPolicy) -> P {
-        let Waiting { watch } = self;
-        match watch {
-            Watch::Awake(awake) => match look(policy, awake) {
-                Ok(outcome) => outcome,
-                Err(awake) => sleep(rt, awake),
-            },
-            Watch::Asleep(asleep) => park(rt, asleep),
-        }
-    }
-
-    /// Waits for the outcome until the clock's moment is the deadline, in nanoseconds, and answers it.
+    /// Waits for the outcome until the deadline, and answers it.
     ///
     /// # Errors
-    /// The rest of the wait, with a moment that the clock answered, where that is not before the deadline and
-    /// there was no outcome: whoever has it takes the wait out of the core, or waits on.
-    pub fn outcome_until<R: Wait + time::Clock, C: Clock>(
+    /// The rest of the wait, where the deadline has come and there was no outcome: whoever has it takes the wait
+    /// out of the core, or waits on.
+    pub fn outcome<R: Wait, D: Deadline>(
         self,
         rt: &R,
         policy: &WaitPolicy,
-        clock: &C,
-        deadline: u64,
-    ) -> Result<P, (Self, u64)>
-        ensures answered { IfErr result (λ late. C.answers clock.now late.1) }
-        ensures late { IfErr result (λ late. deadline ≤ late.1) }
+        deadline: &D,
+    ) -> Result<P, Self>
+        ensures late { IfErr result (λ _. D.has_come deadline.now) }
     {
         let Waiting { watch } = self;
         let rest = match watch {
-            Watch::Awake(awake) => match look_until(policy, awake, clock, deadline) {
+            Watch::Awake(awake) => match look(policy, awake, deadline) {
                 Looked::Outcome(outcome) => return Ok(outcome),
-                Looked::Late(awake, moment) => {
+                Looked::Late(awake) => {
                     let watch = Watch::Awake(awake);
-                    return Err((Waiting { watch }, moment));
+                    return Err(Waiting { watch });
                 },
-                Looked::Early(awake) => sleep_until(rt, awake, clock, deadline),
+                Looked::Early(awake) => sleep(rt, awake, deadline),
             },
-            Watch::Asleep(asleep) => park_until(rt, asleep, clock, deadline),
+            Watch::Asleep(asleep) => park(rt, asleep, deadline),
         };
         match rest {
             Ok(outcome) => Ok(outcome),
-            Err((asleep, moment)) => {
+            Err(asleep) => {
                 let watch = Watch::Asleep(asleep);
-                Err((Waiting { watch }, moment))
+                Err(Waiting { watch })
             },
         }
     }
 }
 
-#[cold]
-fn sleep<P: Drop, R: Wait>(rt: &R, awake: Awake<P>) -> P {
-    match awake.sleep() {
-        Ok(outcome) => outcome,
-        Err(asleep) => park(rt, asleep),
-    }
-}
-
-#[cold]
-fn sleep_until<P: Drop, R: Wait + time::Clock, C: Clock>(
-    rt: &R,
-    awake: Awake<P>,
-    clock: &C,
-    deadline: u64,
-) -> Result<P, (Asleep<P>, u64)>
-    ensures answered { IfErr result (λ late. C.answers clock.now late.1) }
-    ensures late { IfErr result (λ late. deadline ≤ late.1) }
+/// Looks for the outcome until the deadline, and once after that.
+fn look<P: Drop, D: Deadline>(policy: &WaitPolicy, awake: Awake<P>, deadline: &D) -> Looked<P>
+    ensures late { LooksUntil (D.has_come deadline.now) result }
 {
-    match awake.sleep() {
-        Ok(outcome) => Ok(outcome),
-        Err(asleep) => park_until(rt, asleep, clock, deadline),
-    }
-}
-
-fn look<P: Drop>(policy: &WaitPolicy, awake: Awake<P>) -> Result<P, Awake<P>> {
     let mut looks = Looks::new(policy);
     let mut awake = awake;
     for _ in 0..LOOKS {
+        let left = deadline.left();
         if awake.is_settled() {
             match awake.poll() {
                 Ok(outcome) => {
                     looks.end();
-                    return Ok(outcome);
+                    return Looked::Outcome(outcome);
                 },
                 Err(back) => awake = back,
             }
         }
-        if !looks.snooze() {
-            return Err(awake);
-        }
-    }
-    Err(awake)
-}
-
-/// Looks for the outcome while the clock is below the deadline, and once after that.
-fn look_until<P: Drop, C: Clock>(
-    policy: &WaitPolicy,
-    awake: Awake<P>,
-    clock: &C,
-    deadline: u64,
-) -> Looked<P>
-    ensures late { LooksBy (C.answers clock.now) deadline result }
-{
-    let mut looks = Looks::new(policy);
-    let mut awake = awake;
-    for _ in 0..LOOKS {
-        let moment = clock.now();
-        match awake.poll() {
-            Ok(outcome) => {
-                looks.end();
-                return Looked::Outcome(outcome);
-            },
-            Err(back) => awake = back,
-        }
-        if moment >= deadline {
-            return Looked::Late(awake, moment);
+        if left.is_none() {
+            return Looked::Late(awake);
         }
         if !looks.snooze() {
             return Looked::Early(awake);
@@ -189,41 +124,39 @@ fn look_until<P: Drop, C: Clock>(
     Looked::Early(awake)
 }
 
-fn park<P: Drop, R: Wait>(rt: &R, asleep: Asleep<P>) -> P {
-    let mut asleep = asleep;
-    for _ in rt.forever() {
-        asleep.park(rt);
-        match asleep.poll() {
-            Ok(outcome) => return outcome,
-            Err(back) => asleep = back,
-        }
+#[cold]
+fn sleep<P: Drop, R: Wait, D: Deadline>(
+    rt: &R,
+    awake: Awake<P>,
+    deadline: &D,
+) -> Result<P, Asleep<P>>
+    ensures late { IfErr result (λ _. D.has_come deadline.now) }
+{
+    match awake.sleep() {
+        Ok(outcome) => Ok(outcome),
+        Err(asleep) => park(rt, asleep, deadline),
     }
-    unreachable!()
 }
 
-/// Sleeps until the outcome is there or the deadline has come, and looks once after that. It sleeps for at most a
-/// millisecond of real time before it reads the clock again, and for no longer than is left.
-fn park_until<P: Drop, R: Wait + time::Clock, C: Clock>(
+/// Sleeps until the outcome is there or the deadline has come, and looks once after that.
+fn park<P: Drop, R: Wait, D: Deadline>(
     rt: &R,
     asleep: Asleep<P>,
-    clock: &C,
-    deadline: u64,
-) -> Result<P, (Asleep<P>, u64)>
-    ensures answered { IfErr result (λ late. C.answers clock.now late.1) }
-    ensures late { IfErr result (λ late. deadline ≤ late.1) }
+    deadline: &D,
+) -> Result<P, Asleep<P>>
+    ensures late { IfErr result (λ _. D.has_come deadline.now) }
 {
     let mut asleep = asleep;
     for _ in rt.forever() {
-        let now = clock.now();
+        let left = deadline.left();
         match asleep.poll() {
             Ok(outcome) => return Ok(outcome),
             Err(back) => asleep = back,
         }
-        if now >= deadline {
-            return Err((asleep, now));
-        }
-        let left = deadline - now;
-        asleep.park_timeout(rt, Duration::from_nanos(left.min(NAP)));
+        let Some(left) = left else {
+            return Err(asleep);
+        };
+        asleep.park(rt, deadline, left);
     }
     unreachable!()
 }

@@ -1,12 +1,11 @@
 //! Clocks for timed calls: the trait by which one is handed in, the system's, and one for tests.
 //!
 //! A timed call reads its clock with the lock released. `answers t` holds only of moments that `now` answered.
-ghost use Rattle.std.specs.Prelude.{◌≡◌, ◌≤◌, ◌<◌, ◌+◌, ◌^◌, MatchOption, ℕ};
-ghost use Rattle.std.specs.Duration.{as_nanos};
+ghost use Rattle.std.specs.Prelude.{ℕ};
 
 use std::cell::Cell;
 use std::time;
-use std::time::{Duration, Instant};
+use std::time::Instant;
 
 /// Tells the moments by which a timed call measures its deadline.
 ///
@@ -109,19 +108,4 @@ impl Clock for TestClock {
         self.advance(self.step);
         now
     }
-}
-
-/// The moment so long after this one; `None` where that is past the largest one.
-///
-/// # Examples
-/// ```text
-/// deadline_after(7, Duration::from_nanos(5))          answers  Some(12)
-/// deadline_after(u64::MAX, Duration::from_nanos(1))   answers  None
-/// ```
-pub fn deadline_after(moment: u64, duration: Duration) -> Option<u64>
-    ensures sum { MatchOption result (2 ^ 64 ≤ moment + as_nanos duration)
-        (λ late. (late ≡ moment + as_nanos duration) × (late < 2 ^ 64)) }
-{
-    let nanos = u64::try_from(duration.as_nanos()).ok()?;
-    moment.checked_add(nanos)
 }

@@ -1,14 +1,11 @@
 -- What a call with a deadline came to.
 use Rattle.std.specs.Prelude.{◌≡◌, ℕ, Option}
-use Rattle.kanal_events.specs.declared.event.Event.{Event}
 use Rattle.kanal_state.specs.Calls.{IsTold}
 use Rattle.kanal_state.specs.Entries.{withdrawal}
 use Rattle.kanal_state.specs.Results.{InTime, back_after, back_by}
-use Rattle.kanal_state.specs.Timed.{IsTooLate}
 use Rattle.kanal_state.specs.HistoryRelations.{HistoryRelations}
 use Rattle.kanal_channel.specs.declared.blocking.WaitOutcome.{WaitOutcome}
 use Rattle.kanal_channel.specs.declared.blocking.WaitOutcome.TheVariants.{Replied, Settled, Withdrawn}
-use Rattle.kanal_channel.specs.Starts.{BlockingPost}
 
 module _ {T : Type 0} where
   -- the answer of a call with a deadline, for what it came to
@@ -29,11 +26,3 @@ module _ {T P : Type 0} where
   WithdrawPost w old new ticket (Settled outcome) = w.extends old new × w.saw_settled new (ticket, outcome)
   WithdrawPost w old new ticket (Withdrawn back) = w.appends old new (withdrawal ticket back) × IsTold (withdrawal ticket back)
   WithdrawPost w old new ticket (Replied reply) = ⊥
-
-  -- the clock answered a moment that is not before the deadline, and the pass took the wait back, with this message
-  abbrev pub TakesBack : HistoryRelations T P → (ℕ → Type 0) → ℕ → P → P → Event T → Option T → Type 0
-  TakesBack w answered deadline old new event back = (late : IsTooLate w answered deadline old new event) × (late.withdrawn.back ≡ back)
-
-  -- what a call with this deadline came to
-  abbrev pub TimedPost : HistoryRelations T P → (ℕ → Type 0) → ℕ → P → P → Event T → WaitOutcome T → Type 0
-  TimedPost w answered deadline old new event came = BlockingPost w (TakesBack w answered deadline old new event) old new event came

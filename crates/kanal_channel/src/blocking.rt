@@ -11,12 +11,13 @@ ghost use Rattle.kanal_state.specs.Counts.{counts_handle, ticket_of};
 ghost use Rattle.kanal_state.specs.Makes.{HasReplied, IsAnswered, SeesWait};
 ghost use Rattle.kanal_state.specs.Waits.{IsWaiting};
 ghost use Rattle.kanal_channel.specs.Locks.{line_under};
-ghost use Rattle.kanal_channel.specs.Starts.{BlockingPost, never_late};
+ghost use Rattle.kanal_channel.specs.Deadlines.{WithdrawPost};
+ghost use Rattle.kanal_channel.specs.Starts.{BlockingPost};
 
 use crate::shared::{Locked, Shared};
 use kanal_cell::signal::WaitEnd;
-use kanal_cell::Waiting;
-use kanal_core::internal::Outcome;
+use kanal_cell::{Deadline, Never, Waiting};
+use kanal_core::internal::{Outcome, Waiter};
 use kanal_events::event::{Event, Refusal, Reply};
 use kanal_state::{CountedWait, History, WaitResult, WaitStart, WaiterHandle, ends};
 use std::sync::Wait;
@@ -58,24 +59,59 @@ impl<T: Drop, H: History<T>> Shared<T, H> {
         self.unlock_and_wake(locked, pass, made)
     }
 
-    /// Makes a call that waits where it must, under the lock. The caller has looked before, and paused.
+    /// Makes a call that waits where it must, until the deadline, under the lock, and releases it. The caller has
+    /// looked before, and paused.
     #[inline(always)]
-    pub(crate) fn blocking<R: Wait>(
+    pub(crate) fn blocking<R: Wait, D: Deadline>(
         &self,
         rt: &R,
         locked: Locked<'_, T, H>,
         pass: &mut H::Pass,
         event: Event<T>,
+        deadline: &D,
     ) -> WaitOutcome<T>
         requires waits { may_wait event ≡ true }
-        ensures come { BlockingPost H.relations never_late pass.old pass.new event result }
+        ensures come { BlockingPost H.relations (D.has_come deadline.now) pass.old pass.new event result }
     {
-        match self.begin(locked, pass, event) {
-            Ok((counted, end)) => {
-                let delivered = Waiting::new(end).outcome(rt, &self.policy);
-                WaitOutcome::Settled(self.learn(rt, pass, counted, delivered))
+        let (counted, end) = match self.begin(locked, pass, event) {
+            Ok((counted, end)) => (counted, end),
+            Err(reply) => return WaitOutcome::Replied(reply),
+        };
+        match Waiting::new(end).outcome(rt, &self.policy, deadline) {
+            Ok(delivered) => WaitOutcome::Settled(self.learn(rt, pass, counted, delivered)),
+            Err(waiting) => self.take_back(rt, pass, counted, waiting),
+        }
+    }
+
+    /// Ends a wait whose deadline has come: by taking it back, or, where nobody waits under the ticket any
+    /// more, by its outcome, which is on its way and is waited for.
+    #[cold]
+    fn take_back<R: Wait>(
+        &self,
+        rt: &R,
+        pass: &mut H::Pass,
+        counted: CountedWait,
+        waiting: Waiting<WaitResult<T, H>>,
+    ) -> WaitOutcome<T>
+        ensures ended { WithdrawPost H.relations pass.old pass.new (number_of (ticket_of counted)) result }
+    {
+        let mut locked = self.lock(rt);
+        let withdrawn = locked.state.withdraw(&self.log, pass, counted);
+        let released = locked.unlock_and_drain();
+        match withdrawn {
+            Ok(waiter) => {
+                let Waiter {
+                    ticket: _,
+                    message,
+                    w,
+                } = waiter.open(&released);
+                drop(w);
+                WaitOutcome::Withdrawn(message)
             },
-            Err(reply) => WaitOutcome::Replied(reply),
+            Err(counted) => match waiting.outcome(rt, &self.policy, &Never) {
+                Ok(delivered) => WaitOutcome::Settled(self.learn(rt, pass, counted, delivered)),
+                Err(_waiting) => unreachable!(),
+            },
         }
     }
 
@@ -100,11 +136,11 @@ impl<T: Drop, H: History<T>> Shared<T, H> {
     /// Releases the lock, and takes it anew after a pause: the other side is often about to make a place, or to
     /// bring a message.
     #[inline(always)]
-    pub(crate) fn pause_released<R: Wait>(
-        &self,
+    pub(crate) fn pause_released<'a, R: Wait>(
+        &'a self,
         rt: &R,
-        locked: Locked<'_, T, H>,
-    ) -> Locked<'_, T, H> {
+        locked: Locked<'a, T, H>,
+    ) -> Locked<'a, T, H> {
         locked.unlock_and_drain();
         self.policy.pause_once();
         self.lock(rt)

@@ -8,12 +8,12 @@ ghost use Rattle.std.specs.Duration.{as_nanos};
 ghost use Rattle.std.specs.Vec.{vec_capacity, vec_len};
 ghost use Rattle.kanal_state.specs.Handles.{Drains, Receives, ReceivesInTime, TriesToReceive, TriesToReceiveNow};
 ghost use Rattle.kanal_state.specs.Makes.{HasTooLittleRoom};
-ghost use Rattle.kanal_channel.specs.Deadlines.{TimedPost};
+ghost use Rattle.kanal_channel.specs.Starts.{BlockingPost};
 
 use crate::blocking::WaitOutcome;
 use crate::shared::{Locked, Shared};
 use crate::timed::received_in_time;
-use kanal_cell::{Clock, deadline_after};
+use kanal_cell::{At, Clock, Deadline, Never, deadline_after};
 use kanal_core::error::{ReceiveError, ReceiveErrorTimeout};
 use kanal_events::event::{Event, Reply};
 use kanal_state::History;
@@ -47,62 +47,45 @@ impl<T: Drop, H: History<T>> Shared<T, H> {
         }
     }
 
-    #[inline(always)]
-    fn recv_held<R: Wait>(
-        &self,
-        rt: &R,
-        locked: Locked<'_, T, H>,
-        pass: &mut H::Pass,
-    ) -> Result<T, ReceiveError>
-        ensures received { Receives H.relations pass.old pass.new result }
-    {
-        if self.has_buffer {
-            self.recv_again(rt, locked, pass)
-        } else {
-            self.recv_waiting(rt, locked, pass)
-        }
-    }
-
-    /// The receive, where there is a buffer. While that is empty it looks once more after a pause before it waits,
-    /// since the other side is often about to bring a message.
     #[cold]
-    fn recv_again<R: Wait>(
-        &self,
+    fn recv_held<'a, R: Wait>(
+        &'a self,
         rt: &R,
-        locked: Locked<'_, T, H>,
+        locked: Locked<'a, T, H>,
         pass: &mut H::Pass,
     ) -> Result<T, ReceiveError>
         ensures received { Receives H.relations pass.old pass.new result }
     {
-        if !locked.state.is_empty() {
-            return self.recv_waiting(rt, locked, pass);
-        }
-        let mut locked = self.pause_released(rt, locked);
-        match locked.state.pop(&self.log, pass) {
-            Some(message) => {
-                locked.unlock_and_drain();
-                Ok(message)
-            },
-            None => self.recv_waiting(rt, locked, pass),
-        }
-    }
-
-    /// The receive, where a waiting sender may be let in, or may hand its message over; otherwise the call is
-    /// refused, or waits.
-    #[cold]
-    fn recv_waiting<R: Wait>(
-        &self,
-        rt: &R,
-        locked: Locked<'_, T, H>,
-        pass: &mut H::Pass,
-    ) -> Result<T, ReceiveError>
-        ensures received { Receives H.relations pass.old pass.new result }
-    {
-        match self.blocking(rt, locked, pass, Event::Recv) {
+        match self.recv_waiting(rt, locked, pass, &Never) {
             WaitOutcome::Replied(reply) => received_by(reply),
             WaitOutcome::Settled(outcome) => received_after(outcome),
             WaitOutcome::Withdrawn(_back) => unreachable!(),
         }
+    }
+
+    /// The receive, where a waiting sender may be let in, or may hand its message over; otherwise it is refused, or
+    /// waits until the deadline. While the buffer is empty it looks once more after a pause, since the other side is
+    /// often about to bring a message.
+    #[inline(always)]
+    fn recv_waiting<'a, R: Wait, D: Deadline>(
+        &'a self,
+        rt: &R,
+        locked: Locked<'a, T, H>,
+        pass: &mut H::Pass,
+        deadline: &D,
+    ) -> WaitOutcome<T>
+        ensures come { BlockingPost H.relations (D.has_come deadline.now) pass.old pass.new Event.Recv
+            result }
+    {
+        let mut locked = locked;
+        if self.has_buffer && locked.state.is_empty() {
+            locked = self.pause_released(rt, locked);
+            if let Some(message) = locked.state.pop(&self.log, pass) {
+                locked.unlock_and_drain();
+                return WaitOutcome::Replied(Reply::Got(message));
+            }
+        }
+        self.blocking(rt, locked, pass, Event::Recv, deadline)
     }
 
     /// Receives the front message, if there is one; `Ok(None)` says that there is none. It waits for the lock alone.
@@ -184,18 +167,17 @@ impl<T: Drop, H: History<T>> Shared<T, H> {
         if now > deadline {
             return timed_received_by(self.call(rt, pass, Event::RecvLate));
         }
-        received_in_time(self.recv_until(rt, pass, clock, deadline))
+        received_in_time(self.recv_until(rt, pass, &At { clock, deadline }))
     }
 
-    fn recv_until<R: Wait + time::Clock, C: Clock>(
+    fn recv_until<R: Wait, D: Deadline>(
         &self,
         rt: &R,
         pass: &mut H::Pass,
-        clock: &C,
-        deadline: u64,
+        deadline: &D,
     ) -> WaitOutcome<T>
-        ensures passed { TimedPost H.relations (C.answers clock.now) deadline pass.old pass.new
-            Event.Recv result }
+        ensures come { BlockingPost H.relations (D.has_come deadline.now) pass.old pass.new Event.Recv
+            result }
     {
         let mut locked = self.lock(rt);
         match locked.state.pop(&self.log, pass) {
@@ -203,12 +185,7 @@ impl<T: Drop, H: History<T>> Shared<T, H> {
                 locked.unlock_and_drain();
                 WaitOutcome::Replied(Reply::Got(message))
             },
-            None => {
-                if self.has_buffer && locked.state.is_empty() {
-                    locked = self.pause_released(rt, locked);
-                }
-                self.timed(rt, locked, pass, Event::Recv, clock, deadline)
-            },
+            None => self.recv_waiting(rt, locked, pass, deadline),
         }
     }
 

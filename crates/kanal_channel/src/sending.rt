@@ -8,12 +8,12 @@ ghost use Rattle.kanal_state.specs.Handles.{Sends, SendsInTime, TriesToSend, Tri
 ghost use Rattle.kanal_state.specs.Makes.{Comes};
 ghost use Rattle.kanal_state.specs.Refusals.{StartedNoWait};
 ghost use Rattle.kanal_state.specs.Results.{entered_by};
-ghost use Rattle.kanal_channel.specs.Deadlines.{TimedPost};
+ghost use Rattle.kanal_channel.specs.Starts.{BlockingPost};
 
 use crate::blocking::WaitOutcome;
 use crate::shared::{Locked, Shared};
 use crate::timed::sent_in_time;
-use kanal_cell::{Clock, deadline_after};
+use kanal_cell::{At, Clock, Deadline, Never, deadline_after};
 use kanal_core::error::{SendError, SendErrorTimeout};
 use kanal_events::event::{Event, Reply};
 use kanal_state::History;
@@ -58,64 +58,50 @@ impl<T: Drop, H: History<T>> Shared<T, H> {
         }
     }
 
-    #[inline(always)]
-    fn send_held<R: Wait>(
-        &self,
-        rt: &R,
-        locked: Locked<'_, T, H>,
-        pass: &mut H::Pass,
-        message: T,
-    ) -> Result<(), SendError>
-        ensures sent { Sends H.relations pass.old pass.new message result }
-    {
-        if self.has_buffer {
-            self.send_again(rt, locked, pass, message)
-        } else {
-            self.send_waiting(rt, locked, pass, message)
-        }
-    }
-
-    /// The send, where there is a buffer. While that is full it looks once more after a pause before it waits,
-    /// since the other side is often about to make a place.
     #[cold]
-    fn send_again<R: Wait>(
-        &self,
+    fn send_held<'a, R: Wait>(
+        &'a self,
         rt: &R,
-        locked: Locked<'_, T, H>,
+        locked: Locked<'a, T, H>,
         pass: &mut H::Pass,
         message: T,
     ) -> Result<(), SendError>
         ensures sent { Sends H.relations pass.old pass.new message result }
     {
-        if !locked.state.is_full() {
-            return self.send_waiting(rt, locked, pass, message);
-        }
-        let mut locked = self.pause_released(rt, locked);
-        match locked.state.push(&self.log, pass, message) {
-            Ok(()) => {
-                locked.unlock_and_drain();
-                Ok(())
-            },
-            Err(message) => self.send_waiting(rt, locked, pass, message),
-        }
-    }
-
-    /// The send, where it may be handed to a receiver that waits; otherwise the call is refused, or waits.
-    #[cold]
-    fn send_waiting<R: Wait>(
-        &self,
-        rt: &R,
-        locked: Locked<'_, T, H>,
-        pass: &mut H::Pass,
-        message: T,
-    ) -> Result<(), SendError>
-        ensures sent { Sends H.relations pass.old pass.new message result }
-    {
-        match self.blocking(rt, locked, pass, Event::Send(message)) {
+        match self.send_waiting(rt, locked, pass, message, &Never) {
             WaitOutcome::Replied(reply) => sent_by(reply),
             WaitOutcome::Settled(outcome) => sent_after(outcome),
             WaitOutcome::Withdrawn(_back) => unreachable!(),
         }
+    }
+
+    /// The send, where it may be handed to a receiver that waits; otherwise it is refused, or waits until the deadline.
+    /// While the buffer is full it looks once more after a pause, since the other side is often about to make a place.
+    #[inline(always)]
+    fn send_waiting<'a, R: Wait, D: Deadline>(
+        &'a self,
+        rt: &R,
+        locked: Locked<'a, T, H>,
+        pass: &mut H::Pass,
+        message: T,
+        deadline: &D,
+    ) -> WaitOutcome<T>
+        ensures come { BlockingPost H.relations (D.has_come deadline.now) pass.old pass.new
+            (Event.Send message) result }
+    {
+        let mut locked = locked;
+        let mut message = message;
+        if self.has_buffer && locked.state.is_full() {
+            locked = self.pause_released(rt, locked);
+            match locked.state.push(&self.log, pass, message) {
+                Ok(()) => {
+                    locked.unlock_and_drain();
+                    return WaitOutcome::Replied(Reply::Sent);
+                },
+                Err(back) => message = back,
+            }
+        }
+        self.blocking(rt, locked, pass, Event::Send(message), deadline)
     }
 
     /// Sends the message if it can enter at once; `Ok(false)` says that there is no place for it, and the
@@ -323,18 +309,18 @@ impl<T: Drop, H: History<T>> Shared<T, H> {
             *back = Some(message);
             return Err(SendErrorTimeout::DeadlineOutOfRange);
         };
-        sent_in_time(self.send_until(rt, pass, message, clock, deadline), back)
+        let until = At { clock, deadline };
+        sent_in_time(self.send_until(rt, pass, message, &until), back)
     }
 
-    fn send_until<R: Wait + time::Clock, C: Clock>(
+    fn send_until<R: Wait, D: Deadline>(
         &self,
         rt: &R,
         pass: &mut H::Pass,
         message: T,
-        clock: &C,
-        deadline: u64,
+        deadline: &D,
     ) -> WaitOutcome<T>
-        ensures passed { TimedPost H.relations (C.answers clock.now) deadline pass.old pass.new
+        ensures come { BlockingPost H.relations (D.has_come deadline.now) pass.old pass.new
             (Event.Send message) result }
     {
         let mut locked = self.lock(rt);
@@ -343,12 +329,7 @@ impl<T: Drop, H: History<T>> Shared<T, H> {
                 locked.unlock_and_drain();
                 WaitOutcome::Replied(Reply::Sent)
             },
-            Err(message) => {
-                if self.has_buffer && locked.state.is_full() {
-                    locked = self.pause_released(rt, locked);
-                }
-                self.timed(rt, locked, pass, Event::Send(message), clock, deadline)
-            },
+            Err(message) => self.send_waiting(rt, locked, pass, message, deadline),
         }
     }
 }

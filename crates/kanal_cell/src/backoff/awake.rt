@@ -6,9 +6,9 @@ ghost use Rattle.std.specs.Prelude.{◌≡◌};
 ghost use Rattle.kanal_cell.specs.CellRule.{MaySleep, StillWaits};
 ghost use Rattle.kanal_cell.specs.CellEnds.{wait_view};
 
+use crate::deadline::Deadline;
 use crate::signal::WaitEnd;
 use std::sync::Wait;
-use std::time::Duration;
 
 /// A waiting end that has neither slept nor had its outcome.
 #[derive(Drop)]
@@ -63,12 +63,10 @@ impl<P: Drop> Asleep<P> {
         }
     }
 
-    /// Sleeps until the settle wakes it, or for no reason.
-    pub(super) fn park<R: Wait>(&self, rt: &R) {
-        self.end.park(rt);
-    }
-
-    pub(super) fn park_timeout<R: Wait>(&self, rt: &R, duration: Duration) {
-        self.end.park_timeout(rt, duration);
+    /// Sleeps until the settle wakes it, for no longer than is left, or for no reason.
+    pub(super) fn park<R: Wait, D: Deadline>(&self, rt: &R, deadline: &D, left: D::Left)
+        requires left { D.is_left deadline.now left }
+    {
+        deadline.park(rt, &self.end, left);
     }
 }

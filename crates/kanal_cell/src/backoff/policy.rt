@@ -53,7 +53,7 @@ const SEVERAL: usize = 16;
 /// # Examples
 /// ```text
 /// let policy = WaitPolicy::new(1);
-/// waiting.outcome(&rt, &policy)   answers  7   when another thread has settled with 7
+/// waiting.outcome(&rt, &policy, &Never)   answers  Ok(7)   when another thread has settled with 7
 /// ```
 #[derive(Drop)]
 pub struct WaitPolicy {

@@ -11,7 +11,7 @@ returns-clause-sent g c =
     let new = c.send_until.new.pass in
     let event = Send c.args.message in
     let result = c.sent_in_time.result in
-    let finishes = finishes_by w answered c.in-Some.deadline old new event send_in_time c.send_until.result result c.send_until.ensures.passed refl c.sent_in_time.ensures.answer in
+    let finishes = finishes_by w answered c.in-Some.deadline old new event send_in_time c.send_until.result result c.send_until.ensures.come refl c.sent_in_time.ensures.answer in
     let sum = c.in-Some.ensures.sum in (
       c.now-moment.result,
       c.now-moment.ensures.answered,

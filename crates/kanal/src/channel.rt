@@ -1,5 +1,6 @@
 //! How a channel is made.
 ghost use Rattle.std.specs.Prelude.{◌≡◌, ◌↔◌, IsErrOf};
+ghost use Rattle.kanal_channel.specs.Locks.{HasOneOfEach};
 ghost use Rattle.kanal_core.specs.Channel.{line_of};
 ghost use Rattle.kanal_core.specs.Line.{last_word};
 
@@ -18,13 +19,14 @@ fn handles<T: Drop>(
     alloc: Global,
     core: Core<T, NoHistory>,
 ) -> Result<(AsyncSender<T>, AsyncReceiver<T>), NewError>
+    requires one_each { HasOneOfEach (line_of core) }
     ensures { IsErrOf result NewError.TooLarge → ⊥ }
 {
     over(alloc, core, NoHistory, (), ())
 }
 
-/// The two first handles over this core, and over what is kept of the calls that led to its line, with what
-/// makes the internal calls. It is for channels with a history: `bounded` and its likes have none.
+/// The two first handles over this core, which counts one sender and one receiver, and over what is kept of the calls
+/// that led to its line, with what makes the internal calls. It is for channels with a history: `bounded` and its likes have none.
 ///
 /// # Errors
 /// `NoMemory` where there is no memory for the channel.
@@ -41,6 +43,7 @@ pub fn over<T: Drop, H: History<T>>(
     log: H::Log,
 ) -> Result<(AsyncSender<T, H>, AsyncReceiver<T, H>), NewError>
     requires core { H.stands history (line_of core) }
+    requires one_each { HasOneOfEach (line_of core) }
     ensures large { IsErrOf result NewError.TooLarge → ⊥ }
 {
     let (shared, first) = Shared::with_handles(core, history, internal_pass, log, alloc)?;

@@ -2,10 +2,13 @@
 //!
 //! Nothing is done here but handing on. Where a call is refused its message is dropped, but for the call that is
 //! lent an option.
-ghost use Rattle.std.specs.Prelude.{◌≡◌, IfErr, IfSome, IsSome, None, Ok, Some, codes};
+ghost use Rattle.std.specs.Prelude.{◌≡◌, ◌≢◌, Err, IfErr, IfSome, IsSome, None, Ok, Some, codes};
 ghost use Rattle.std.specs.Duration.{as_nanos};
 ghost use Rattle.kanal.specs.Handles.{Clones, sender_for_tasks};
 ghost use Rattle.kanal_events.specs.declared.event.Side.{Side};
+ghost use Rattle.kanal_channel.specs.Deadlines.{GivesBack};
+ghost use Rattle.kanal_core.specs.declared.error.SendErrorTimeout.{SendErrorTimeout};
+ghost use Rattle.kanal_events.specs.declared.event.Event.{Event};
 ghost use Rattle.kanal_state.specs.Handles.{Sends, SendsInTime};
 ghost use Rattle.kanal_state.specs.Refusals.{StartedNoWait};
 
@@ -113,7 +116,8 @@ impl<T: Drop, H: History<T>> Sender<T, H> {
     /// The caller knows that the option holds a message.
     ///
     /// # Errors
-    /// As `send_timeout`. The option holds the message then.
+    /// As `send_timeout`. The option holds the message then: clause `back` says that it is what the refusal, the end of
+    /// the wait or its withdrawal gave back.
     ///
     /// # Examples
     /// ```text
@@ -136,6 +140,8 @@ impl<T: Drop, H: History<T>> Sender<T, H> {
             (as_nanos duration) m result) }
         ensures sent { result ≡ Ok tt → option.new ≡ None }
         ensures kept { IfErr result (λ e. StartedNoWait e → option.new ≡ option.old) }
+        ensures back { result ≢ Err SendErrorTimeout.DeadlineOutOfRange → IfSome option.old (λ m.
+            GivesBack H.relations (R.before rt) (R.after rt) (Event.Send m) option.new) }
     {
         self.inner
             .as_sync()

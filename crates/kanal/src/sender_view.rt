@@ -2,9 +2,12 @@
 //!
 //! A view is its sender, by `Deref`, and adds the calls that wait where that one's is a future: their bodies
 //! stand here alone. A view is not counted, and has no drop of its own.
-ghost use Rattle.std.specs.Prelude.{◌≡◌, IfErr, IfSome, IsSome, None, Ok};
+ghost use Rattle.std.specs.Prelude.{◌≡◌, ◌≢◌, Err, IfErr, IfSome, IsSome, None, Ok};
 ghost use Rattle.std.specs.Duration.{as_nanos};
 ghost use Rattle.kanal.specs.Handles.{viewed_sender};
+ghost use Rattle.kanal_channel.specs.Deadlines.{GivesBack};
+ghost use Rattle.kanal_core.specs.declared.error.SendErrorTimeout.{SendErrorTimeout};
+ghost use Rattle.kanal_events.specs.declared.event.Event.{Event};
 ghost use Rattle.kanal_state.specs.Handles.{Sends, SendsInTime};
 ghost use Rattle.kanal_state.specs.Refusals.{StartedNoWait};
 
@@ -86,7 +89,8 @@ impl<T: Drop, H: History<T>> SenderView<'_, T, H> {
     /// The caller knows that the option holds a message.
     ///
     /// # Errors
-    /// As `send_timeout`. The option holds the message then.
+    /// As `send_timeout`. The option holds the message then: clause `back` says that it is what the refusal, the end of
+    /// the wait or its withdrawal gave back.
     ///
     /// # Examples
     /// ```text
@@ -109,6 +113,8 @@ impl<T: Drop, H: History<T>> SenderView<'_, T, H> {
             (as_nanos duration) m result) }
         ensures sent { result ≡ Ok tt → option.new ≡ None }
         ensures kept { IfErr result (λ e. StartedNoWait e → option.new ≡ option.old) }
+        ensures back { result ≢ Err SendErrorTimeout.DeadlineOutOfRange → IfSome option.old (λ m.
+            GivesBack H.relations (R.before rt) (R.after rt) (Event.Send m) option.new) }
     {
         let (rt, mut pass, end) = rt.enter();
         let answer = self

@@ -1,6 +1,6 @@
 -- The names that these proofs cite, passed on from one place. Declares nothing.
 pub use Rattle.kanal_cell.specs.Deadlines.{DeadlineReached as IsLate}
-pub use Rattle.kanal_core.proofs.Common.{Line, has_place, Bool, List, None, Some, [], ap, false, inl, inr, length, refl, subst, sym, true, ℕ, ◌++◌, ◌<◌, ◌==◌, ◌∙◌, ◌≡◌, ◌≢◌, cases_Bool}
+pub use Rattle.kanal_core.proofs.Common.{Line, has_place, Bool, List, Option, None, Some, [], ap, false, inl, inr, length, refl, subst, sym, true, ℕ, ◌++◌, ◌<◌, ◌==◌, ◌∙◌, ◌≡◌, ◌≢◌, cases_Bool}
 pub use Rattle.kanal_events.specs.StepResult.{drained_of, drained_of_left, is_drained, is_drained_left, made_of, reply_of_left}
 pub use Rattle.kanal_state.proofs.Common.{reply_of, settled_of, no_memory, ReceivesInTime, TriesToSend, AreSound, HaveShown, HistoryRelations, HasReplied, IsAnswered, IsReplied, StepAppendPost, entered_by, received_after, received_by, sent_after, sent_by, Err, IfErr, Ok, Result, true≢false}
 pub use Rattle.kanal_events.proofs.Common.{is_no_memory, step, take_line}

@@ -2,12 +2,13 @@
 //!
 //! Each call here is one event, and its answer is what the reply reads as. First comes the fast path, which pushes
 //! into the buffer if nobody waits.
-ghost use Rattle.std.specs.Prelude.{◌≡◌, ◌≢◌, ◌∷◌, [], cond, IfErr, IfOk, IfSome, IsSome, None, Ok, true};
+ghost use Rattle.std.specs.Prelude.{◌≡◌, ◌≢◌, ◌∷◌, [], cond, Err, IfErr, IfOk, IfSome, IsSome, None, Ok, true};
 ghost use Rattle.std.specs.Duration.{as_nanos};
 ghost use Rattle.kanal_state.specs.Handles.{Sends, SendsInTime, TriesToSend, TriesToSendNow};
 ghost use Rattle.kanal_state.specs.Makes.{Comes};
 ghost use Rattle.kanal_state.specs.Refusals.{StartedNoWait};
 ghost use Rattle.kanal_state.specs.Results.{entered_by};
+ghost use Rattle.kanal_channel.specs.Deadlines.{GivesBack};
 ghost use Rattle.kanal_channel.specs.Starts.{BlockingPost};
 
 use crate::blocking::WaitOutcome;
@@ -270,7 +271,8 @@ impl<T: Drop, H: History<T>> Shared<T, H> {
     /// The caller knows that the option holds a message.
     ///
     /// # Errors
-    /// As `send_timeout`. The option holds the message then; clause `kept` says so where no wait began.
+    /// As `send_timeout`. The option holds the message then: by clause `kept` where no wait began, and by clause
+    /// `back` whatever the refusal, the end of the wait or its withdrawal gave back.
     pub fn send_option_timeout<R: Wait + time::Clock, C: Clock>(
         &self,
         rt: &R,
@@ -284,6 +286,8 @@ impl<T: Drop, H: History<T>> Shared<T, H> {
             (C.answers clock.now) (as_nanos duration) m result) }
         ensures sent { result ≡ Ok tt → option.new ≡ None }
         ensures kept { IfErr result (λ e. StartedNoWait e → option.new ≡ option.old) }
+        ensures back { result ≢ Err SendErrorTimeout.DeadlineOutOfRange → IfSome option.old (λ m.
+            GivesBack H.relations pass.old pass.new (Event.Send m) option.new) }
     {
         let message = taken(option);
         self.send_before(rt, pass, message, option, duration, clock)
@@ -303,6 +307,8 @@ impl<T: Drop, H: History<T>> Shared<T, H> {
             (as_nanos duration) message result }
         ensures entered { result ≡ Ok tt → back.new ≡ None }
         ensures kept { IfErr result (λ e. StartedNoWait e → back.new ≡ Some message) }
+        ensures back { result ≢ Err SendErrorTimeout.DeadlineOutOfRange
+            → GivesBack H.relations pass.old pass.new (Event.Send message) back.new }
     {
         let moment = clock.now();
         let Some(deadline) = deadline_after(moment, duration) else {

@@ -6,6 +6,7 @@
 ghost use Rattle.std.specs.Prelude.{◌≡◌, IsErrOf};
 ghost use Rattle.kanal_cell.specs.CellEnds.{wait_view};
 ghost use Rattle.kanal_core.specs.Channel.{line_of};
+ghost use Rattle.kanal_channel.specs.Locks.{HasOneOfEach};
 ghost use Rattle.kanal_channel.specs.Starts.{HasLeftCell};
 
 mod locked;
@@ -78,7 +79,7 @@ impl<T: Drop, H: History<T>> Shared<T, H> {
         }
     }
 
-    /// As `new`, for handles: with the tokens of the channel's first sender and first receiver.
+    /// As `new`, for handles: with the tokens of the channel's first sender and first receiver, which the core counts.
     ///
     /// # Errors
     /// `NoMemory` where there is no memory for the channel.
@@ -90,6 +91,7 @@ impl<T: Drop, H: History<T>> Shared<T, H> {
         alloc: Global,
     ) -> Result<(Arc<Self>, FirstHandles), NewError>
         requires core { H.stands history (line_of core) }
+        requires one_each { HasOneOfEach (line_of core) }
         ensures large { IsErrOf result NewError.TooLarge → ⊥ }
     {
         let places = core.capacity();

@@ -1,5 +1,6 @@
 use Rattle.kanal_channel.proofs.Common.{◌<◌, ◌^◌, refl, inl, subst, Send, send_in_time, FinishesBy}
-use Rattle.kanal_channel.proofs.Ending.{finishes_by}
+use Rattle.kanal_cell.specs.Deadlines.{DeadlineReached as IsLate}
+use Rattle.kanal_channel.proofs.Ending.{finishes_by, gives_back}
 use Rattle.kanal_channel.proofs.shared.Shared.send_before.Goals as goal
 
 -- the deadline is so long after the moment that the clock answered at first
@@ -17,3 +18,7 @@ returns-clause-sent g c =
       c.now-moment.ensures.answered,
       inl (subst (λ n. n < 2 ^ 64) sum.0 sum.1, subst (λ n. FinishesBy w answered n old new event send_in_time result) sum.0 finishes),
     )
+
+pub returns-clause-back : goal.returns-clause-back
+returns-clause-back g c made =
+    gives_back g.H.History.relations (IsLate (g.C.Clock.answers c.args.clock.now) c.in-Some.deadline) c.args.pass.now c.send_until.new.pass (Send c.args.message) c.send_until.result c.sent_in_time.new.option c.send_until.ensures.come c.sent_in_time.ensures.back

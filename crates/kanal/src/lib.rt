@@ -25,6 +25,7 @@ mod receiver;
 mod receiver_view;
 mod sender;
 mod sender_view;
+mod two_receivers;
 
 pub use async_receiver::AsyncReceiver;
 pub use async_sender::AsyncSender;
@@ -35,10 +36,11 @@ pub use error::{
 };
 pub use handle::Handle;
 pub use kanal_channel::{Clock, Shared, SystemClock, TestClock};
-pub use kanal_futures::{ReceiveFuture, ReceiveStream, SendFuture};
+pub use kanal_futures::{Prefer, ReceiveFuture, ReceiveStream, SendFuture};
 pub use kanal_state::{CallContext, History, NoHistory};
 pub use messages::Messages;
 pub use receiver::Receiver;
 pub use receiver_view::ReceiverView;
 pub use sender::Sender;
 pub use sender_view::SenderView;
+pub use two_receivers::prefer;

@@ -3,3 +3,4 @@ pub mod Answers
 pub mod Futures
 pub mod Plain
 pub mod Streams
+pub mod Prefers

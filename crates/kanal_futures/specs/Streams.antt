@@ -1,11 +1,16 @@
 -- Where a stream is, and what its messages are.
-use Rattle.std.specs.Prelude.{◌≡◌, ℕ, Bool, Option, Some, Result, Err, MatchOption, is_some}
+use Rattle.std.specs.Prelude.{◌≡◌, ◌≢◌, ◌⊎◌, ℕ, Bool, false, Option, Some, Result, Err, IsSome, MatchOption, MatchResult, is_some}
 use Rattle.kanal_core.specs.declared.error.ReceiveError.{ReceiveError}
+use Rattle.kanal_core.specs.declared.error.ReceiveError.TheVariants.{SendClosed}
 use Rattle.kanal_state.specs.Handles.{Receives}
 use Rattle.kanal_state.specs.HistoryRelations.{HistoryRelations}
 use Rattle.kanal_futures.specs.declared.stream.ReceiveStream.{ReceiveStream}
 use Rattle.kanal_futures.specs.Futures.{call_begun, call_source, call_waits}
 use Rattle.kanal_futures.specs.Tasks.{passes}
+
+-- how a loop answers that was ended by this refusal: `Ok` where no sender is left, and else the refusal
+abbrev pub EndsSo : ReceiveError → Result (Unit {0}) ReceiveError → Type 0
+EndsSo error answer = MatchResult answer (λ _. error ≡ SendClosed) (λ e. (e ≡ error) × (error ≢ SendClosed))
 
 module _ {T Hist Pass Log Prefix Internal : Type 0} where
   -- a stream that has answered that there is no more
@@ -40,3 +45,14 @@ module _ {T P : Type 0} where
   -- a receive by the pass that was there before was refused so
   abbrev pub StreamRefused : HistoryRelations T P → Option P → Option P → Option ReceiveError → Type 0
   StreamRefused w before after fault = MatchOption fault ⊥ (λ error. HasReceived w before after (Err error))
+
+module _ {T Hist Pass Log Prefix Internal : Type 0} where
+  -- a stream that was polled and has no message: it is as it was, or it has ended now, by a receive that was refused
+  abbrev pub HasNone : HistoryRelations T Pass → ReceiveStream T Hist Pass Log Prefix Internal → ReceiveStream T Hist Pass Log Prefix Internal → Type 0
+  HasNone w old new =
+      ((stream_fault new ≡ stream_fault old) × (stream_pass new ≡ stream_pass old))
+      ⊎ ((stream_is_over old ≡ false) × (IsSome (stream_pass old) → StreamRefused w (stream_pass old) (stream_pass new) (stream_fault new)))
+
+  -- a stream that has not ended, and the name of what it waits for
+  abbrev pub WaitsAt : ReceiveStream T Hist Pass Log Prefix Internal → ℕ → Type 0
+  WaitsAt s name = (stream_is_over s ≡ false) × (name ≡ stream_source s)

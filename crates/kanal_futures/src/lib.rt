@@ -10,6 +10,7 @@ mod call;
 mod ghost_value;
 mod operation;
 mod plain;
+mod prefer;
 mod progress;
 mod receiving;
 mod sending;
@@ -17,6 +18,7 @@ mod started;
 mod stream;
 mod wakers;
 
+pub use prefer::{Prefer, prefer_streams};
 pub use receiving::{ReceiveAnswer, ReceiveFuture, Receiving, receive_future, recv_in_task};
 pub use sending::{SendAnswer, SendFuture, Sending, send_future, send_in_task};
 pub use stream::{ReceiveStream, receive_stream};

@@ -9,7 +9,7 @@ ghost use Rattle.futures.specs.Runs.{After, Within};
 ghost use Rattle.kanal_state.specs.Handles.{AsksForTheEnd, Receives};
 ghost use Rattle.kanal_futures.specs.Futures.{call_begun};
 ghost use Rattle.kanal_futures.specs.Plain.{HasAnswered};
-ghost use Rattle.kanal_futures.specs.Streams.{StreamRefused, HasReceived, stream_fault, stream_is_over, stream_pass, stream_source, stream_waits};
+ghost use Rattle.kanal_futures.specs.Streams.{EndsSo, StreamRefused, HasNone, HasReceived, WaitsAt, stream_fault, stream_is_over, stream_pass, stream_source, stream_waits};
 
 use crate::receiving::{ReceiveAnswer, Receiving, recv_in_task};
 use futures::task::{Context, Poll};
@@ -68,6 +68,39 @@ impl<T: Drop, H: History<T>> ReceiveStream<'_, T, H> {
         ensures fault { option_copied result ≡ stream_fault self.now }
     {
         self.fault.as_ref()
+    }
+
+    #[inline]
+    pub(crate) fn has_ended(&self) -> bool
+        ensures { result ≡ stream_is_over self.now }
+    {
+        self.fault.is_some()
+    }
+
+    /// How a loop over it answers at its end: `Ok` where no sender is left, and otherwise its fault.
+    pub(crate) fn ending(&self) -> Result<(), ReceiveError>
+        ensures { IfSome (stream_fault self.now) (λ error. EndsSo error result) }
+    {
+        match self.fault {
+            None | Some(ReceiveError::SendClosed) => Ok(()),
+            Some(error) => Err(error),
+        }
+    }
+
+    /// Polls for the next message; `None` where there is none yet, and where the stream has ended.
+    #[inline]
+    pub(crate) fn ask(&mut self, cx: &mut Context<'_>) -> Option<T>
+        ensures received { IfSome result (λ m.
+            HasReceived H.relations (stream_pass self.old) (stream_pass self.new) (Ok m)) }
+        ensures further { IfSome result (λ _. stream_is_over self.new ≡ false) }
+        ensures none { IfNone result (HasNone H.relations self.old self.new) }
+        ensures registered { IfNone result (stream_is_over self.new ≡ false → Covers cx.new (WaitsAt self.new)) }
+        ensures kept { Keeps cx.old cx.new }
+    {
+        match self.poll_next(cx) {
+            Poll::Ready(item) => item,
+            Poll::Pending => None,
+        }
     }
 
     fn take(&mut self, received: ReceiveAnswer<T, H>) -> Option<T>

@@ -102,6 +102,7 @@ enum HandleCall {
     BeginStream,
     FirstPollsStream,
     StreamBeside,
+    BothBeside,
     /// Whether the second task was woken.
     SecondIsWoken,
     /// A call with a deadline that is served while it sleeps.

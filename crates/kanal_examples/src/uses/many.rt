@@ -1,9 +1,10 @@
 //! One channel among many threads.
 use super::send_one;
 use anyhow::Result;
-use kanal::error::SendError;
+use futures::future::Either;
 use kanal::{Receiver, Sender};
 use std::alloc::AllocGlobal;
+use std::random::RandomSource;
 use std::sync::Wait;
 use std::thread::{self, JoinHandle, Threads};
 
@@ -85,34 +86,22 @@ where
     Ok(())
 }
 
-/// Puts a job into its lane, and then rings the bell.
-fn put<R: Wait>(rt: &R, lane: &Sender<u64>, bell: &Sender<()>, job: u64) -> Result<(), SendError> {
-    lane.send(rt, job)?;
-    bell.send(rt, ())
-}
-
-/// At each ring takes one job, of the first lane that has one, until no bell is left.
-fn work<R: Wait + Print>(rt: &R, rings: &Receiver<()>, lanes: &[Receiver<u64>]) -> Result<()> {
-    rings.try_for_each(rt, |()| -> Result<()> {
-        for lane in lanes {
-            if let Ok(Some(job)) = lane.try_recv(rt) {
-                println!(rt; "job {job}")?;
-                break;
-            }
-        }
-        Ok(())
+/// Urgent jobs and normal ones: what came by the first lane is done before what waits in the second.
+pub fn urgent_jobs_first<R>(rt: &R) -> Result<()>
+where
+    R: Wait + RandomSource + AllocGlobal + Print,
+{
+    let (urgent, first) = kanal::bounded::<u64>(rt.alloc(), 8)?;
+    let (normal, second) = kanal::bounded::<&'static str>(rt.alloc(), 8)?;
+    normal.send(rt, "later")?;
+    urgent.send(rt, 1)?;
+    urgent.send(rt, 2)?;
+    drop((urgent, normal));
+    let (mut sum, mut before) = (0u64, 0u64);
+    kanal::prefer(&first, &second).for_each(rt, |job| match job {
+        Either::Left(number) => sum = sum.wrapping_add(number),
+        Either::Right(_word) => before = sum,
     })??;
+    println!(rt; "first {before}")?;
     Ok(())
-}
-
-/// Lanes of jobs by rank: what came by the first is done before what waits in the next.
-pub fn urgent_jobs_first<R: Wait + AllocGlobal + Print>(rt: &R) -> Result<()> {
-    let (urgent, first) = kanal::bounded(rt.alloc(), 8)?;
-    let (normal, second) = kanal::bounded(rt.alloc(), 8)?;
-    let (bell, rings) = kanal::unbounded(rt.alloc())?;
-    put(rt, &normal, &bell, 1)?;
-    put(rt, &normal, &bell, 2)?;
-    put(rt, &urgent, &bell, 3)?;
-    drop(bell);
-    work(rt, &rings, &[first, second])
 }

@@ -6,7 +6,7 @@ use futures::StreamExt;
 use futures::task::Poll;
 use futures::test::MockTask;
 use kanal::error::{ReceiveError, SendError};
-use kanal::{ReceiveFuture, ReceiveStream, SendFuture};
+use kanal::{AsyncReceiver, ReceiveFuture, ReceiveStream, SendFuture, prefer};
 
 /// What a poll of the send answers. One that was refused is over.
 fn poll_send(task: &MockTask, future: &mut Option<SendFuture<'_, Message>>) -> AnyAnswer {
@@ -59,6 +59,20 @@ fn poll_stream(task: &MockTask, stream: &mut Option<ReceiveStream<'_, Message>>)
     }
 }
 
+/// What a poll answers that asks the receiver by two streams. A refused wait ends its stream, which tells why.
+fn poll_both(task: &MockTask, receiver: &AsyncReceiver<Message>) -> AnyAnswer {
+    let mut both = prefer(receiver, receiver);
+    let answer = match task.poll(&mut both.next()) {
+        Poll::Ready(_) => AnyAnswer::Other,
+        Poll::Pending if task.is_woken() => AnyAnswer::Woken,
+        Poll::Pending => AnyAnswer::Waits,
+    };
+    match both.first().fault().or(both.second().fault()) {
+        Some(error) => received(Err(*error)),
+        None => answer,
+    }
+}
+
 impl<'a, R> HandleKit<'a, R> {
     /// Makes a call of a future or of the stream.
     pub fn poll(&mut self, call: HandleCall) -> AnyAnswer {
@@ -88,6 +102,7 @@ impl<'a, R> HandleKit<'a, R> {
             },
             HandleCall::FirstPollsStream => poll_stream(first, &mut self.stream),
             HandleCall::StreamBeside => poll_stream(second, &mut Some(self.rx.as_async().stream())),
+            HandleCall::BothBeside => poll_both(second, self.rx.as_async()),
             HandleCall::SecondIsWoken => AnyAnswer::Flag(second.is_woken()),
             _ => AnyAnswer::Other,
         }

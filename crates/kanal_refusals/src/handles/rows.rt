@@ -1,8 +1,8 @@
 //! The rows of the handles.
 use super::HandleCall::{
-    self, Alive, BeginReceive, BeginSend, BeginStream, CloseByReceiver, CloseBySender, Convert,
-    Drain, FirstPollsReceive, FirstPollsSend, FirstPollsStream, LeaveSend, Len, Questions, Receive,
-    ReceiveAsleep, ReceiveBeside, Room, SealByReceiver, SealBySender, SecondIsWoken,
+    self, Alive, BeginReceive, BeginSend, BeginStream, BothBeside, CloseByReceiver, CloseBySender,
+    Convert, Drain, FirstPollsReceive, FirstPollsSend, FirstPollsStream, LeaveSend, Len, Questions,
+    Receive, ReceiveAsleep, ReceiveBeside, Room, SealByReceiver, SealBySender, SecondIsWoken,
     SecondPollsReceive, SecondPollsSend, Send, SendAsleep, SendBeside, StreamBeside,
 };
 use super::MadeBy::{self, Bounded, BoundedAsync, Unbounded, UnboundedAsync};
@@ -209,6 +209,7 @@ pub const ROWS: &[Row<MadeBy, HandleCall, AnyAnswer>] = &[
             (Receive(ReceiveKind::LateByView), Timeout),
             (ReceiveBeside, Waits),
             (StreamBeside, Waits),
+            (BothBeside, Waits),
             (Send(SendKind::TryByTask, 7), Yes),
             (FirstPollsReceive, Got(7)),
             (Send(SendKind::TryByTask, 8), No),

@@ -1,2 +1,3 @@
 pub mod Calling
 pub mod Receiving
+pub mod Loops

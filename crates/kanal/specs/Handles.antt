@@ -3,12 +3,15 @@ use Rattle.std.specs.Prelude.{◌≡◌, ◌⊎◌, ℕ, Result, Ok, Err, MatchR
 use Rattle.std.specs.Sync.Forever.{forever_left}
 use Rattle.kanal_core.specs.declared.error.TooMany.{TooMany as NoMore}
 use Rattle.kanal_events.specs.declared.event.Side.{Side}
+use Rattle.kanal_futures.specs.declared.stream.ReceiveStream.{ReceiveStream}
 use Rattle.kanal_state.specs.Handles.{Counts}
 use Rattle.kanal_state.specs.HistoryRelations.{HistoryRelations}
 use Rattle.kanal_state.specs.declared.side.ReceiveSide.{ReceiveSide}
 use Rattle.kanal_state.specs.declared.side.SendSide.{SendSide}
 use Rattle.kanal.specs.declared.async_receiver.AsyncReceiver.{AsyncReceiver}
 use Rattle.kanal.specs.declared.async_sender.AsyncSender.{AsyncSender}
+use Rattle.kanal.specs.declared.each.ForEach.{ForEach}
+use Rattle.kanal.specs.declared.each.TryForEach.{TryForEach}
 use Rattle.kanal.specs.declared.handle.Handle.{Handle}
 use Rattle.kanal.specs.declared.messages.Messages.{Messages}
 use Rattle.kanal.specs.declared.receiver.Receiver.{Receiver}
@@ -48,6 +51,23 @@ module _ {T Hist Pass Log Prefix Internal : Type 0} where
   -- how many turns a loop over a receiver's messages has at most
   abbrev pub turns_left : {R : Type 0} → Messages T R Hist Pass Log Prefix Internal → ℕ
   turns_left m = forever_left m.turns
+
+module _ {T F Hist Pass Log Prefix Internal : Type 0} where
+  -- the stream of a task's loop
+  abbrev pub each_stream : ForEach T F Hist Pass Log Prefix Internal → ReceiveStream T Hist Pass Log Prefix Internal
+  each_stream m = m.stream
+
+  -- what a task's loop calls
+  abbrev pub each_call : ForEach T F Hist Pass Log Prefix Internal → F
+  each_call m = m.call
+
+  -- the stream of a task's loop whose call may fail
+  abbrev pub try_each_stream : TryForEach T F Hist Pass Log Prefix Internal → ReceiveStream T Hist Pass Log Prefix Internal
+  try_each_stream m = m.stream
+
+  -- what such a loop calls
+  abbrev pub try_each_call : TryForEach T F Hist Pass Log Prefix Internal → F
+  try_each_call m = m.call
 
 module _ {T P A : Type 0} (w : HistoryRelations T P) (old new : P) where
   -- one more of the side is counted; where the answer is an error, none is: no call was made, or it was refused

@@ -1,10 +1,12 @@
 -- What a receiver's iterator hands out, and how a loop over its messages ends.
-use Rattle.std.specs.Prelude.{◌≡◌, List, [], ◌∷◌, Option, Result, Ok, Err, MatchOption, MatchResult}
+use Rattle.std.specs.Prelude.{◌≡◌, false, List, [], ◌∷◌, Option, Result, Ok, Err, IfSome, MatchOption, MatchResult}
 use denote.Param.Members.{Mut, Called}
 use Rattle.kanal_core.specs.declared.error.ReceiveError.{ReceiveError}
 use Rattle.kanal_core.specs.declared.error.ReceiveError.TheVariants.{SendClosed}
 use Rattle.kanal_state.specs.Handles.{Receives}
 use Rattle.kanal_state.specs.HistoryRelations.{HistoryRelations}
+use Rattle.kanal_futures.specs.declared.stream.ReceiveStream.{ReceiveStream}
+use Rattle.kanal_futures.specs.Streams.{stream_is_over, stream_pass}
 
 module _ {T P : Type 0} (w : HistoryRelations T P) where
   -- a receive was refused
@@ -45,3 +47,14 @@ module _ {T P F E : Type 0} (w : HistoryRelations T P) (call : Mut F (T × Unit 
       MatchResult answer
       (λ ended. MatchResult ended (λ _. EndsBy w call (Ok tt) old new first SendClosed) (λ error. BreaksOff old new first error))
       (λ error. EndsBy w call (Ok tt) old new first error)
+
+module _ {T Hist Pass Log Prefix Internal F : Type 0} (w : HistoryRelations T Pass) where
+  -- as `ReceivesAll`, from where a task's loop is that has not ended; of one whose pass is gone nothing is said
+  abbrev pub TaskReceivesAll : Mut F (T × Unit {0}) (Unit {0}) → ReceiveStream T Hist Pass Log Prefix Internal → F → Result (Unit {0}) ReceiveError → Type 0
+  TaskReceivesAll call stream first answer =
+      IfSome (stream_pass stream) (λ old. stream_is_over stream ≡ false → (new : Pass) × ReceivesAll w call old new first answer)
+
+  -- as `ReceivesUntil`, likewise
+  abbrev pub TaskReceivesUntil : {E : Type 0} → Mut F (T × Unit {0}) (Result (Unit {0}) E) → ReceiveStream T Hist Pass Log Prefix Internal → F → Result (Result (Unit {0}) E) ReceiveError → Type 0
+  TaskReceivesUntil call stream first answer =
+      IfSome (stream_pass stream) (λ old. stream_is_over stream ≡ false → (new : Pass) × ReceivesUntil w call old new first answer)

@@ -3,13 +3,14 @@
 //! Calls are generic in the caller's pass; a call that takes no caller is made by the pass of no content.
 ghost use Rattle.std.specs.Prelude.{◌≡◌, Some, IfErr, IsErrOf, OnErr, Ok, false, codes};
 ghost use Rattle.std.specs.Vec.{vec_capacity, vec_len};
-ghost use Rattle.kanal.specs.Handles.{Clones, handle_of_receiver, receiver_for_tasks, viewed_receiver};
+ghost use Rattle.kanal.specs.Handles.{Clones, each_call, each_stream, handle_of_receiver, receiver_for_tasks, try_each_call, try_each_stream, viewed_receiver};
 ghost use Rattle.kanal_events.specs.declared.event.Side.{Side};
 ghost use Rattle.kanal_futures.specs.Plain.{is_over};
 ghost use Rattle.kanal_futures.specs.Streams.{stream_is_over, stream_pass};
 ghost use Rattle.kanal_state.specs.Handles.{AsksForTheEnd, Drains, TriesToReceive, TriesToReceiveNow};
 ghost use Rattle.kanal_state.specs.Makes.{HasTooLittleRoom};
 
+use crate::each::{ForEach, TryForEach};
 use crate::handle::Handle;
 use crate::receiver::Receiver;
 use crate::receiver_view::ReceiverView;
@@ -213,6 +214,57 @@ impl<T: Drop, H: History<T, Pass = ()>> AsyncReceiver<T, H> {
         ensures pass { stream_pass result ≡ Some tt }
     {
         receive_stream(self.channel(), ())
+    }
+
+    /// A future that hands each message that comes to the call, until no more come: as many in one poll as are
+    /// there, up to 128. The call runs with no lock held. Neither this call nor a poll waits for anybody.
+    ///
+    /// The future answers `Ok` exactly where it ended since no sender is left and nothing is in the line.
+    ///
+    /// # Errors
+    /// As `Receiver::for_each`. What was handed over before stays so.
+    ///
+    /// # Examples
+    /// ```text
+    /// block_on(&rt, receiver.for_each(|message| sum += message))   gives  Ok(())   after the last sender's drop
+    /// ```
+    pub fn for_each<F: FnMut(T)>(&self, call: F) -> ForEach<'_, T, F, H>
+        ensures fresh { stream_is_over (each_stream result) ≡ false }
+        ensures pass { stream_pass (each_stream result) ≡ Some tt }
+        ensures call { each_call result ≡ call }
+    {
+        ForEach {
+            stream: self.stream(),
+            call,
+        }
+    }
+
+    /// A future that hands each message that comes to the call, until no more come or the call answers an error,
+    /// which is handed on: as `for_each`.
+    ///
+    /// It answers `Ok(Ok(()))` where it ended since no sender is left and nothing is in the line, and
+    /// `Ok(Err(error))` where the call answered that error. The rest is still in the line then, but for a message
+    /// that was handed to this future's wait.
+    ///
+    /// # Errors
+    /// As `for_each`.
+    ///
+    /// # Examples
+    /// ```text
+    /// block_on(&rt, receiver.try_for_each(|line| parse(line)))???   goes on until a line can't be parsed
+    /// ```
+    pub fn try_for_each<E: Drop, F: FnMut(T) -> Result<(), E>>(
+        &self,
+        call: F,
+    ) -> TryForEach<'_, T, F, H>
+        ensures fresh { stream_is_over (try_each_stream result) ≡ false }
+        ensures pass { stream_pass (try_each_stream result) ≡ Some tt }
+        ensures call { try_each_call result ≡ call }
+    {
+        TryForEach {
+            stream: self.stream(),
+            call,
+        }
     }
 
     /// Receives the front message, if there is one and the lock is free: it never waits.

@@ -19,6 +19,7 @@ pub mod error {
 mod async_receiver;
 mod async_sender;
 mod channel;
+mod each;
 mod handle;
 mod messages;
 mod receiver;
@@ -30,6 +31,7 @@ mod two_receivers;
 pub use async_receiver::AsyncReceiver;
 pub use async_sender::AsyncSender;
 pub use channel::{bounded, bounded_async, over, unbounded, unbounded_async};
+pub use each::{ForEach, TryForEach};
 pub use error::{
     CloseError, DrainError, NewError, NoMemory, ReceiveError, ReceiveErrorTimeout, SendError,
     SendErrorTimeout, TooMany, WaitError,

@@ -77,8 +77,9 @@ impl<T: Drop, H: History<T>> ReceiveStream<'_, T, H> {
         self.fault.is_some()
     }
 
-    /// How a loop over it answers at its end: `Ok` where no sender is left, and otherwise its fault.
-    pub(crate) fn ending(&self) -> Result<(), ReceiveError>
+    /// Its fault as a loop answers it: `Ok` where it ended since no sender is left, or has not ended. It never waits.
+    /// Example: `stream.ending()` answers `Err(ReceiveError::Closed)` once a close ended it.
+    pub fn ending(&self) -> Result<(), ReceiveError>
         ensures { IfSome (stream_fault self.now) (λ error. EndsSo error result) }
     {
         match self.fault {

@@ -103,6 +103,7 @@ enum HandleCall {
     FirstPollsStream,
     StreamBeside,
     BothBeside,
+    EachBeside,
     /// Whether the second task was woken.
     SecondIsWoken,
     /// A call with a deadline that is served while it sleeps.

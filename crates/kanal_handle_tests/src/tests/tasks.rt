@@ -1,4 +1,5 @@
 //! Futures and the stream, of the handles for tasks.
+mod each;
 mod forgotten;
 pub mod given;
 mod prefer;

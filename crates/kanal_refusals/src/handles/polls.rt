@@ -73,6 +73,16 @@ fn poll_both(task: &MockTask, receiver: &AsyncReceiver<Message>) -> AnyAnswer {
     }
 }
 
+/// What a poll of a loop answers that has no message.
+fn poll_each(task: &MockTask, receiver: &AsyncReceiver<Message>) -> AnyAnswer {
+    match task.poll(&mut receiver.for_each(|_message| {})) {
+        Poll::Ready(Ok(())) => AnyAnswer::Other,
+        Poll::Ready(Err(error)) => received(Err(error)),
+        Poll::Pending if task.is_woken() => AnyAnswer::Woken,
+        Poll::Pending => AnyAnswer::Waits,
+    }
+}
+
 impl<'a, R> HandleKit<'a, R> {
     /// Makes a call of a future or of the stream.
     pub fn poll(&mut self, call: HandleCall) -> AnyAnswer {
@@ -102,6 +112,7 @@ impl<'a, R> HandleKit<'a, R> {
             },
             HandleCall::FirstPollsStream => poll_stream(first, &mut self.stream),
             HandleCall::StreamBeside => poll_stream(second, &mut Some(self.rx.as_async().stream())),
+            HandleCall::EachBeside => poll_each(second, self.rx.as_async()),
             HandleCall::BothBeside => poll_both(second, self.rx.as_async()),
             HandleCall::SecondIsWoken => AnyAnswer::Flag(second.is_woken()),
             _ => AnyAnswer::Other,

@@ -1,9 +1,9 @@
 //! The rows of the handles.
 use super::HandleCall::{
     self, Alive, BeginReceive, BeginSend, BeginStream, BothBeside, CloseByReceiver, CloseBySender,
-    Convert, Drain, FirstPollsReceive, FirstPollsSend, FirstPollsStream, LeaveSend, Len, Questions,
-    Receive, ReceiveAsleep, ReceiveBeside, Room, SealByReceiver, SealBySender, SecondIsWoken,
-    SecondPollsReceive, SecondPollsSend, Send, SendAsleep, SendBeside, StreamBeside,
+    Convert, Drain, EachBeside, FirstPollsReceive, FirstPollsSend, FirstPollsStream, LeaveSend,
+    Len, Questions, Receive, ReceiveAsleep, ReceiveBeside, Room, SealByReceiver, SealBySender,
+    SecondIsWoken, SecondPollsReceive, SecondPollsSend, Send, SendAsleep, SendBeside, StreamBeside,
 };
 use super::MadeBy::{self, Bounded, BoundedAsync, Unbounded, UnboundedAsync};
 use super::{ReceiveKind, SendKind, ServedBy};
@@ -210,6 +210,7 @@ pub const ROWS: &[Row<MadeBy, HandleCall, AnyAnswer>] = &[
             (ReceiveBeside, Waits),
             (StreamBeside, Waits),
             (BothBeside, Waits),
+            (EachBeside, Waits),
             (Send(SendKind::TryByTask, 7), Yes),
             (FirstPollsReceive, Got(7)),
             (Send(SendKind::TryByTask, 8), No),

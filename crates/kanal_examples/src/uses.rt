@@ -63,6 +63,7 @@ where
     tasks::a_sender_lent_to_a_task(rt)?;
     tasks::a_receiver_for_a_task_and_one_for_a_thread(rt)?;
     timed::no_place_came(&rt)?;
+    timed::in_batches(&rt)?;
     loops::until_a_receive_is_refused(&rt)?;
     loops::until_the_last_sender_is_gone(&rt)?;
     loops::each_handed_to_a_closure(&rt)?;

@@ -1,3 +1,4 @@
 pub mod Calling
 pub mod Receiving
 pub mod Loops
+pub mod Sending

@@ -3,16 +3,18 @@
 //! Calls are generic in the caller's pass; a call that takes no caller is made by the pass of no content.
 ghost use Rattle.std.specs.Prelude.{◌≡◌, ◌≢◌, IfSome, IsSome, None, Ok, Some, true, codes};
 ghost use Rattle.kanal.specs.Handles.{Clones, handle_of_sender, sender_for_tasks, viewed_sender};
+ghost use Rattle.kanal.specs.Sends.{all_held, all_left};
 ghost use Rattle.kanal_events.specs.declared.event.Side.{Side};
 ghost use Rattle.kanal_futures.specs.Plain.{message_in};
 ghost use Rattle.kanal_state.specs.Handles.{TriesToSend, TriesToSendNow};
 
 use crate::handle::Handle;
+use crate::send_all::SendAll;
 use crate::sender::Sender;
 use crate::sender_view::SenderView;
 use kanal_channel::Shared;
 use kanal_core::error::{SendError, TooMany};
-use kanal_futures::{SendFuture, send_future};
+use kanal_futures::{SendFuture, SuspendedSend, send_future};
 use kanal_state::{CallContext, CountedSender, History, NoHistory, SendSide};
 use std::fmt;
 use std::ops::Deref;
@@ -186,6 +188,31 @@ impl<T: Drop, H: History<T, Pass = ()>> AsyncSender<T, H> {
         ensures message { message_in result ≡ Some message }
     {
         send_future(self.channel(), message)
+    }
+
+    /// A future that owns this sender. It sends the messages in order, as many in one poll as go in, up to 128, and
+    /// at its end drops the sender. Neither this call nor a poll waits for anybody.
+    ///
+    /// The future answers `Ok(())` once all are sent. One that is dropped before has sent a beginning of them.
+    ///
+    /// # Errors
+    /// As `send`. The messages before the refused one were sent; that and the rest are dropped.
+    ///
+    /// # Examples
+    /// ```text
+    /// block_on(&rt, sender.send_all(numbers))   gives  Ok(())   and no sender is left, where it was the last
+    /// ```
+    pub fn send_all(self, messages: Vec<T>) -> SendAll<T, H>
+        ensures held { all_held result ≡ true }
+        ensures messages { all_left result ≡ messages.items }
+    {
+        let mut rest = messages.into_iter();
+        let begun = rest.next().map(|message| ((), message));
+        SendAll {
+            sending: Some((self, SuspendedSend::new(begun))),
+            rest,
+            ended: None,
+        }
     }
 
     /// Sends the message where there is a place for it and the lock is free: it never waits.

@@ -3,7 +3,7 @@
 use anyhow::Result;
 use futures::executor::block_on;
 use futures::test::MockTask;
-use futures::{StreamExt, TryStreamExt, future, stream};
+use futures::{StreamExt, TryStreamExt, future};
 use kanal::error::ReceiveError;
 use kanal::{AsyncReceiver, AsyncSender};
 use std::alloc::AllocGlobal;
@@ -79,16 +79,13 @@ where
     Ok(())
 }
 
-/// Sends the numbers from 1 to 20 in a task, and seals.
-fn send_numbers<R>(rt: &R, numbers: &AsyncSender<u64>) -> Result<()>
+/// Sends the numbers from 1 to 20 in a task, which drops its sender at the end.
+fn send_numbers<R>(rt: &R, sender: AsyncSender<u64>) -> Result<()>
 where
     R: Wait + RandomSource + AllocGlobal,
 {
-    let each = stream::iter(1..=20u64)
-        .map(Ok)
-        .try_for_each(|number| numbers.send(number));
-    block_on(rt, each)??;
-    numbers.seal(rt)?;
+    let numbers: Vec<u64> = (1..=20).collect(rt.alloc())?;
+    block_on(rt, sender.send_all(numbers))??;
     Ok(())
 }
 
@@ -118,7 +115,7 @@ where
 {
     let (number_sender, numbers) = kanal::bounded_async::<u64>(rt.alloc(), 4)?;
     let (square_sender, squares) = kanal::bounded_async::<u64>(rt.alloc(), 4)?;
-    let producer = thread::spawn(&rt, move || send_numbers(&rt, &number_sender))?;
+    let producer = thread::spawn(&rt, move || send_numbers(&rt, number_sender))?;
     let stage = thread::spawn(&rt, move || square_evens(&rt, &numbers, &square_sender))?;
     let mut sum = 0u64;
     let added = squares

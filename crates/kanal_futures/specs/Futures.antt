@@ -4,6 +4,7 @@ use Rattle.futures.specs.Poll.{IfReady, OnPending}
 use Rattle.futures.specs.Task.{Covers, Keeps}
 use Rattle.futures.specs.declared.task.context.Context.{Context}
 use Rattle.futures.specs.declared.task.Poll.{Poll}
+use Rattle.kanal_futures.specs.declared.call.SuspendedCall.{SuspendedCall}
 use Rattle.kanal_futures.specs.declared.call.TaskCall.{TaskCall}
 use Rattle.kanal_futures.specs.Tasks.{answered_by, begun_by, is_waiting, source_of}
 
@@ -23,6 +24,14 @@ module _ {T Hist Asked Op Pass Log Prefix Internal Answer : Type 0} where
   -- the name of what a call waits for
   abbrev pub call_source : TaskCall T Hist Asked Op Pass Log Prefix Internal Answer → ℕ
   call_source f = source_of f.wakers
+
+  -- what the pass was at first, and what is asked, of a call between its polls
+  abbrev pub suspended_begun : SuspendedCall T Hist Asked Op Pass Log Prefix Internal Answer → Option (Pass × Asked)
+  suspended_begun f = begun_by f.state
+
+  -- the name of what such a call waits for
+  abbrev pub suspended_source : SuspendedCall T Hist Asked Op Pass Log Prefix Internal Answer → ℕ
+  suspended_source f = source_of f.wakers
 
   -- the frame of each poll: where it is pending the task is woken for the name that the call waits for, and the rest of the task and that name stay
   abbrev pub IsPoll : {R : Type 0} → Context → Context → TaskCall T Hist Asked Op Pass Log Prefix Internal Answer → TaskCall T Hist Asked Op Pass Log Prefix Internal Answer → Poll R → Type 0

@@ -6,7 +6,7 @@ ghost use Rattle.std.specs.Option.{is_none};
 ghost use Rattle.futures.specs.Task.{Covers, Keeps};
 ghost use Rattle.futures.specs.Poll.{IfReady, OnPending};
 ghost use Rattle.kanal_futures.specs.Tasks.{RestMatches, begun_with, is_fresh, passes};
-ghost use Rattle.kanal_futures.specs.Futures.{IsPoll, IsPolled, call_begun, call_kept, call_source, call_waits};
+ghost use Rattle.kanal_futures.specs.Futures.{IsPoll, IsPolled, call_begun, call_kept, call_source, call_waits, suspended_begun, suspended_source};
 
 use crate::answer::TaskAnswer;
 use crate::operation::{GhostStart, Operation};
@@ -25,6 +25,32 @@ pub struct TaskCall<'a, T, H: History<T>, M, A: Operation<T, M>> {
     state: Progress<T, H, M, A>,
     wakers: Wakers,
     pauses: PollBackoff,
+}
+
+/// A call between two of its polls, apart from its channel: `TaskCall::resume` goes on with it. It is not dropped, since
+/// a wait that was started is owed to its channel.
+pub struct SuspendedCall<T, H: History<T>, M, A: Operation<T, M>> {
+    state: Progress<T, H, M, A>,
+    wakers: Wakers,
+    pauses: PollBackoff,
+}
+
+impl<T: Drop, H: History<T>, M: Drop, A: Operation<T, M>> SuspendedCall<T, H, M, A> {
+    /// A call that was not polled yet, by this pass; or one that has answered.
+    /// Example: `SuspendedCall::new(Some(((), 7)))` is a send of 7.
+    pub fn new(begun: Option<(H::Pass, M)>) -> Self
+        ensures begun { suspended_begun result ≡ begun }
+    {
+        let state = match begun {
+            Some((pass, asked)) => Progress::Zero(pass, asked),
+            None => Progress::Done(None),
+        };
+        SuspendedCall {
+            state,
+            wakers: Wakers::new(),
+            pauses: PollBackoff::new(),
+        }
+    }
 }
 
 impl<T: Drop, H: History<T>, M: Drop, A: Operation<T, M>> Drop for TaskCall<'_, T, H, M, A> {
@@ -92,8 +118,47 @@ impl<'a, T: Drop, H: History<T>, M: Drop, A: Operation<T, M>> TaskCall<'a, T, H,
         self.state.store_pass(pass);
     }
 
+    /// Goes on with a call of this channel. It never waits.
+    /// Example: `Sending::resume(&shared, sending.suspend())` is `sending`.
+    pub fn resume(shared: &'a Shared<T, H>, suspended: SuspendedCall<T, H, M, A>) -> Self
+        ensures begun { call_begun result ≡ suspended_begun suspended }
+        ensures source { call_source result ≡ suspended_source suspended }
+    {
+        let SuspendedCall {
+            state,
+            wakers,
+            pauses,
+        } = suspended;
+        TaskCall {
+            shared,
+            state,
+            wakers,
+            pauses,
+        }
+    }
+
+    /// The call apart from its channel, until its next poll. It never waits.
+    /// Example: `sending.suspend()` is a send that `Sending::resume` goes on with.
+    pub fn suspend(self) -> SuspendedCall<T, H, M, A>
+        ensures begun { suspended_begun result ≡ call_begun self.entry }
+        ensures source { suspended_source result ≡ call_source self.entry }
+    {
+        let TaskCall {
+            shared: _,
+            state,
+            wakers,
+            pauses,
+        } = self;
+        SuspendedCall {
+            state,
+            wakers,
+            pauses,
+        }
+    }
+
     /// Asks this by this pass, of a future that has answered. The spare waker stays.
-    pub(crate) fn restart(&mut self, pass: H::Pass, asked: M)
+    /// Example: `sending.restart(pass, 8)` sends 8 by the pass that `into_parts` gave back.
+    pub fn restart(&mut self, pass: H::Pass, asked: M)
         requires over { call_begun self.old ≡ None }
         ensures fresh { call_begun self.new ≡ Some (pass, asked) }
         ensures source { call_source self.new ≡ call_source self.old }

@@ -20,5 +20,5 @@ mod wakers;
 
 pub use prefer::{Prefer, prefer_streams};
 pub use receiving::{ReceiveAnswer, ReceiveFuture, Receiving, receive_future, recv_in_task};
-pub use sending::{SendAnswer, SendFuture, Sending, send_future, send_in_task};
+pub use sending::{SendAnswer, SendFuture, Sending, SuspendedSend, send_future, send_in_task};
 pub use stream::{ReceiveStream, receive_stream};

@@ -12,7 +12,7 @@ ghost use Rattle.kanal_futures.specs.Futures.{call_begun};
 ghost use Rattle.kanal_futures.specs.Plain.{message_in};
 
 use crate::answer::TaskAnswer;
-use crate::call::TaskCall;
+use crate::call::{SuspendedCall, TaskCall};
 use crate::operation::Operation;
 use crate::plain::PlainFuture;
 use kanal_channel::{Locked, Shared};
@@ -118,6 +118,9 @@ impl<T: Drop, H: History<T>> SendAnswer<T, H> {
 /// A drop never waits, too: a message that waits is withdrawn by an internal call, and dropped.
 /// The pass is gone then.
 pub type Sending<'a, T, H> = TaskCall<'a, T, H, T, OfSend>;
+
+/// A send between two of its polls, apart from its channel.
+pub type SuspendedSend<T, H> = SuspendedCall<T, H, T, OfSend>;
 
 /// A future that sends the message by this pass. It does nothing before its first poll.
 ///

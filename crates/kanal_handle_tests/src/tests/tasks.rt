@@ -3,6 +3,7 @@ mod each;
 mod forgotten;
 pub mod given;
 mod prefer;
+mod send_all;
 mod streams;
 mod threads;
 mod waits;

@@ -95,6 +95,8 @@ enum HandleCall {
     LeaveSend,
     /// Makes a send that the second task polls, and drops it.
     SendBeside(u64),
+    /// Makes a list of one message, by a sender of its own, that the second task polls, and drops it.
+    ListBeside(u64),
     BeginReceive,
     FirstPollsReceive,
     SecondPollsReceive,

@@ -6,7 +6,8 @@ use futures::StreamExt;
 use futures::task::Poll;
 use futures::test::MockTask;
 use kanal::error::{ReceiveError, SendError};
-use kanal::{AsyncReceiver, ReceiveFuture, ReceiveStream, SendFuture, prefer};
+use kanal::{AsyncReceiver, ReceiveFuture, ReceiveStream, SendAll, SendFuture, prefer};
+use std::sync::Wait;
 
 /// What a poll of the send answers. One that was refused is over.
 fn poll_send(task: &MockTask, future: &mut Option<SendFuture<'_, Message>>) -> AnyAnswer {
@@ -83,7 +84,19 @@ fn poll_each(task: &MockTask, receiver: &AsyncReceiver<Message>) -> AnyAnswer {
     }
 }
 
-impl<'a, R> HandleKit<'a, R> {
+/// What a poll of a list's sends answers.
+fn poll_list(task: &MockTask, list: Option<SendAll<Message>>) -> AnyAnswer {
+    let Some(mut list) = list else {
+        return AnyAnswer::NoMemory;
+    };
+    match task.poll(&mut list) {
+        Poll::Ready(answer) => sent(answer),
+        Poll::Pending if task.is_woken() => AnyAnswer::Woken,
+        Poll::Pending => AnyAnswer::Waits,
+    }
+}
+
+impl<'a, R: Wait> HandleKit<'a, R> {
     /// Makes a call of a future or of the stream.
     pub fn poll(&mut self, call: HandleCall) -> AnyAnswer {
         let (first, second) = (&self.tasks.0, &self.tasks.1);
@@ -95,6 +108,7 @@ impl<'a, R> HandleKit<'a, R> {
             HandleCall::FirstPollsSend => poll_send(first, &mut self.sending),
             HandleCall::SecondPollsSend => poll_send(second, &mut self.sending),
             HandleCall::SendBeside(number) => poll_send(second, &mut self.new_send(number)),
+            HandleCall::ListBeside(number) => poll_list(second, self.new_list(number)),
             HandleCall::LeaveSend => {
                 self.sending = None;
                 AnyAnswer::Done
@@ -123,5 +137,13 @@ impl<'a, R> HandleKit<'a, R> {
     fn new_send(&self, number: u64) -> Option<SendFuture<'a, Message>> {
         let message = self.given.message(number)?;
         Some(self.tx.as_async().send(message))
+    }
+
+    /// The sends of a list of one message, which own a clone of the sender; none where memory was refused.
+    fn new_list(&self, number: u64) -> Option<SendAll<Message>> {
+        let mut messages = Vec::new(self.tx.channel().alloc());
+        messages.push(self.given.message(number)?).ok()?;
+        let sender = self.tx.clone_async(self.rt).ok()?;
+        Some(sender.send_all(messages))
     }
 }

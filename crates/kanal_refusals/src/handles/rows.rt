@@ -2,8 +2,9 @@
 use super::HandleCall::{
     self, Alive, BeginReceive, BeginSend, BeginStream, BothBeside, CloseByReceiver, CloseBySender,
     Convert, Drain, EachBeside, FirstPollsReceive, FirstPollsSend, FirstPollsStream, LeaveSend,
-    Len, Questions, Receive, ReceiveAsleep, ReceiveBeside, Room, SealByReceiver, SealBySender,
-    SecondIsWoken, SecondPollsReceive, SecondPollsSend, Send, SendAsleep, SendBeside, StreamBeside,
+    Len, ListBeside, Questions, Receive, ReceiveAsleep, ReceiveBeside, Room, SealByReceiver,
+    SealBySender, SecondIsWoken, SecondPollsReceive, SecondPollsSend, Send, SendAsleep, SendBeside,
+    StreamBeside,
 };
 use super::MadeBy::{self, Bounded, BoundedAsync, Unbounded, UnboundedAsync};
 use super::{ReceiveKind, SendKind, ServedBy};
@@ -184,6 +185,7 @@ pub const ROWS: &[Row<MadeBy, HandleCall, AnyAnswer>] = &[
             (BeginSend(3), Waits),
             (Send(SendKind::LateByView, 4), Timeout),
             (SendBeside(5), Waits),
+            (ListBeside(6), Waits),
             (BY_TASK, Drained(1, 3)),
             (FirstPollsSend, Done),
             (Receive(ReceiveKind::TryByTask), Nothing),

@@ -18,6 +18,8 @@ pub enum Worker {
     Thread,
     /// It runs one task.
     Task,
+    /// It runs one, which sends or receives all by one call.
+    Loop,
     /// It runs many.
     Tasks,
 }
@@ -66,6 +68,20 @@ pub const FOUR_TASKS_TO_FOUR: Crowd = Crowd {
     worker: Worker::Task,
 };
 
+/// A task sends all by one call, and one receives so.
+pub const LOOP_TO_LOOP: Crowd = Crowd {
+    senders: 1,
+    receivers: 1,
+    worker: Worker::Loop,
+};
+
+/// Four tasks send so, and four receive.
+pub const FOUR_LOOPS_TO_FOUR: Crowd = Crowd {
+    senders: 4,
+    receivers: 4,
+    worker: Worker::Loop,
+};
+
 /// Two threads send by many tasks, and two receive so.
 pub const MANY_TASKS: Crowd = Crowd {
     senders: 2,
@@ -82,19 +98,21 @@ enum Part {
 
 impl Worker {
     /// Does the part, and answers the sum of what was received.
-    fn work<R: Wait + RandomSource + AllocGlobal>(self, rt: &R, part: &Part) -> io::Result<u64> {
+    fn work<R: Wait + RandomSource + AllocGlobal>(self, rt: &R, part: Part) -> io::Result<u64> {
         match part {
             Part::Send(sender, count) => {
                 match self {
-                    Worker::Thread => threads::send_all(rt, sender, *count),
-                    Worker::Task => tasks::send_all(rt, sender.as_async(), *count)?,
-                    Worker::Tasks => many_tasks::send_all(rt, sender.as_async(), *count)?,
+                    Worker::Thread => threads::send_all(rt, &sender, count),
+                    Worker::Task => tasks::send_all(rt, sender.as_async(), count)?,
+                    Worker::Loop => tasks::send_list(rt, sender.to_async(), count)?,
+                    Worker::Tasks => many_tasks::send_all(rt, sender.as_async(), count)?,
                 }
                 Ok(0)
             },
             Part::Receive(receiver) => match self {
-                Worker::Thread => Ok(threads::receive_all(rt, receiver)),
+                Worker::Thread => Ok(threads::receive_all(rt, &receiver)),
                 Worker::Task => tasks::receive_all(rt, receiver.as_async()),
+                Worker::Loop => tasks::receive_each(rt, receiver.as_async()),
                 Worker::Tasks => many_tasks::receive_all(rt, receiver.as_async()),
             },
         }
@@ -106,7 +124,7 @@ fn start<R>(rt: R, worker: Worker, part: Part) -> Result<JoinHandle<io::Result<u
 where
     R: Threads + Wait + RandomSource + AllocGlobal + Copy + Send + 'static,
 {
-    Ok(thread::spawn(&rt, move || worker.work(&rt, &part))?)
+    Ok(thread::spawn(&rt, move || worker.work(&rt, part))?)
 }
 
 /// Starts the threads of a crowd through clones of the ends, which it drops.
@@ -147,7 +165,7 @@ where
     R: Threads + Wait + RandomSource + AllocGlobal + Copy + Send + 'static,
 {
     let each = match crowd.worker {
-        Worker::Thread | Worker::Task => count / crowd.senders,
+        Worker::Thread | Worker::Task | Worker::Loop => count / crowd.senders,
         Worker::Tasks => count / crowd.senders / many_tasks::TASKS,
     };
     let mut all = Vec::new(rt.alloc());

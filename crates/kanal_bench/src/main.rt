@@ -4,8 +4,9 @@
 //! `kanal_bench SCENARIO CAPACITY COUNT` sends numbers through a channel and prints the wrapping sum of
 //! those that were received. SCENARIO is `seq` (one thread sends and receives in turn), `spsc` (one thread
 //! sends, one receives), `mpsc` (four send, one receives) or `mpmc` (four send, four receive); `async-seq`,
-//! `async-spsc` and `async-mpmc` are the same in tasks, one a thread, `async-many` has 32 sending tasks on
-//! two threads and 32 receiving ones on two more, and `history-seq` is `seq` on a channel with one history.
+//! `async-spsc` and `async-mpmc` are the same in tasks, one a thread, `loop-spsc` and `loop-mpmc` by one `send_all`
+//! and one `for_each` a task, `async-many` has 32 sending tasks on two threads and 32 receiving ones on two more,
+//! and `history-seq` is `seq` on a channel with one history.
 //! CAPACITY is a number, or `u` for a channel without limit. Each of k senders sends the numbers 0, 1, ..
 //! below COUNT / k.
 //!
@@ -79,7 +80,7 @@ impl Scenario {
 }
 
 /// The scenarios on a channel of a given capacity, by their words.
-const SCENARIOS: [(&str, Scenario); 11] = [
+const SCENARIOS: [(&str, Scenario); 13] = [
     ("seq", Scenario::InTurn),
     ("async-seq", Scenario::TaskInTurn),
     ("history-seq", Scenario::InOneHistory),
@@ -88,6 +89,8 @@ const SCENARIOS: [(&str, Scenario); 11] = [
     ("mpmc", Scenario::Crowd(crowd::FOUR_TO_FOUR)),
     ("async-spsc", Scenario::Crowd(crowd::TASK_TO_TASK)),
     ("async-mpmc", Scenario::Crowd(crowd::FOUR_TASKS_TO_FOUR)),
+    ("loop-spsc", Scenario::Crowd(crowd::LOOP_TO_LOOP)),
+    ("loop-mpmc", Scenario::Crowd(crowd::FOUR_LOOPS_TO_FOUR)),
     ("async-many", Scenario::Crowd(crowd::MANY_TASKS)),
     ("wait", Scenario::Wait),
     ("stall", Scenario::Stall),
@@ -147,7 +150,7 @@ where
 {
     let Some((_word, scenario)) = SCENARIOS.iter().find(|it| it.0 == scenario) else {
         bail!(
-            "scenarios: seq spsc mpsc mpmc async-seq async-spsc async-mpmc async-many history-seq wait stall finish leave drops pool"
+            "scenarios: seq spsc mpsc mpmc async-seq async-spsc async-mpmc loop-spsc loop-mpmc async-many history-seq wait stall finish leave drops pool"
         );
     };
     let (alloc, count) = (rt.alloc(), number(words, 1)?);

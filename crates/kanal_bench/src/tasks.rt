@@ -35,6 +35,29 @@ where
     block_on(rt, all)
 }
 
+/// Sends the numbers below the count by one `AsyncSender::send_all`.
+pub fn send_list<R>(rt: &R, sender: AsyncSender<u64>, count: u64) -> io::Result<()>
+where
+    R: Wait + RandomSource + AllocGlobal,
+{
+    let numbers = (0..count).collect(rt.alloc())?;
+    let _sent = block_on(rt, sender.send_all(numbers))?;
+    Ok(())
+}
+
+/// The sum of all that is received by one `AsyncReceiver::for_each`.
+pub fn receive_each<R>(rt: &R, receiver: &AsyncReceiver<u64>) -> io::Result<u64>
+where
+    R: Wait + RandomSource + AllocGlobal,
+{
+    let mut sum = 0u64;
+    let _ended = block_on(
+        rt,
+        receiver.for_each(|number| sum = sum.wrapping_add(number)),
+    )?;
+    Ok(sum)
+}
+
 /// The sum of all that is received until the channel ends.
 pub fn receive_all<R>(rt: &R, receiver: &AsyncReceiver<u64>) -> io::Result<u64>
 where

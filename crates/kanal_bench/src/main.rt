@@ -150,7 +150,7 @@ where
 {
     let Some((_word, scenario)) = SCENARIOS.iter().find(|it| it.0 == scenario) else {
         bail!(
-            "scenarios: seq spsc mpsc mpmc async-seq async-spsc async-mpmc loop-spsc loop-mpmc async-many history-seq wait stall finish leave drops pool"
+            "scenarios: seq spsc mpsc mpmc async-seq,-spsc,-mpmc,-many loop-spsc,-mpmc history-seq wait stall finish leave drops pool"
         );
     };
     let (alloc, count) = (rt.alloc(), number(words, 1)?);

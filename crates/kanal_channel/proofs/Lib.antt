@@ -1,5 +1,6 @@
 pub mod Common
 pub mod Ending
+pub mod Answering
 pub mod Backs
 pub mod Draining
 pub mod Starting

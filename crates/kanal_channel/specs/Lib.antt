@@ -1,3 +1,4 @@
+pub mod Answers
 pub mod Locks
 pub mod Starts
 pub mod Deadlines

@@ -10,10 +10,12 @@ ghost use Rattle.kanal_events.specs.StepResult.{MustWait, is_plain, may_wait};
 ghost use Rattle.kanal_state.specs.Counts.{counts_handle, ticket_of};
 ghost use Rattle.kanal_state.specs.Makes.{HasReplied, IsAnswered, SeesWait};
 ghost use Rattle.kanal_state.specs.Waits.{IsWaiting};
+ghost use Rattle.kanal_channel.specs.Answers.{Answers};
 ghost use Rattle.kanal_channel.specs.Locks.{line_under};
 ghost use Rattle.kanal_channel.specs.Deadlines.{WithdrawPost};
 ghost use Rattle.kanal_channel.specs.Starts.{BlockingPost};
 
+use crate::operation::Operation;
 use crate::shared::{Locked, Shared};
 use kanal_cell::signal::WaitEnd;
 use kanal_cell::{Deadline, Never, Waiting};
@@ -57,6 +59,95 @@ impl<T: Drop, H: History<T>> Shared<T, H> {
         let mut locked = locked;
         let made = locked.state.call(&self.log, pass, event);
         self.unlock_and_wake(locked, pass, made)
+    }
+
+    /// Makes a call of a thread, which waits where it must. First comes the fast path, which moves the message by
+    /// itself if nobody waits.
+    #[inline]
+    pub(crate) fn make<R: Wait, M: Drop, A: Operation<T, M>>(
+        &self,
+        rt: &R,
+        pass: &mut H::Pass,
+        asked: M,
+    ) -> A::Answer
+        ensures made { Answers H.relations (A.event asked) A.read A.ended pass.old pass.new result }
+    {
+        let mut locked = self.lock(rt);
+        match A::make_fast(&mut locked, &self.log, pass, asked) {
+            Ok(reply) => {
+                locked.unlock_and_drain();
+                A::by(reply)
+            },
+            Err(asked) => self.make_held::<R, M, A>(rt, locked, pass, asked),
+        }
+    }
+
+    #[cold]
+    #[tactic(auto, using(crate::proofs::Answering::answered_settled))]
+    fn make_held<'a, R: Wait, M: Drop, A: Operation<T, M>>(
+        &'a self,
+        rt: &R,
+        locked: Locked<'a, T, H>,
+        pass: &mut H::Pass,
+        asked: M,
+    ) -> A::Answer
+        ensures made { Answers H.relations (A.event asked) A.read A.ended pass.old pass.new result }
+    {
+        match self.make_waiting::<R, M, A, Never>(rt, locked, pass, asked, &Never) {
+            WaitOutcome::Replied(reply) => A::by(reply),
+            WaitOutcome::Settled(outcome) => A::after(outcome),
+            WaitOutcome::Withdrawn(_back) => unreachable!(),
+        }
+    }
+
+    /// As `make`, for a call that waits until the deadline.
+    pub(crate) fn make_until<R: Wait, M: Drop, A: Operation<T, M>, D: Deadline>(
+        &self,
+        rt: &R,
+        pass: &mut H::Pass,
+        asked: M,
+        deadline: &D,
+    ) -> WaitOutcome<T>
+        ensures come { BlockingPost H.relations (D.has_come deadline.now) pass.old pass.new
+            (A.event asked) result }
+    {
+        let mut locked = self.lock(rt);
+        match A::make_fast(&mut locked, &self.log, pass, asked) {
+            Ok(reply) => {
+                locked.unlock_and_drain();
+                WaitOutcome::Replied(reply)
+            },
+            Err(asked) => self.make_waiting::<R, M, A, D>(rt, locked, pass, asked, deadline),
+        }
+    }
+
+    /// The call where another may wait that it serves; otherwise it is refused, or waits until the deadline. Where the
+    /// buffer is short it looks once more after a pause.
+    #[inline(always)]
+    fn make_waiting<'a, R: Wait, M: Drop, A: Operation<T, M>, D: Deadline>(
+        &'a self,
+        rt: &R,
+        locked: Locked<'a, T, H>,
+        pass: &mut H::Pass,
+        asked: M,
+        deadline: &D,
+    ) -> WaitOutcome<T>
+        ensures come { BlockingPost H.relations (D.has_come deadline.now) pass.old pass.new
+            (A.event asked) result }
+    {
+        let mut locked = locked;
+        let mut asked = asked;
+        if self.has_buffer && A::is_short(&locked) {
+            locked = self.pause_released(rt, locked);
+            match A::make_fast(&mut locked, &self.log, pass, asked) {
+                Ok(reply) => {
+                    locked.unlock_and_drain();
+                    return WaitOutcome::Replied(reply);
+                },
+                Err(back) => asked = back,
+            }
+        }
+        self.blocking(rt, locked, pass, A::into_event(asked), deadline)
     }
 
     /// Makes a call that waits where it must, until the deadline, under the lock, and releases it. The caller has

@@ -7,6 +7,7 @@
 
 mod admin;
 mod blocking;
+mod operation;
 mod receiving;
 mod sending;
 mod shared;
@@ -14,4 +15,7 @@ mod timed;
 
 pub use blocking::StartedWait;
 pub use kanal_cell::{Clock, SystemClock, TestClock};
+pub use operation::Operation;
+pub use receiving::OfReceive;
+pub use sending::OfSend;
 pub use shared::{Locked, Pending, Shared};

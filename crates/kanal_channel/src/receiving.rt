@@ -1,26 +1,102 @@
 //! Receiving: the calls of a pass by which a message leaves the line.
 //!
-//! Each call here is one event, and its answer is what the reply reads as. First comes the fast path, which pops
-//! from the buffer if nobody waits.
-ghost use Rattle.std.specs.Prelude.{◌≡◌, ◌∷◌, [], Err, IfErr, IfOk, IsErrOf, OnErr};
+//! Each call here is one event, and its answer is what the reply reads as. `OfReceive` is all that tells a receive
+//! from a send where it waits.
+ghost use Rattle.std.specs.Prelude.{◌≡◌, ◌∷◌, [], Err, IfErr, IfOk, IsErrOf, OnErr, true};
 ghost use Rattle.std.specs.Option.{option_to_list};
 ghost use Rattle.std.specs.Duration.{as_nanos};
 ghost use Rattle.std.specs.Vec.{vec_capacity, vec_len};
 ghost use Rattle.kanal_state.specs.Handles.{Drains, Receives, ReceivesInTime, TriesToReceive, TriesToReceiveNow};
-ghost use Rattle.kanal_state.specs.Makes.{HasTooLittleRoom};
-ghost use Rattle.kanal_channel.specs.Starts.{BlockingPost};
+ghost use Rattle.kanal_core.specs.declared.error.ReceiveError.{ReceiveError};
+ghost use Rattle.kanal_events.specs.declared.event.Event.TheVariants.{Recv};
+ghost use Rattle.kanal_events.specs.StepResult.{may_wait};
+ghost use Rattle.kanal_state.specs.Makes.{HasReplied, HasTooLittleRoom};
+ghost use Rattle.kanal_state.specs.Results.{received_after, received_by};
 
-use crate::blocking::WaitOutcome;
+use crate::operation::Operation;
 use crate::shared::{Locked, Shared};
 use crate::timed::received_in_time;
-use kanal_cell::{At, Clock, Deadline, Never, deadline_after};
+use kanal_cell::{At, Clock, deadline_after};
 use kanal_core::error::{ReceiveError, ReceiveErrorTimeout};
+use kanal_core::internal::Outcome;
 use kanal_events::event::{Event, Reply};
 use kanal_state::History;
 use kanal_state::answers::{asked_by, drained_by, received_after, received_by, timed_received_by};
 use std::sync::Wait;
 use std::time;
 use std::time::Duration;
+
+/// To receive a message.
+pub struct OfReceive;
+
+impl<T> Operation<T, ()> for OfReceive {
+    type Answer = Result<T, ReceiveError>;
+
+    ghost event = { λ _. Recv };
+
+    ghost read = { received_by };
+
+    ghost ended = { received_after };
+
+    ghost finished = { Err ReceiveError.Finished };
+
+    fn into_event(_asked: ()) -> Event<T>
+        ensures asked { result ≡ Recv }
+        ensures waits { may_wait result ≡ true }
+    {
+        Event::Recv
+    }
+
+    #[inline(always)]
+    fn make_fast<H: History<T>>(
+        locked: &mut Locked<'_, T, H>,
+        log: &H::Log,
+        pass: &mut H::Pass,
+        _asked: (),
+    ) -> Result<Reply<T>, ()>
+    where
+        T: Drop,
+        ensures made { IfOk result (HasReplied H.relations pass.old pass.new Recv) }
+        ensures refused { IfErr result (λ back. (back ≡ _asked) × (pass.new ≡ pass.old)) }
+    {
+        let Some(message) = locked.state.pop(log, pass) else {
+            return Err(());
+        };
+        Ok(Reply::Got(message))
+    }
+
+    #[inline]
+    fn is_short<H: History<T>>(locked: &Locked<'_, T, H>) -> bool
+    where
+        T: Drop,
+    {
+        locked.state.is_empty()
+    }
+
+    #[inline]
+    fn by(reply: Reply<T>) -> Result<T, ReceiveError>
+    where
+        T: Drop,
+        ensures { result ≡ received_by reply }
+    {
+        received_by(reply)
+    }
+
+    #[inline]
+    fn after(outcome: Outcome<T>) -> Result<T, ReceiveError>
+    where
+        T: Drop,
+        ensures { result ≡ received_after outcome }
+    {
+        received_after(outcome)
+    }
+
+    fn again() -> Result<T, ReceiveError>
+        ensures { result ≡ Err ReceiveError.Finished }
+    {
+        Err(ReceiveError::Finished)
+    }
+}
 
 impl<T: Drop, H: History<T>> Shared<T, H> {
     /// Receives a message, and waits where there is none.
@@ -33,59 +109,12 @@ impl<T: Drop, H: History<T>> Shared<T, H> {
     /// tickets are used up. `NoMemory` where memory was refused: the call is in no history then, and the pass
     /// has seen that it had to wait.
     #[inline]
+    #[tactic(auto, using(kanal_state::proofs::Exchanging::receives_got))]
     pub fn recv<R: Wait>(&self, rt: &R, pass: &mut H::Pass) -> Result<T, ReceiveError>
         ensures received { Receives H.relations pass.old pass.new result }
         ensures got { IfOk result (λ message. H.exchanges pass.old pass.new [] (message ∷ [])) }
     {
-        let mut locked = self.lock(rt);
-        match locked.state.pop(&self.log, pass) {
-            Some(message) => {
-                locked.unlock_and_drain();
-                Ok(message)
-            },
-            None => self.recv_held(rt, locked, pass),
-        }
-    }
-
-    #[cold]
-    fn recv_held<'a, R: Wait>(
-        &'a self,
-        rt: &R,
-        locked: Locked<'a, T, H>,
-        pass: &mut H::Pass,
-    ) -> Result<T, ReceiveError>
-        ensures received { Receives H.relations pass.old pass.new result }
-    {
-        match self.recv_waiting(rt, locked, pass, &Never) {
-            WaitOutcome::Replied(reply) => received_by(reply),
-            WaitOutcome::Settled(outcome) => received_after(outcome),
-            WaitOutcome::Withdrawn(_back) => unreachable!(),
-        }
-    }
-
-    /// The receive, where a waiting sender may be let in, or may hand its message over; otherwise it is refused, or
-    /// waits until the deadline. While the buffer is empty it looks once more after a pause, since the other side is
-    /// often about to bring a message.
-    #[inline(always)]
-    fn recv_waiting<'a, R: Wait, D: Deadline>(
-        &'a self,
-        rt: &R,
-        locked: Locked<'a, T, H>,
-        pass: &mut H::Pass,
-        deadline: &D,
-    ) -> WaitOutcome<T>
-        ensures come { BlockingPost H.relations (D.has_come deadline.now) pass.old pass.new Event.Recv
-            result }
-    {
-        let mut locked = locked;
-        if self.has_buffer && locked.state.is_empty() {
-            locked = self.pause_released(rt, locked);
-            if let Some(message) = locked.state.pop(&self.log, pass) {
-                locked.unlock_and_drain();
-                return WaitOutcome::Replied(Reply::Got(message));
-            }
-        }
-        self.blocking(rt, locked, pass, Event::Recv, deadline)
+        self.make::<R, (), OfReceive>(rt, pass, ())
     }
 
     /// Receives the front message, if there is one; `Ok(None)` says that there is none. It waits for the lock alone.
@@ -167,26 +196,8 @@ impl<T: Drop, H: History<T>> Shared<T, H> {
         if now > deadline {
             return timed_received_by(self.call(rt, pass, Event::RecvLate));
         }
-        received_in_time(self.recv_until(rt, pass, &At { clock, deadline }))
-    }
-
-    fn recv_until<R: Wait, D: Deadline>(
-        &self,
-        rt: &R,
-        pass: &mut H::Pass,
-        deadline: &D,
-    ) -> WaitOutcome<T>
-        ensures come { BlockingPost H.relations (D.has_come deadline.now) pass.old pass.new Event.Recv
-            result }
-    {
-        let mut locked = self.lock(rt);
-        match locked.state.pop(&self.log, pass) {
-            Some(message) => {
-                locked.unlock_and_drain();
-                WaitOutcome::Replied(Reply::Got(message))
-            },
-            None => self.recv_waiting(rt, locked, pass, deadline),
-        }
+        let until = At { clock, deadline };
+        received_in_time(self.make_until::<R, (), OfReceive, At<'_, C>>(rt, pass, (), &until))
     }
 
     /// Moves all messages to the vector's end, those of waiting senders too, and answers how many they

@@ -1,21 +1,24 @@
 //! Sending: the calls of a pass by which a message enters the line.
 //!
-//! Each call here is one event, and its answer is what the reply reads as. First comes the fast path, which pushes
-//! into the buffer if nobody waits.
+//! Each call here is one event, and its answer is what the reply reads as. `OfSend` is all that tells a send from
+//! a receive where it waits.
 ghost use Rattle.std.specs.Prelude.{◌≡◌, ◌≢◌, ◌∷◌, [], cond, Err, IfErr, IfOk, IfSome, IsSome, None, Ok, true};
 ghost use Rattle.std.specs.Duration.{as_nanos};
 ghost use Rattle.kanal_state.specs.Handles.{Sends, SendsInTime, TriesToSend, TriesToSendNow};
-ghost use Rattle.kanal_state.specs.Makes.{Comes};
+ghost use Rattle.kanal_core.specs.declared.error.SendError.{SendError};
+ghost use Rattle.kanal_events.specs.declared.event.Event.TheVariants.{Send};
+ghost use Rattle.kanal_events.specs.StepResult.{may_wait};
+ghost use Rattle.kanal_state.specs.Makes.{Comes, HasReplied};
 ghost use Rattle.kanal_state.specs.Refusals.{StartedNoWait};
-ghost use Rattle.kanal_state.specs.Results.{entered_by};
+ghost use Rattle.kanal_state.specs.Results.{entered_by, sent_after, sent_by};
 ghost use Rattle.kanal_channel.specs.Deadlines.{GivesBack};
-ghost use Rattle.kanal_channel.specs.Starts.{BlockingPost};
 
-use crate::blocking::WaitOutcome;
+use crate::operation::Operation;
 use crate::shared::{Locked, Shared};
 use crate::timed::sent_in_time;
-use kanal_cell::{At, Clock, Deadline, Never, deadline_after};
+use kanal_cell::{At, Clock, deadline_after};
 use kanal_core::error::{SendError, SendErrorTimeout};
+use kanal_core::internal::Outcome;
 use kanal_events::event::{Event, Reply};
 use kanal_state::History;
 use kanal_state::answers::{restored, sent_after, sent_by};
@@ -34,6 +37,76 @@ fn taken<T: Drop>(option: &mut Option<T>) -> T
     }
 }
 
+/// To send the message.
+pub struct OfSend;
+
+impl<T> Operation<T, T> for OfSend {
+    type Answer = Result<(), SendError>;
+
+    ghost event = { λ message. Send message };
+
+    ghost read = { sent_by };
+
+    ghost ended = { sent_after };
+
+    ghost finished = { Err SendError.Finished };
+
+    fn into_event(asked: T) -> Event<T>
+        ensures asked { result ≡ Send asked }
+        ensures waits { may_wait result ≡ true }
+    {
+        Event::Send(asked)
+    }
+
+    #[inline(always)]
+    fn make_fast<H: History<T>>(
+        locked: &mut Locked<'_, T, H>,
+        log: &H::Log,
+        pass: &mut H::Pass,
+        asked: T,
+    ) -> Result<Reply<T>, T>
+    where
+        T: Drop,
+        ensures made { IfOk result (HasReplied H.relations pass.old pass.new (Send asked)) }
+        ensures refused { IfErr result (λ back. (back ≡ asked) × (pass.new ≡ pass.old)) }
+    {
+        locked.state.push(log, pass, asked)?;
+        Ok(Reply::Sent)
+    }
+
+    #[inline]
+    fn is_short<H: History<T>>(locked: &Locked<'_, T, H>) -> bool
+    where
+        T: Drop,
+    {
+        locked.state.is_full()
+    }
+
+    #[inline]
+    fn by(reply: Reply<T>) -> Result<(), SendError>
+    where
+        T: Drop,
+        ensures { result ≡ sent_by reply }
+    {
+        sent_by(reply)
+    }
+
+    #[inline]
+    fn after(outcome: Outcome<T>) -> Result<(), SendError>
+    where
+        T: Drop,
+        ensures { result ≡ sent_after outcome }
+    {
+        sent_after(outcome)
+    }
+
+    fn again() -> Result<(), SendError>
+        ensures { result ≡ Err SendError.Finished }
+    {
+        Err(SendError::Finished)
+    }
+}
+
 impl<T: Drop, H: History<T>> Shared<T, H> {
     /// Sends the message, and waits where there is no place for it.
     ///
@@ -45,64 +118,12 @@ impl<T: Drop, H: History<T>> Shared<T, H> {
     /// tickets are used up. `NoMemory` where memory was refused: the call is in no history then, and the pass has
     /// seen that a line may refuse it so, or that it had to wait. The message is dropped.
     #[inline]
+    #[tactic(auto, using(kanal_state::proofs::Exchanging::sends_put))]
     pub fn send<R: Wait>(&self, rt: &R, pass: &mut H::Pass, message: T) -> Result<(), SendError>
         ensures sent { Sends H.relations pass.old pass.new message result }
         ensures put { IfOk result (λ _. H.exchanges pass.old pass.new (message ∷ []) []) }
     {
-        let mut locked = self.lock(rt);
-        match locked.state.push(&self.log, pass, message) {
-            Ok(()) => {
-                locked.unlock_and_drain();
-                Ok(())
-            },
-            Err(message) => self.send_held(rt, locked, pass, message),
-        }
-    }
-
-    #[cold]
-    fn send_held<'a, R: Wait>(
-        &'a self,
-        rt: &R,
-        locked: Locked<'a, T, H>,
-        pass: &mut H::Pass,
-        message: T,
-    ) -> Result<(), SendError>
-        ensures sent { Sends H.relations pass.old pass.new message result }
-    {
-        match self.send_waiting(rt, locked, pass, message, &Never) {
-            WaitOutcome::Replied(reply) => sent_by(reply),
-            WaitOutcome::Settled(outcome) => sent_after(outcome),
-            WaitOutcome::Withdrawn(_back) => unreachable!(),
-        }
-    }
-
-    /// The send, where it may be handed to a receiver that waits; otherwise it is refused, or waits until the deadline.
-    /// While the buffer is full it looks once more after a pause, since the other side is often about to make a place.
-    #[inline(always)]
-    fn send_waiting<'a, R: Wait, D: Deadline>(
-        &'a self,
-        rt: &R,
-        locked: Locked<'a, T, H>,
-        pass: &mut H::Pass,
-        message: T,
-        deadline: &D,
-    ) -> WaitOutcome<T>
-        ensures come { BlockingPost H.relations (D.has_come deadline.now) pass.old pass.new
-            (Event.Send message) result }
-    {
-        let mut locked = locked;
-        let mut message = message;
-        if self.has_buffer && locked.state.is_full() {
-            locked = self.pause_released(rt, locked);
-            match locked.state.push(&self.log, pass, message) {
-                Ok(()) => {
-                    locked.unlock_and_drain();
-                    return WaitOutcome::Replied(Reply::Sent);
-                },
-                Err(back) => message = back,
-            }
-        }
-        self.blocking(rt, locked, pass, Event::Send(message), deadline)
+        self.make::<R, T, OfSend>(rt, pass, message)
     }
 
     /// Sends the message if it can enter at once; `Ok(false)` says that there is no place for it, and the
@@ -316,26 +337,9 @@ impl<T: Drop, H: History<T>> Shared<T, H> {
             return Err(SendErrorTimeout::DeadlineOutOfRange);
         };
         let until = At { clock, deadline };
-        sent_in_time(self.send_until(rt, pass, message, &until), back)
-    }
-
-    fn send_until<R: Wait, D: Deadline>(
-        &self,
-        rt: &R,
-        pass: &mut H::Pass,
-        message: T,
-        deadline: &D,
-    ) -> WaitOutcome<T>
-        ensures come { BlockingPost H.relations (D.has_come deadline.now) pass.old pass.new
-            (Event.Send message) result }
-    {
-        let mut locked = self.lock(rt);
-        match locked.state.push(&self.log, pass, message) {
-            Ok(()) => {
-                locked.unlock_and_drain();
-                WaitOutcome::Replied(Reply::Sent)
-            },
-            Err(message) => self.send_waiting(rt, locked, pass, message, deadline),
-        }
+        sent_in_time(
+            self.make_until::<R, T, OfSend, At<'_, C>>(rt, pass, message, &until),
+            back,
+        )
     }
 }

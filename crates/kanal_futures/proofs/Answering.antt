@@ -1,23 +1,9 @@
--- The answers of a call in a task, for what it came to.
-use Rattle.std.proofs.Common.{◌≡◌, Option, Some, None, Result, Ok, Err, IfOk, refl, inl, inr}
+-- What a stream received, and what holds where a wait was started.
+use Rattle.std.proofs.Common.{◌≡◌, Option, Some, None, Result, Ok, Err, IfOk}
 use Rattle.std.specs.Option.{IfSome, IsSome}
-use Rattle.kanal_core.specs.declared.internal.outcome.Outcome.{Outcome}
-use Rattle.kanal_events.specs.declared.event.Event.{Event}
-use Rattle.kanal_events.specs.declared.event.Reply.{Reply}
-use Rattle.kanal_events.specs.Steps.{no_memory}
 use Rattle.kanal_state.specs.Handles.{Receives}
-use Rattle.kanal_state.specs.Makes.{HasReplied, HasWaited}
 use Rattle.kanal_state.specs.HistoryRelations.{HistoryRelations}
-use Rattle.kanal_state.proofs.Settling.{finishes_replied}
-use Rattle.kanal_futures.specs.Answers.{Answers}
 use Rattle.kanal_futures.specs.Streams.{HasReceived}
-
-module _ {T P O : Type 0} (w : HistoryRelations T P) (event : Event T) (read : Reply T → O) (ended : Outcome T → O) (old new : P) where
-  pub answered_replied : (reply : Reply T) (answer : O) → HasReplied w old new event reply → answer ≡ read reply → Answers w event read ended old new answer
-  answered_replied reply answer replied is = finishes_replied w old new event read ended (read (no_memory event)) answer reply replied refl is
-
-  pub answered_settled : (outcome : Outcome T) (answer : O) → HasWaited w old new event outcome → answer ≡ ended outcome → Answers w event read ended old new answer
-  answered_settled outcome answer waited is = inr (inl (outcome, waited, is))
 
 module _ {T P : Type 0} (w : HistoryRelations T P) (old new : P) where
   -- a message that a stream took is one that its pass received

@@ -1,5 +1,4 @@
 pub mod Tasks
-pub mod Answers
 pub mod Futures
 pub mod Plain
 pub mod Streams

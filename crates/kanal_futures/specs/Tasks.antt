@@ -1,6 +1,6 @@
 -- Where a call in a task is, what it began with, and what is left of a poll.
 use Rattle.std.specs.Prelude.{◌≡◌, ℕ, Bool, true, false, Option, Some, None}
-use Rattle.kanal_futures.specs.declared.operation.GhostStart.{GhostStart}
+use Rattle.kanal_futures.specs.declared.answer.GhostStart.{GhostStart}
 use Rattle.kanal_futures.specs.declared.progress.Progress.{Progress}
 use Rattle.kanal_futures.specs.declared.progress.Progress.TheVariants.{Zero, Waiting, Done}
 use Rattle.kanal_futures.specs.declared.progress.PollRest.{PollRest}

@@ -2,11 +2,31 @@
 //!
 //! Only who shows that the call was made so makes one.
 ghost use Rattle.std.specs.Prelude.{◌≡◌};
-ghost use Rattle.kanal_futures.specs.Answers.{Answers};
+ghost use Rattle.kanal_channel.specs.Answers.{Answers};
 
-use crate::operation::{GhostStart, Operation};
+use crate::ghost_value::GhostValue;
+use kanal_channel::Operation;
 use kanal_state::History;
 use std::marker::Model;
+
+/// What a call in a task began with, for proofs alone: the pass as it was, and what was asked.
+#[derive(Drop)]
+pub(crate) struct GhostStart<P, M> {
+    pub(crate) pass: GhostValue<P>,
+    pub(crate) asked: GhostValue<M>,
+}
+
+impl<P, M> GhostStart<P, M> {
+    pub(crate) fn of(pass: &P, asked: &M) -> Self
+        ensures pass { result.pass.value ≡ pass.now }
+        ensures asked { result.asked.value ≡ asked.now }
+    {
+        GhostStart {
+            pass: GhostValue::of(pass),
+            asked: GhostValue::of(asked),
+        }
+    }
+}
 
 /// What a call in a task came to: the answer, and the pass. Contracts see what the pass was at first, what was
 /// asked, the pass, and the answer.
@@ -18,7 +38,7 @@ pub struct TaskAnswer<T, H: History<T>, M, A: Operation<T, M>> {
 }
 
 impl<T, H: History<T>, M, A: Operation<T, M>> Model for TaskAnswer<T, H, M, A> {
-    ghost use Rattle.kanal_futures.specs.Answers.{Answers};
+    ghost use Rattle.kanal_channel.specs.Answers.{Answers};
 
     ghost Value = { H.Pass × M × H.Pass × A.Answer };
 

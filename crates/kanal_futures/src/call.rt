@@ -8,15 +8,14 @@ ghost use Rattle.futures.specs.Poll.{IfReady, OnPending};
 ghost use Rattle.kanal_futures.specs.Tasks.{RestMatches, begun_with, is_fresh, passes};
 ghost use Rattle.kanal_futures.specs.Futures.{IsPoll, IsPolled, call_begun, call_kept, call_source, call_waits, suspended_begun, suspended_source};
 
-use crate::answer::TaskAnswer;
-use crate::operation::{GhostStart, Operation};
+use crate::answer::{GhostStart, TaskAnswer};
 use crate::progress::{PollRest, Progress};
 use crate::started::Started;
 use crate::wakers::Wakers;
 use futures::Future;
 use futures::task::{Context, Poll};
 use kanal_cell::PollBackoff;
-use kanal_channel::{Locked, Shared};
+use kanal_channel::{Locked, Operation, Shared};
 use kanal_state::History;
 
 /// A call in a task, by the pass that it carries. `Sending` and `Receiving` say what a poll and a drop do.
@@ -189,9 +188,9 @@ impl<'a, T: Drop, H: History<T>, M: Drop, A: Operation<T, M>> TaskCall<'a, T, H,
         let opening = GhostStart::of(&pass, &asked);
         let mut pass = pass;
         match A::make_fast(&mut locked, self.shared.log(), &mut pass, asked) {
-            Ok(answer) => {
+            Ok(reply) => {
                 locked.unlock_and_drain();
-                Ok(TaskAnswer::new(opening, pass, answer))
+                Ok(TaskAnswer::new(opening, pass, A::by(reply)))
             },
             Err(asked) => Err(PollRest::Held(locked, pass, asked)),
         }
@@ -275,7 +274,7 @@ impl<'a, T: Drop, H: History<T>, M: Drop, A: Operation<T, M>> TaskCall<'a, T, H,
         }
     }
 
-    #[tactic(auto, using(crate::proofs::Answering::answered_settled))]
+    #[tactic(auto, using(kanal_channel::proofs::Answering::answered_settled))]
     fn wait(
         &mut self,
         started: Started<T, H, M, A>,

@@ -8,7 +8,6 @@
 mod answer;
 mod call;
 mod ghost_value;
-mod operation;
 mod plain;
 mod prefer;
 mod progress;

@@ -6,18 +6,17 @@ ghost use Rattle.std.specs.Prelude.{◌≡◌, ⊤, true, false, IfSome, Some};
 ghost use Rattle.std.specs.Option.{is_none};
 ghost use Rattle.futures.specs.Task.{Covers, Keeps};
 ghost use Rattle.futures.specs.Poll.{IfReady, OnPending};
-ghost use Rattle.kanal_futures.specs.Answers.{Answers};
+ghost use Rattle.kanal_channel.specs.Answers.{Answers};
 ghost use Rattle.kanal_futures.specs.Futures.{call_begun};
 ghost use Rattle.kanal_futures.specs.Plain.{HasAnswered, asked_call, future_source, is_over, answered_pass};
 ghost use Rattle.kanal_futures.specs.Tasks.{RestMatches, begun_with};
 
 use crate::answer::TaskAnswer;
 use crate::call::TaskCall;
-use crate::operation::Operation;
 use crate::progress::PollRest;
 use futures::Future;
 use futures::task::{Context, Poll};
-use kanal_channel::Shared;
+use kanal_channel::{Operation, Shared};
 use kanal_state::History;
 
 /// A call in a task that answers without its pass. `SendFuture` and `ReceiveFuture` say what a poll and a drop do.

@@ -5,9 +5,8 @@
 ghost use Rattle.std.specs.Prelude.{◌≡◌, false, true, IfNone, IfSome, IsSome, Some, None};
 ghost use Rattle.kanal_futures.specs.Tasks.{answered_by, begun_by, is_fresh, is_waiting, passes};
 
-use crate::operation::Operation;
 use crate::started::Started;
-use kanal_channel::{Locked, Shared};
+use kanal_channel::{Locked, Operation, Shared};
 use kanal_state::History;
 use std::mem;
 

@@ -1,92 +1,16 @@
 //! Receiving in a task: the case of a call that is asked with nothing.
-//!
-//! Here stands what differs from a send alone: the fast path, and how the call is answered.
-ghost use Rattle.std.specs.Prelude.{◌≡◌, ◌∷◌, [], IfErr, IfOk, Err, Some, codes, false, true};
-ghost use Rattle.kanal_core.specs.declared.error.ReceiveError.{ReceiveError};
-ghost use Rattle.kanal_events.specs.declared.event.Event.TheVariants.{Recv};
-ghost use Rattle.kanal_events.specs.StepResult.{may_wait};
+ghost use Rattle.std.specs.Prelude.{◌≡◌, ◌∷◌, [], IfOk, Some, codes, false};
 ghost use Rattle.kanal_state.specs.Handles.{Receives};
-ghost use Rattle.kanal_state.specs.Results.{received_after, received_by};
-ghost use Rattle.kanal_futures.specs.Answers.{Answers};
 ghost use Rattle.kanal_futures.specs.Futures.{call_begun};
 ghost use Rattle.kanal_futures.specs.Plain.{is_over};
 
 use crate::answer::TaskAnswer;
 use crate::call::TaskCall;
-use crate::operation::Operation;
 use crate::plain::PlainFuture;
-use kanal_channel::{Locked, Shared};
+use kanal_channel::{OfReceive, Shared};
 use kanal_core::error::ReceiveError;
-use kanal_core::internal::Outcome;
-use kanal_events::event::{Event, Reply};
-use kanal_state::answers::{received_after, received_by};
 use kanal_state::{History, NoHistory};
 use std::fmt;
-
-/// To receive a message.
-pub struct OfReceive;
-
-impl<T> Operation<T, ()> for OfReceive {
-    type Answer = Result<T, ReceiveError>;
-
-    ghost event = { λ _. Recv };
-
-    ghost read = { received_by };
-
-    ghost ended = { received_after };
-
-    ghost finished = { Err ReceiveError.Finished };
-
-    fn into_event(_message: ()) -> Event<T>
-        ensures asked { result ≡ Recv }
-        ensures waits { may_wait result ≡ true }
-    {
-        Event::Recv
-    }
-
-    #[inline(always)]
-    fn make_fast<H: History<T>>(
-        locked: &mut Locked<'_, T, H>,
-        log: &H::Log,
-        pass: &mut H::Pass,
-        _asked: (),
-    ) -> Result<Result<T, ReceiveError>, ()>
-    where
-        T: Drop,
-        ensures made { IfOk result (λ answer.
-            Answers H.relations Recv received_by received_after pass.old pass.new answer) }
-        ensures refused { IfErr result (λ back. (back ≡ _asked) × (pass.new ≡ pass.old)) }
-    {
-        let Some(message) = locked.state.pop(log, pass) else {
-            return Err(());
-        };
-        Ok(Ok(message))
-    }
-
-    #[inline]
-    fn by(reply: Reply<T>) -> Result<T, ReceiveError>
-    where
-        T: Drop,
-        ensures { result ≡ received_by reply }
-    {
-        received_by(reply)
-    }
-
-    #[inline]
-    fn after(outcome: Outcome<T>) -> Result<T, ReceiveError>
-    where
-        T: Drop,
-        ensures { result ≡ received_after outcome }
-    {
-        received_after(outcome)
-    }
-
-    fn again() -> Result<T, ReceiveError>
-        ensures { result ≡ Err ReceiveError.Finished }
-    {
-        Err(ReceiveError::Finished)
-    }
-}
 
 /// What a receive in a task came to: the answer, and the pass. Contracts see what the pass was at first, what
 /// was asked, which is nothing, the pass, and the answer.

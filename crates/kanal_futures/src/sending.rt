@@ -1,90 +1,16 @@
 //! Sending in a task: the case of a call that is asked with a message.
-//!
-//! Here stands what differs from a receive alone: the fast path, and how the call is answered.
-ghost use Rattle.std.specs.Prelude.{◌≡◌, ◌∷◌, [], IfErr, IfOk, Err, Some, codes, true};
-ghost use Rattle.kanal_core.specs.declared.error.SendError.{SendError};
-ghost use Rattle.kanal_events.specs.declared.event.Event.TheVariants.{Send};
-ghost use Rattle.kanal_events.specs.StepResult.{may_wait};
+ghost use Rattle.std.specs.Prelude.{◌≡◌, ◌∷◌, [], IfOk, Some, codes};
 ghost use Rattle.kanal_state.specs.Handles.{Sends};
-ghost use Rattle.kanal_state.specs.Results.{sent_after, sent_by};
-ghost use Rattle.kanal_futures.specs.Answers.{Answers};
 ghost use Rattle.kanal_futures.specs.Futures.{call_begun};
 ghost use Rattle.kanal_futures.specs.Plain.{message_in};
 
 use crate::answer::TaskAnswer;
 use crate::call::{SuspendedCall, TaskCall};
-use crate::operation::Operation;
 use crate::plain::PlainFuture;
-use kanal_channel::{Locked, Shared};
+use kanal_channel::{OfSend, Shared};
 use kanal_core::error::SendError;
-use kanal_core::internal::Outcome;
-use kanal_events::event::{Event, Reply};
-use kanal_state::answers::{sent_after, sent_by};
 use kanal_state::{History, NoHistory};
 use std::fmt;
-
-/// To send the message.
-pub struct OfSend;
-
-impl<T> Operation<T, T> for OfSend {
-    type Answer = Result<(), SendError>;
-
-    ghost event = { λ message. Send message };
-
-    ghost read = { sent_by };
-
-    ghost ended = { sent_after };
-
-    ghost finished = { Err SendError.Finished };
-
-    fn into_event(message: T) -> Event<T>
-        ensures asked { result ≡ Send message }
-        ensures waits { may_wait result ≡ true }
-    {
-        Event::Send(message)
-    }
-
-    #[inline(always)]
-    fn make_fast<H: History<T>>(
-        locked: &mut Locked<'_, T, H>,
-        log: &H::Log,
-        pass: &mut H::Pass,
-        asked: T,
-    ) -> Result<Result<(), SendError>, T>
-    where
-        T: Drop,
-        ensures made { IfOk result (λ answer.
-            Answers H.relations (Send asked) sent_by sent_after pass.old pass.new answer) }
-        ensures refused { IfErr result (λ back. (back ≡ asked) × (pass.new ≡ pass.old)) }
-    {
-        locked.state.push(log, pass, asked)?;
-        Ok(Ok(()))
-    }
-
-    #[inline]
-    fn by(reply: Reply<T>) -> Result<(), SendError>
-    where
-        T: Drop,
-        ensures { result ≡ sent_by reply }
-    {
-        sent_by(reply)
-    }
-
-    #[inline]
-    fn after(outcome: Outcome<T>) -> Result<(), SendError>
-    where
-        T: Drop,
-        ensures { result ≡ sent_after outcome }
-    {
-        sent_after(outcome)
-    }
-
-    fn again() -> Result<(), SendError>
-        ensures { result ≡ Err SendError.Finished }
-    {
-        Err(SendError::Finished)
-    }
-}
 
 /// What a send in a task came to: the answer, and the pass. Contracts see what the pass was at first, the
 /// message, the pass, and the answer.

@@ -12,11 +12,11 @@ ghost use Rattle.kanal_state.specs.Waits.{IsWaiting};
 ghost use Rattle.kanal_channel.specs.Starts.{HasLeftCell};
 ghost use Rattle.kanal_futures.specs.Tasks.{started_with, source_of};
 
-use crate::operation::{GhostStart, Operation};
+use crate::answer::GhostStart;
 use crate::wakers::Wakers;
 use futures::task::{Context, Poll};
 use kanal_cell::signal::WaitEnd;
-use kanal_channel::{Locked, Shared, StartedWait};
+use kanal_channel::{Locked, Operation, Shared, StartedWait};
 use kanal_core::internal::Outcome;
 use kanal_events::event::{Event, Reply};
 use kanal_state::{CountedWait, History, OtherResult, WaitResult};

@@ -9,9 +9,9 @@ returns g c =
     let w = g.H.History.relations in
     let answered = g.C.Clock.answers c.args.clock.now in
     let old = c.args.pass.now in
-    let new = c.recv_until.new.pass in
+    let new = c.make_until.new.pass in
     let result = c.received_in_time.result in
-    let finishes = finishes_by w answered c.in-Some.deadline old new Recv receive_in_time c.recv_until.result result c.recv_until.ensures.come refl c.received_in_time.ensures in
+    let finishes = finishes_by w answered c.in-Some.deadline old new Recv receive_in_time c.make_until.result result c.make_until.ensures.come refl c.received_in_time.ensures in
     let sum = c.in-Some.ensures.sum in
     let received : ReceivesInTime w old new answered (as_nanos c.args.duration) result = (
       c.now-moment.result,

@@ -9,10 +9,10 @@ returns-clause-sent g c =
     let w = g.H.History.relations in
     let answered = g.C.Clock.answers c.args.clock.now in
     let old = c.args.pass.now in
-    let new = c.send_until.new.pass in
+    let new = c.make_until.new.pass in
     let event = Send c.args.message in
     let result = c.sent_in_time.result in
-    let finishes = finishes_by w answered c.in-Some.deadline old new event send_in_time c.send_until.result result c.send_until.ensures.come refl c.sent_in_time.ensures.answer in
+    let finishes = finishes_by w answered c.in-Some.deadline old new event send_in_time c.make_until.result result c.make_until.ensures.come refl c.sent_in_time.ensures.answer in
     let sum = c.in-Some.ensures.sum in (
       c.now-moment.result,
       c.now-moment.ensures.answered,
@@ -21,4 +21,4 @@ returns-clause-sent g c =
 
 pub returns-clause-back : goal.returns-clause-back
 returns-clause-back g c made =
-    gives_back g.H.History.relations (IsLate (g.C.Clock.answers c.args.clock.now) c.in-Some.deadline) c.args.pass.now c.send_until.new.pass (Send c.args.message) c.send_until.result c.sent_in_time.new.option c.send_until.ensures.come c.sent_in_time.ensures.back
+    gives_back g.H.History.relations (IsLate (g.C.Clock.answers c.args.clock.now) c.in-Some.deadline) c.args.pass.now c.make_until.new.pass (Send c.args.message) c.make_until.result c.sent_in_time.new.option c.make_until.ensures.come c.sent_in_time.ensures.back

@@ -1,6 +1,6 @@
 use Rattle.std.proofs.Common.{subst, sym}
-use Rattle.kanal_futures.specs.Answers.{Answers}
-use Rattle.kanal_futures.proofs.Answering.{answered_replied}
+use Rattle.kanal_channel.specs.Answers.{Answers}
+use Rattle.kanal_channel.proofs.Answering.{answered_replied}
 use Rattle.kanal_futures.proofs.call.TaskCall.begin_held.Goals as goal
 
 pub new-requires : goal.new-requires

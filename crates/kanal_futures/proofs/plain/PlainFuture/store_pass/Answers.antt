@@ -1,5 +1,5 @@
 use Rattle.std.proofs.Common.{subst}
-use Rattle.kanal_futures.specs.Answers.{Answers}
+use Rattle.kanal_channel.specs.Answers.{Answers}
 use Rattle.kanal_futures.proofs.plain.PlainFuture.store_pass.Goals as goal
 
 pub returns-clause-made : goal.returns-clause-made

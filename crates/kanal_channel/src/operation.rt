@@ -1,15 +1,15 @@
-//! What a task asks of a channel: to send a message, or to receive one.
+//! What waits where it must: to send a message, or to receive one.
 //!
-//! All that differs between the two is in `Operation`: beginning, waiting, leaving and answering are written once.
+//! All that differs between the two is in `Operation`: the fast path, the second look, the wait and the answer are
+//! written once, for threads and for tasks.
 ghost use Rattle.std.specs.Prelude.{◌≡◌, true, IfErr, IfOk};
 ghost use Rattle.kanal_core.specs.declared.internal.outcome.Outcome.{Outcome};
 ghost use Rattle.kanal_events.specs.declared.event.Event.{Event};
 ghost use Rattle.kanal_events.specs.declared.event.Reply.{Reply};
 ghost use Rattle.kanal_events.specs.StepResult.{may_wait};
-ghost use Rattle.kanal_futures.specs.Answers.{Answers};
+ghost use Rattle.kanal_state.specs.Makes.{HasReplied};
 
-use crate::ghost_value::GhostValue;
-use kanal_channel::Locked;
+use crate::shared::Locked;
 use kanal_core::internal::Outcome;
 use kanal_events::event::{Event, Reply};
 use kanal_state::History;
@@ -28,11 +28,11 @@ pub trait Operation<T, M> {
     /// How the end of its wait reads as its answer.
     ghost ended: { Outcome T → Self.Answer };
 
-    /// What is answered once it was answered.
+    /// What a future answers once it has answered.
     ghost finished: { Self.Answer };
 
-    fn into_event(message: M) -> Event<T>
-        ensures asked { result ≡ event message }
+    fn into_event(asked: M) -> Event<T>
+        ensures asked { result ≡ event asked }
         ensures waits { may_wait result ≡ true };
 
     /// Makes the call where it goes by itself: nobody waits, and it need not wait. Where it doesn't nothing changes.
@@ -41,12 +41,16 @@ pub trait Operation<T, M> {
         log: &H::Log,
         pass: &mut H::Pass,
         asked: M,
-    ) -> Result<Self::Answer, M>
+    ) -> Result<Reply<T>, M>
     where
         T: Drop,
-        ensures made { IfOk result (λ answer.
-            Answers H.relations (event asked) read ended pass.old pass.new answer) }
+        ensures made { IfOk result (HasReplied H.relations pass.old pass.new (event asked)) }
         ensures refused { IfErr result (λ back. (back ≡ asked) × (pass.new ≡ pass.old)) };
+
+    /// Whether the buffer lacks what it needs, a place or a message: the other side is often about to change that.
+    fn is_short<H: History<T>>(locked: &Locked<'_, T, H>) -> bool
+    where
+        T: Drop;
 
     fn by(reply: Reply<T>) -> Self::Answer
     where
@@ -60,23 +64,4 @@ pub trait Operation<T, M> {
 
     fn again() -> Self::Answer
         ensures { result ≡ finished };
-}
-
-/// What a call in a task began with, for proofs alone: the pass as it was, and what was asked.
-#[derive(Drop)]
-pub(crate) struct GhostStart<P, M> {
-    pub(crate) pass: GhostValue<P>,
-    pub(crate) asked: GhostValue<M>,
-}
-
-impl<P, M> GhostStart<P, M> {
-    pub(crate) fn of(pass: &P, asked: &M) -> Self
-        ensures pass { result.pass.value ≡ pass.now }
-        ensures asked { result.asked.value ≡ asked.now }
-    {
-        GhostStart {
-            pass: GhostValue::of(pass),
-            asked: GhostValue::of(asked),
-        }
-    }
 }

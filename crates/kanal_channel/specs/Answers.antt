@@ -1,4 +1,4 @@
--- What a call in a task came to.
+-- What a call came to that waits where it must.
 use Rattle.kanal_core.specs.declared.internal.outcome.Outcome.{Outcome}
 use Rattle.kanal_events.specs.declared.event.Event.{Event}
 use Rattle.kanal_events.specs.declared.event.Reply.{Reply}

@@ -1,14 +1,10 @@
 -- A drain: what it tells, and what it adds to a vector.
-use Rattle.kanal_channel.proofs.Common.{◌≡◌, ℕ, ◌==◌, true, true≢false, List, [], ◌++◌, length, Result, Ok, Err, IfOk, IfErr, OnErr, false, refl, ap, sym, ◌∙◌, inl, inr, subst, cases_Bool, Line, Drain, is_no_memory, take_line, Call, drained_of, drained_of_left, is_drained, is_drained_left, reply_of, reply_of_left, Drains, StepAppendPost, drained_by, HistoryRelations}
+use Rattle.kanal_channel.proofs.Common.{◌≡◌, ◌==◌, true, true≢false, List, [], ◌++◌, length, IfOk, false, refl, ap, sym, ◌∙◌, inl, inr, subst, cases_Bool, Line, Drain, is_no_memory, take_line, Call, drained_of, drained_of_left, reply_of, reply_of_left, Drains, StepAppendPost, drained_by, HistoryRelations}
 use Rattle.std.proofs.lemmas.List.{append-nil, length-map}
 use Rattle.kanal_events.specs.declared.step_result.StepResult.{StepResult}
 use Rattle.kanal_events.specs.declared.step_result.Leaving.{Leaving}
 use Rattle.kanal_events.specs.declared.step_result.Leaving.TheVariants.{One, All, Shut, Drained as WasDrained}
 use Rattle.kanal_state.specs.Entries.{call_from}
-
-if-err : {A E : Type 0} (P : Type 0) (r : Result A E) → P → IfErr r (λ _. P)
-if-err P (Ok a) p = tt
-if-err P (Err e) p = p
 
 module _ {T : Type 0} where
   -- the answer of a drain is the number of its messages
@@ -28,26 +24,6 @@ module _ {T W : Type 0} where
 
   none-drained : (made : StepResult T W) → is_no_memory (reply_of made) ≡ true → drained_of made ≡ []
   none-drained made lacking = none-pending made.leaving lacking
-
-  holds-pending : (before now : List T) (leaving : Leaving T W) → now ≡ before ++ drained_of_left leaving → IfErr (drained_by (reply_of_left leaving)) (λ _. now ≡ before)
-  holds-pending before now (One reply settled) moved = if-err (now ≡ before) _ (moved ∙ append-nil before)
-  holds-pending before now (All reply ended) moved = if-err (now ≡ before) _ (moved ∙ append-nil before)
-  holds-pending before now (Shut closing) moved = moved ∙ append-nil before
-  holds-pending before now (WasDrained count ended vectors) moved = tt
-
-  -- a refused drain leaves the vector as it was
-  pub refused_holds : (before now : List T) (made : StepResult T W) → now ≡ before ++ drained_of made → IfErr (drained_by (reply_of made)) (λ _. now ≡ before)
-  refused_holds before now made moved = holds-pending before now made.leaving moved
-
-  keeps-pending : (before now : ℕ) (leaving : Leaving T W) → (is_drained_left leaving ≡ false → now ≡ before) → OnErr (drained_by (reply_of_left leaving)) (now ≡ before)
-  keeps-pending before now (One reply settled) keeps = if-err (now ≡ before) _ (keeps refl)
-  keeps-pending before now (All reply ended) keeps = if-err (now ≡ before) _ (keeps refl)
-  keeps-pending before now (Shut closing) keeps = keeps refl
-  keeps-pending before now (WasDrained count ended vectors) keeps = tt
-
-  -- a refused drain leaves the vector's room as it was
-  pub refused_keeps_room : (before now : ℕ) (made : StepResult T W) → (is_drained made ≡ false → now ≡ before) → OnErr (drained_by (reply_of made)) (now ≡ before)
-  refused_keeps_room before now made keeps = keeps-pending before now made.leaving keeps
 
   -- a drain that was noted
   pub noted_drains : {P : Type 0} (w : HistoryRelations T P) (old new : P) (before now : List T) (made : StepResult T W)

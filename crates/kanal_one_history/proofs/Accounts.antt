@@ -1,6 +1,5 @@
 -- The events of a legal history lead a new channel to an account that tells what its calls were told.
 use Rattle.kanal_one_history.proofs.Common.{◌≡◌, ◌≤◌, ℕ, ◌==◌, ◌&&◌, ◌||◌, List, [], ◌∷◌, ◌++◌, length, map, filter, Option, Some, None, refl, sym, ap, ◌∙◌, subst, inl, inr, arith, append-nil, append_assoc, length-append, list_any, sum_by, cases_Bool, Line, Event, Reply, step, Settlement, Account, Leads, handles_after, made, numbered, opening_account, opening_line, Demand, AtOnce, Later, Next, PairedHistory, along, asked, cleared_by, demand_stays, demands, history_from, is_ended, is_gone, kept, send_stays, sent, withdrawn_ticket, without_last, StaysOver, told_history, Call, call_of, LeadsAsTold, account_after, all_cleared, replies_by, reply_by, AreTold, IsLegal, after, history_of, with_call, with_calls}
-use Rattle.std.proofs.lemmas.List.{map-append}
 use Rattle.std.proofs.lemmas.List.Sums.{sum_by-append}
 use Rattle.kanal_journal.specs.Replays.{next_account, played}
 use Rattle.kanal_journal.proofs.Replaying.{leads-played}
@@ -62,19 +61,6 @@ module _ {T : Type 0} where
   played-on : (o : Account T) (es more : List (Event T)) → played o (es ++ more) ≡ played (played o es) more
   played-on o [] more = refl
   played-on o (x ∷ es) more = played-on (next_account o x) es more
-
-  account-is : (capacity : Option ℕ) (log : List (Call T)) → account_after capacity log ≡ played (opening_account capacity) (events_of log)
-  account-is capacity log = ap (played (opening_account capacity)) (with_events (history_from [] [] [] []) log)
-
-  -- later calls' events lead on from where the first ones' led to
-  pub leads_on : (capacity : Option ℕ) (log rest : List (Call T)) → Leads (account_after capacity log) (events_of rest) (account_after capacity (log ++ rest))
-  leads_on capacity log rest =
-      let o : Account T = opening_account capacity in
-      let is : account_after capacity (log ++ rest) ≡ played (account_after capacity log) (events_of rest) =
-      account-is capacity (log ++ rest)
-      ∙ (ap (played o) (map-append (λ (c : Call T). c.event) log rest)
-      ∙ (played-on o (events_of log) (events_of rest) ∙ ap (λ a. played a (events_of rest)) (sym (account-is capacity log)))) in
-      subst (Leads (account_after capacity log) (events_of rest)) (sym is) (leads-played (account_after capacity log) (events_of rest))
 
   -- the account to which these calls' events lead from this one
   abbrev pub account_by : Account T → List (Call T) → Account T

@@ -1,12 +1,8 @@
 -- What a call put or got, in the history and in each longer one, and what it means for all that was kept.
-use Rattle.kanal_one_history.proofs.Common.{◌≡◌, ℕ, List, [], ◌∷◌, ◌++◌, map, filter, Option, Some, None, refl, sym, ap, subst, Known, Event, Reply, Demand, AtOnce, Later, Next, demand_stays, receipts_from, send_stays, Call, MovesNoMessage, history_of, AreGot, ArePut, Exchanges, ExchangesNothing, WaitsAsSettled}
+use Rattle.kanal_one_history.proofs.Common.{◌≡◌, ℕ, List, [], ◌∷◌, ◌++◌, map, filter, Option, Some, None, refl, ap, Demand, AtOnce, Later, Next, demand_stays, receipts_from, send_stays, Call, history_of, AreGot, ArePut, WaitsAsSettled}
 use mathlib.Core.List.{IsPrefix}
 use Rattle.kanal_core.specs.declared.internal.outcome.Outcome.TheVariants.{Taken, Given}
-use Rattle.kanal_state.specs.Makes.{IsReplied}
-use Rattle.kanal_one_history.specs.History.{pass_relations, Appends}
-use Rattle.kanal_one_history.specs.Exchanged.{just-made}
 use Rattle.kanal_one_history.specs.Sound.{settled_longer}
-use Rattle.kanal_one_history.proofs.NoMessage.{exchanges_nothing}
 
 module _ {T : Type 0} where
   -- what was put or got stays so in each longer history
@@ -78,20 +74,3 @@ module _ {T : Type 0} where
       let rest = got_received log waits ds ms a.1 drained in
       rw (w.0, w.1, rest) refl
   got_received log waits (Next ∷ ds) (m ∷ ms) a drained = absurd a
-
-  module _ (capacity : Option ℕ) (old new : Known (Call T)) where
-    -- a call that moves no message put nothing and got nothing
-    pub unmoving_exchanges : (call : Call T) → Appends capacity old new call → ExchangesNothing call → Exchanges capacity old new [] []
-    unmoving_exchanges call made s =
-        record {
-          call = call;
-          made = just-made capacity old new call made;
-          puts = subst (λ ss. ArePut new.log ss []) (sym s.sends) tt;
-          gets = subst (λ ds. AreGot new.log ds []) (sym s.asks) tt;
-          clears = s.clears;
-        }
-
-    -- and so did a call of such an event, whatever it was answered
-    pub replied_unmoving : {R : Type 0} (event : Event T) (read : Reply T → R) (answer : R) → IsReplied (pass_relations capacity) old new event read answer
-        → MovesNoMessage event → Exchanges capacity old new [] []
-    replied_unmoving event read answer c silent = unmoving_exchanges c.call c.made (exchanges_nothing c.call c.told (subst MovesNoMessage (sym c.asked) silent))

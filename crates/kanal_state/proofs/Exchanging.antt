@@ -1,5 +1,5 @@
 -- Which messages a call put and got, by what it answered.
-use Rattle.kanal_state.proofs.Common.{◌≡◌, ℕ, true, false, cond, List, [], ◌∷◌, Option, Some, None, Bool, Result, Ok, Err, refl, sym, ap, subst, inl, inr, option_to_list, Outcome, SendClosed as BySenders, ReceiveClosed as ByReceivers, ReceiveError, SendError, Event, Send, TrySend, Recv, RecvLate, TryRecv, Reply, Sent, Yes, No, Got, Nothing, Receives, ReceivesInTime, Sends, SendsInTime, TriesToReceive, TriesToReceiveNow, TriesToSend, TriesToSendNow, Finishes, HasWaited, IsReplied, asked_by, entered_by, received_after, received_by, sent_after, sent_by, timed_received_after, timed_received_by, timed_sent_after, timed_sent_by, HistoryRelations}
+use Rattle.kanal_state.proofs.Common.{◌≡◌, ℕ, true, false, cond, List, [], ◌∷◌, Option, Some, None, Bool, Result, Ok, Err, refl, sym, ap, subst, inl, inr, option_to_list, Outcome, SendClosed as BySenders, ReceiveClosed as ByReceivers, ReceiveError, SendError, Event, Send, TrySend, Recv, RecvLate, TryRecv, Reply, Sent, Yes, No, Got, Nothing, Receives, ReceivesInTime, Sends, SendsInTime, TriesToReceive, TriesToSend, Finishes, HasWaited, IsReplied, asked_by, entered_by, received_after, received_by, sent_after, sent_by, timed_received_after, timed_received_by, timed_sent_after, timed_sent_by, HistoryRelations}
 use Rattle.std.specs.Prelude.{IfOk}
 use Rattle.kanal_core.specs.declared.internal.outcome.Outcome.TheVariants.{Taken, Given, Ended}
 use Rattle.kanal_core.specs.declared.error.ReceiveErrorTimeout.{ReceiveErrorTimeout}
@@ -106,15 +106,6 @@ module _ {T P : Type 0} (w : HistoryRelations T P) (exchanges : P → P → List
   tries_got (Err e) c = tt
   tries_got (Ok (Some m)) c = tells.got_by_trying old new m (with-reply TryRecv asked_by (Ok (Some m)) (Got m) c (came-reply m c.call.reply c.reads))
   tries_got (Ok None) c = tells.got_nothing old new (with-reply TryRecv asked_by (Ok None) Nothing c (nothing-reply c.call.reply c.reads))
-
-  -- and where the lock may be held by another
-  pub tries_now_put : (m : T) → TriesToSendNow w old new m (Ok true) → exchanges old new (m ∷ []) []
-  tries_now_put m (inl s) = tries_put m (Ok true) s
-  tries_now_put m (inr none) = absurd (cc (none.1))
-
-  pub tries_now_got : (m : T) → TriesToReceiveNow w old new (Ok (Some m)) → exchanges old new [] (m ∷ [])
-  tries_now_got m (inl r) = tries_got (Ok (Some m)) r
-  tries_now_got m (inr none) = absurd (cc (none.1))
 
   -- a send with a deadline, too
   pub sends_in_time_put : (answered : ℕ → Type 0) (duration : ℕ) (m : T) (answer : Result (Unit {0}) SendErrorTimeout)

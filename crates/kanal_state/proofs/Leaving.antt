@@ -1,10 +1,9 @@
 -- Who leaves at a step that settles nobody, at the drop of a handle of either side, and by notice.
-use Rattle.kanal_state.proofs.Common.{◌≡◌, ◌==◌, Bool, false, true, List, [], ◌∷◌, map, Option, None, Some, MatchOption, refl, sym, ap, ◌∙◌, option_map, Ticket, Waiter, settlement, Line, waiter_of, without, with_w, Event, Side, Tx, Rx, StepResult, settled_of, settled_of_left, StepSpec, Tells, IsDrop, count_of, one_less, Brought, TakesNode, HasLeft, left_of}
+use Rattle.kanal_state.proofs.Common.{◌≡◌, Bool, false, true, List, [], ◌∷◌, map, Option, None, Some, MatchOption, refl, sym, ap, ◌∙◌, option_map, Ticket, Waiter, settlement, waiter_of, without, with_w, StepResult, settled_of, settled_of_left, Brought, TakesNode, HasLeft, left_of}
 use Rattle.kanal_core.specs.declared.internal.outcome.Settled.{Settled}
 use Rattle.kanal_events.specs.declared.step_result.Leaving.{Leaving}
 use Rattle.kanal_events.specs.declared.step_result.Leaving.TheVariants.{One, All, Shut, Drained}
 use Rattle.kanal_events.specs.Leaving.{Leave, gone_of, gone_of_left}
-use Rattle.kanal_state.proofs.Noting.{quiet_rx, quiet_tx}
 use Rattle.kanal_state.proofs.Renewing.{waiter-with, with-own, without-with}
 
 module _ {T W : Type 0} where
@@ -22,20 +21,6 @@ module _ {T W : Type 0} where
   -- whom a step that settled nobody leaves waiting
   pub nobody_leaves : (old new : List (Waiter T W)) (made : StepResult T W) → settled_of made ≡ [] → Leave old (gone_of made) new → new ≡ old
   nobody_leaves old new made none left = none-left old new made.leaving none left
-
-less-drops : (T : Type 0) (side : Side) → IsDrop (one_less {T = T} side)
-less-drops T Tx = tt
-less-drops T Rx = tt
-
-module _ {T : Type 0} where
-  -- what counts one less is a drop
-  pub less_is_drop : (side : Side) (event : Event T) → event ≡ one_less side → IsDrop event
-  less_is_drop side event is = rw is (less-drops T side)
-
-  -- the drop of a handle that is not the last of its side settles nobody's wait
-  pub quiet_less : (side : Side) (l : Line T) (told : StepSpec T) → Tells l (one_less side) told → (count_of side l == 1) ≡ false → told.settled ≡ []
-  quiet_less Tx l told tells more = quiet_tx l told tells more
-  quiet_less Rx l told tells more = quiet_rx l told tells more
 
 module _ {T : Type 0} (t : Ticket) (old new : List (Waiter T Brought)) where
   -- what the taking of a reserved node says, of who has the ticket

@@ -1,7 +1,5 @@
 -- What passes tell of a call that was noted, of one that waited, and of one that was made where the pass had looked.
-use Rattle.kanal_state.proofs.Common.{◌≡◌, ℕ, Bool, true, false, true≢false, Some, List, [], ◌∷◌, Result, Ok, Err, IfErr, IsErrAnd, refl, ap, sym, ◌∙◌, inl, inr, subst, cases_Bool, Outcome, ReceiveError, SendError, Event, Send, TrySend, Recv, RecvLate, TryRecv, Drain, Withdraw, CloneTx, CloneRx, DropTx, DropRx, Seal, Close, Asks, Terminated, Reply, Got, Sent, Waits, Yes, is_no_memory, no_memory, IsWait, Call, StepResult, Line, IsIn, IsTold, settled_of, reply_of, MayLack, call_from, replied, HistoryRelations, AreSound, HaveSettled, HaveShown, TriesToReceive, TriesToSend, Lacks, IsReplied, HasWaited, AppendPost, StepAppendPost, IsAnswered, HasReplied, Finishes, Comes, SeesWait, received_after, received_by, sent_after, sent_by}
-use Rattle.kanal_core.specs.declared.error.ReceiveError.TheVariants.{NoMemory as ReceiveNoMemory}
-use Rattle.kanal_core.specs.declared.error.SendError.TheVariants.{NoMemory as SendNoMemory}
+use Rattle.kanal_state.proofs.Common.{◌≡◌, ℕ, Bool, true, false, true≢false, List, [], ◌∷◌, refl, ap, sym, ◌∙◌, inl, inr, subst, cases_Bool, Outcome, Event, Send, TrySend, Recv, Drain, Reply, Waits, is_no_memory, no_memory, IsWait, Call, StepResult, Line, IsIn, settled_of, reply_of, MayLack, call_from, replied, HistoryRelations, AreSound, HaveSettled, HaveShown, Lacks, IsReplied, HasWaited, AppendPost, StepAppendPost, IsAnswered, HasReplied, Finishes, Comes}
 use Rattle.kanal_state.specs.Waits.{IsWaiting}
 use Rattle.kanal_state.specs.declared.counted.CountedWait.{CountedWait}
 
@@ -39,32 +37,9 @@ module _ {T P : Type 0} (w : HistoryRelations T P) (sound : AreSound w) where
   pub lacks-from : (old mid new : P) (event : Event T) → w.extends old mid → Lacks w mid new event → Lacks w old new event
   lacks-from old mid new event extends r = record { extends = sound.extends_trans old mid new extends r.extends; line = r.line; reaches = r.reaches; may = r.may }
 
-  pub waited-from : (old mid new : P) (event : Event T) (outcome : Outcome T) → w.extends old mid → HasWaited w mid new event outcome → HasWaited w old new event outcome
-  waited-from old mid new event outcome extends h =
-      record {
-        ticket = h.ticket;
-        mid = h.mid;
-        waits = replied-from old mid h.mid event (λ reply. reply) _ extends h.waits;
-        learns = h.learns;
-        settled = h.settled;
-      }
-
   pub answered-from : (old mid new : P) (event : Event T) (reply : Reply T) → w.extends old mid → IsAnswered w mid new event reply → IsAnswered w old new event reply
   answered-from old mid new event reply extends (inl r) = inl (replied-from old mid new event (λ x. x) reply extends r)
   answered-from old mid new event reply extends (inr r) = inr (lacks-from old mid new event extends r.0, r.1)
-
-  -- a call that was kept where the pass had looked
-  pub kept_from : (old mid new : P) (event : Event T) (call : Call T) → w.extends old mid → AppendPost w mid new event call → AppendPost w old new event call
-  kept_from old mid new event call extends n =
-      record {
-        asked = n.asked;
-        stands = λ clear. let s = n.stands clear in (sound.extends_appends old mid new _ extends s.0, s.1);
-        lacks = λ lacking. let l = n.lacks lacking in (lacks-from old mid new event extends l.0, l.1, l.2);
-      }
-
-  -- a call for which there was no memory, and that the pass has seen must wait
-  pub lacks_wait : (old new : P) (event : Event T) → w.extends old new → SeesWait w new event → Lacks w old new event
-  lacks_wait old new event extends sees = record { extends = extends; line = sees.line; reaches = sees.reaches; may = inr sees.must }
 
 module _ {T P : Type 0} (w : HistoryRelations T P) where
   -- what shows each settlement that a pass has seen shows all
@@ -93,12 +68,6 @@ module _ {T P : Type 0} (w : HistoryRelations T P) where
   pub kept_replied : (old new : P) (event : Event T) (call : Call T) → AppendPost w old new event call → (IsWait call.reply → ⊥) → HasReplied w old new event call.reply
   kept_replied old new event call n clear = (kept_answered old new event call n, clear)
 
-  -- a call that was kept, and waits
-  pub kept_waits : (old new : P) (event : Event T) (call : Call T) (ticket : ℕ)
-      → AppendPost w old new event call → call.reply ≡ Waits ticket → IsReplied w old new event (λ reply. reply) (Waits ticket)
-  kept_waits old new event call ticket n is =
-      let stands = n.stands (ap is_no_memory is) in record { call = call; made = stands.0; asked = n.asked; reads = sym is; told = stands.1 }
-
   pub has_waited : (old mid new : P) (event : Event T) (ticket : ℕ) (outcome : Outcome T)
       → IsReplied w old mid event (λ reply. reply) (Waits ticket) → w.extends mid new → w.saw_settled new (ticket, outcome) → HasWaited w old new event outcome
   has_waited old mid new event ticket outcome waits extends settled =
@@ -117,36 +86,7 @@ module _ {T P : Type 0} (w : HistoryRelations T P) where
   comes_replied old new event read refused answer reply (inl r) none is = inl (record { call = r.call; made = r.made; asked = r.asked; reads = is ∙ ap read r.reads; told = r.told })
   comes_replied old new event read refused answer reply (inr r) none is = inr (r.0, is ∙ (ap read r.1 ∙ none))
 
-  -- the message entered
-  pub sent_at_once : (old new : P) (m : T) → w.appends old new (replied (Send m) Sent) → IsTold (replied (Send m) Sent) → Finishes w old new (Send m) sent_by sent_after (Err SendNoMemory) (Ok tt)
-  sent_at_once old new m made told = inl (record { replied = record { call = replied (Send m) Sent; made = made; asked = refl; reads = refl; told = told }; clear = λ waits. waits })
-
-  -- the message was got
-  pub received_at_once : (old new : P) (m : T) → w.appends old new (replied Recv (Got m)) → IsTold (replied Recv (Got m)) → Finishes w old new Recv received_by received_after (Err ReceiveNoMemory) (Ok m)
-  received_at_once old new m made told = inl (record { replied = record { call = replied Recv (Got m); made = made; asked = refl; reads = refl; told = told }; clear = λ waits. waits })
-
-  -- a send that goes on with what came back, and with the pass as it was
-  pub sent_from : (old mid new : P) (m back : T) (answer : Result (Unit {0}) SendError) → back ≡ m → mid ≡ old → Finishes w mid new (Send back) sent_by sent_after (Err SendNoMemory) answer → Finishes w old new (Send m) sent_by sent_after (Err SendNoMemory) answer
-  sent_from old mid new m back answer same stays f =
-      subst (λ (k : P). Finishes w k new (Send m) sent_by sent_after (Err SendNoMemory) answer) stays (subst (λ x. Finishes w mid new (Send x) sent_by sent_after (Err SendNoMemory) answer) same f)
-
-  -- a receive that goes on with the pass as it was
-  pub received_from : (old mid new : P) (answer : Result T ReceiveError) → mid ≡ old → Finishes w mid new Recv received_by received_after (Err ReceiveNoMemory) answer → Finishes w old new Recv received_by received_after (Err ReceiveNoMemory) answer
-  received_from old mid new answer stays f = subst (λ (k : P). Finishes w k new Recv received_by received_after (Err ReceiveNoMemory) answer) stays f
-
-  -- a send and a receive that don't wait, and were made at once
-  pub tried_at_once : (old new : P) (m : T) → w.appends old new (replied (TrySend m) Yes) → IsTold (replied (TrySend m) Yes) → TriesToSend w old new m (Ok true)
-  tried_at_once old new m made told = inl (record { call = replied (TrySend m) Yes; made = made; asked = refl; reads = refl; told = told })
-
-  pub asked_at_once : (old new : P) (m : T) → w.appends old new (replied TryRecv (Got m)) → IsTold (replied TryRecv (Got m)) → TriesToReceive w old new (Ok (Some m))
-  asked_at_once old new m made told = record { call = replied TryRecv (Got m); made = made; asked = refl; reads = refl; told = told }
-
 module _ {T P : Type 0} (w : HistoryRelations T P) (sound : AreSound w) where
-  -- a call that the pass has seen must wait, and for which there was no memory
-  pub lacks_replied : (old new : P) (event back : Event T) (reply : Reply T) → w.extends old new → SeesWait w new event → back ≡ event → reply ≡ no_memory back → HasReplied w old new event reply
-  lacks_replied old new event back reply extends sees same is =
-      subst (λ x. HasReplied w old new event x) (sym (is ∙ ap no_memory same)) (inr (lacks_wait w sound old new event extends sees, refl), λ waits. waits)
-
   -- a call that was refused where the pass had looked
   pub refused_replied : (old mid new : P) (event back : Event T) (reply : Reply T)
       → w.extends old mid → back ≡ event → AppendPost w mid new back (replied back reply) → (IsWait reply → ⊥) → HasReplied w old new event reply
@@ -159,11 +99,6 @@ module _ {T P : Type 0} (w : HistoryRelations T P) (sound : AreSound w) where
 
   pub waiting_on : (old mid new : P) (event back : Event T) (counted : CountedWait) → w.extends old mid → back ≡ event → IsWaiting w mid new back counted → IsWaiting w old new event counted
   waiting_on old mid new event back counted extends same c = subst (λ e. IsWaiting w old new e counted) same (replied-from w sound old mid new back (λ reply. reply) _ extends c)
-
--- what is known of an error is known of it once it was handed on
-pub handed-on : {A E : Type 0} (r : Result A E) (x : E) (P : E → Type 0) → IsErrAnd r (λ e. e ≡ x) → P x → IfErr r P
-handed-on (Ok a) x P is p = tt
-handed-on (Err e) x P is p = subst P (sym is) p
 
 off : false ≡ true → ⊥
 off e = true≢false (sym e)

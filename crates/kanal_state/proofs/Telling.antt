@@ -1,6 +1,5 @@
 -- What a step tells, where it was refused for memory and where it was not.
-use Rattle.kanal_state.proofs.Common.{◌≡◌, ◌≢◌, ◌==◌, ℕ, true, false, refl, ap, sym, ◌∙◌, inl, inr, arith, cases_Bool, false≢true, Line, last_word, Event, Send, Recv, NoMemory, TooMany, StepSpec, step, refused, Tells, MayRefuse, is_no_memory, MustWait}
-use Rattle.kanal_events.proofs.StepCases.{step_found}
+use Rattle.kanal_state.proofs.Common.{◌≡◌, ◌≢◌, ◌==◌, ℕ, true, false, refl, ap, sym, ◌∙◌, inl, inr, arith, cases_Bool, false≢true, Line, last_word, Event, Send, Recv, TooMany, StepSpec, step, refused, Tells, is_no_memory, MustWait}
 
 -- a number that is not 0 is not equal to 0, as it is computed
 not-zero : (n : ℕ) → n ≢ 0 → (n == 0) ≡ false
@@ -15,11 +14,6 @@ module _ {T : Type 0} where
   pub tells_step : (l : Line T) (e : Event T) (told : StepSpec T) → Tells l e told → is_no_memory told.reply ≡ false → told ≡ step l e
   tells_step l e told (inl is) clear = is
   tells_step l e told (inr is) clear = absurd (false≢true (sym clear ∙ ap (λ (t : StepSpec T). is_no_memory t.reply) is.1))
-
-  -- what was refused for memory may be
-  pub tells_refused : (l : Line T) (e : Event T) (told : StepSpec T) → Tells l e told → is_no_memory told.reply ≡ true → MayRefuse l e × (told ≡ refused l NoMemory e)
-  tells_refused l e told (inl is) lacking = absurd (false≢true (sym (step_found l e) ∙ (ap (λ (t : StepSpec T). is_no_memory t.reply) (sym is) ∙ lacking)))
-  tells_refused l e told (inr is) lacking = is
 
   -- a call that must wait is refused where the tickets are used up
   pub too_many : (l : Line T) (e : Event T) → MustWait l e → (l.next == last_word) ≡ true → step l e ≡ refused l TooMany e

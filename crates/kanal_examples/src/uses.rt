@@ -58,22 +58,20 @@ where
     R: Copy + Send + Sync + 'static,
 {
     threads::words_from_a_thread(rt)?;
-    threads::a_full_buffer(&rt)?;
     tasks::within_one_task(&rt)?;
     tasks::a_sender_lent_to_a_task(rt)?;
     tasks::a_receiver_for_a_task_and_one_for_a_thread(rt)?;
     timed::no_place_came(&rt)?;
     timed::in_batches(&rt)?;
     loops::until_a_receive_is_refused(&rt)?;
-    loops::until_the_last_sender_is_gone(&rt)?;
     loops::each_handed_to_a_closure(&rt)?;
     many::a_clone_for_each_thread(rt)?;
     many::a_seal_and_then_a_join(rt)?;
     many::one_of_several(rt)?;
     many::urgent_jobs_first(&rt)?;
+    many::three_lanes_by_a_bell(&rt)?;
     polls::before_the_message_and_after_it(&rt)?;
-    polls::three_in_one_task(&rt)?;
-    polls::many_channels_in_one_task(&rt)?;
+    polls::clients_of_one_hub(&rt)?;
     println!(rt; "{}", faults::each_by_a_question_mark(&rt)?)?;
     faults::a_sealed_one(&rt)?;
     facts::through_a_channel(&rt)?;

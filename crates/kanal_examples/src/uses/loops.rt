@@ -1,6 +1,5 @@
-//! Loops over messages, in three forms.
+//! Loops over messages, in two forms.
 use anyhow::Result;
-use kanal::error::ReceiveError;
 use std::alloc::AllocGlobal;
 use std::sync::Wait;
 
@@ -12,22 +11,6 @@ pub fn until_a_receive_is_refused<R: Wait + AllocGlobal + Print>(rt: &R) -> Resu
     drop(sender);
     for message in receiver.iter(rt) {
         println!(rt; "{message}")?;
-    }
-    Ok(())
-}
-
-/// All messages, until no sender is left.
-pub fn until_the_last_sender_is_gone<R: Wait + AllocGlobal + Print>(rt: &R) -> Result<()> {
-    let (sender, receiver) = kanal::bounded::<u64>(rt.alloc(), 8)?;
-    sender.send(rt, 40)?;
-    sender.send(rt, 50)?;
-    drop(sender);
-    for _ in rt.forever() {
-        match receiver.recv(rt) {
-            Ok(message) => println!(rt; "{message}")?,
-            Err(ReceiveError::SendClosed) => break,
-            Err(error) => return Err(error.into()),
-        }
     }
     Ok(())
 }

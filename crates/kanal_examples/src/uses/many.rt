@@ -1,5 +1,5 @@
 //! One channel among many threads.
-use super::send_one;
+use super::{SendResult, send_one};
 use anyhow::Result;
 use futures::future::Either;
 use kanal::{Receiver, Sender};
@@ -104,4 +104,38 @@ where
     })??;
     println!(rt; "first {before}")?;
     Ok(())
+}
+
+/// Puts a job into its lane, and then rings the bell.
+fn put<R: Wait>(rt: &R, lane: &Sender<u64>, bell: &Sender<()>, job: u64) -> SendResult {
+    lane.send(rt, job)?;
+    bell.send(rt, ())
+}
+
+/// At each ring takes one job, of the first lane that has one, until no sender of the bell is left.
+fn work<R: Wait + Print>(rt: &R, rings: &Receiver<()>, lanes: &[Receiver<u64>]) -> Result<()> {
+    rings.try_for_each(rt, |()| -> Result<()> {
+        for lane in lanes {
+            if let Ok(Some(job)) = lane.try_recv(rt) {
+                println!(rt; "job {job}")?;
+                break;
+            }
+        }
+        Ok(())
+    })??;
+    Ok(())
+}
+
+/// Three lanes by rank: what came by one is done before what waits in a later one.
+pub fn three_lanes_by_a_bell<R: Wait + AllocGlobal + Print>(rt: &R) -> Result<()> {
+    let (urgent, first) = kanal::bounded(rt.alloc(), 8)?;
+    let (normal, second) = kanal::bounded(rt.alloc(), 8)?;
+    let (idle, third) = kanal::bounded(rt.alloc(), 8)?;
+    let (bell, rings) = kanal::unbounded(rt.alloc())?;
+    put(rt, &idle, &bell, 1)?;
+    put(rt, &normal, &bell, 2)?;
+    put(rt, &urgent, &bell, 3)?;
+    put(rt, &normal, &bell, 4)?;
+    drop(bell);
+    work(rt, &rings, &[first, second, third])
 }

@@ -24,47 +24,34 @@ where
     Ok(())
 }
 
-/// Runs three tasks on one executor to their ends.
-fn run_three<R, A, B, C>(rt: &R, a: A, b: B, c: C) -> Result<(A::Output, B::Output, C::Output)>
+/// Runs two tasks on one executor to their ends. Each may be several, joined.
+fn run_both<R, A, B>(rt: &R, a: A, b: B) -> Result<(A::Output, B::Output)>
 where
     R: Wait + RandomSource + AllocGlobal,
     A: Future<Output: Drop>,
     B: Future<Output: Drop>,
-    C: Future<Output: Drop>,
     requires first { A.can_poll a }
     requires second { B.can_poll b }
-    requires third { C.can_poll c }
 {
-    Ok(block_on(rt, future::join3(a, b, c))?)
+    Ok(block_on(rt, future::join(a, b))?)
 }
 
-/// Two sends and a receive on one executor.
-pub fn three_in_one_task<R: Wait + RandomSource + AllocGlobal + Print>(rt: &R) -> Result<()> {
-    let (sender, receiver) = kanal::bounded_async::<u64>(rt.alloc(), 1)?;
-    let (one, two) = (sender.send(4), sender.send(5));
-    let (one, two, got) = run_three(rt, one, two, receiver.recv())?;
-    one?;
-    two?;
-    println!(rt; "{}", got?)?;
-    Ok(())
-}
-
-/// As many channels in one task as there are, each of which brings one number.
-pub fn many_channels_in_one_task<R>(rt: &R) -> Result<()>
-where
-    R: Wait + RandomSource + AllocGlobal + Print,
-{
+/// Three clients and a hub as tasks on one executor: a client sends a list, and then its sender goes; the hub adds up
+/// what comes by all channels until each has ended.
+pub fn clients_of_one_hub<R: Wait + RandomSource + AllocGlobal + Print>(rt: &R) -> Result<()> {
     let (to_a, a) = kanal::bounded_async::<u64>(rt.alloc(), 1)?;
     let (to_b, b) = kanal::bounded_async::<u64>(rt.alloc(), 1)?;
-    block_on(rt, to_a.send(4))??;
-    block_on(rt, to_b.send(50))??;
-    drop(to_a);
-    drop(to_b);
+    let (to_c, c) = kanal::bounded_async::<u64>(rt.alloc(), 1)?;
+    let one = to_a.send_all((1..=4).collect(rt.alloc())?);
+    let two = to_b.send_all((10..=12).collect(rt.alloc())?);
+    let three = to_c.send_all((100..=101).collect(rt.alloc())?);
     let mut streams = Vec::new(rt.alloc());
     streams.push(a.stream())?;
     streams.push(b.stream())?;
+    streams.push(c.stream())?;
     let all = stream::select_all(rt.alloc(), streams)?;
-    let sum = all.fold(0, |sum: u64, n| future::ready(sum.wrapping_add(n)));
-    println!(rt; "{}", block_on(rt, sum)?)?;
-    Ok(())
+    let hub = all.fold(0, |sum: u64, n| future::ready(sum.wrapping_add(n)));
+    let ((one, two, three), sum) = run_both(rt, future::join3(one, two, three), hub)?;
+    println!(rt; "the hub: {sum}")?;
+    Ok(one.and(two).and(three)?)
 }

@@ -40,13 +40,3 @@ where
     }
     Ok(())
 }
-
-/// A try leaves a full buffer as it is, and a receive finds none left in an empty one.
-pub fn a_full_buffer<R: Wait + AllocGlobal + Print>(rt: &R) -> Result<()> {
-    let (sender, receiver) = kanal::bounded::<u64>(rt.alloc(), 1)?;
-    println!(rt; "{}", sender.try_send(rt, 7)?)?;
-    println!(rt; "{}", sender.try_send(rt, 8)?)?;
-    println!(rt; "{}", receiver.recv(rt)?)?;
-    println!(rt; "{}", receiver.try_recv(rt)?.is_none())?;
-    Ok(())
-}

@@ -1,68 +1,109 @@
--- What a task sends of a list: what polls sent before comes before what is sent later.
-use Rattle.std.proofs.Common.{◌≡◌, List, [], ◌∷◌, ◌++◌, Option, Some, None, Result, Ok, Err, refl, sym, ap, ◌∙◌, subst, append_assoc, length}
+-- What a task sends of a stream: what polls sent before comes before what is sent later.
+use Rattle.std.proofs.Common.{◌≡◌, true, List, [], ◌∷◌, ◌++◌, Option, Some, None, MatchOption, Result, Ok, Err, option_map, refl, sym, subst, append_assoc}
+use Rattle.std.specs.Option.{IfSome, IsSomeAnd}
+use Rattle.std.specs.Prelude.{is_some}
+use Rattle.futures.specs.Runs.{After, Runs, Within}
 use Rattle.kanal_core.specs.declared.error.SendError.{SendError}
+use Rattle.kanal_core.specs.declared.error.SendError.TheVariants.{Finished}
 use Rattle.kanal_state.specs.Handles.{Sends}
 use Rattle.kanal_state.specs.HistoryRelations.{HistoryRelations}
-use Rattle.kanal.specs.Sends.{HasSent, SendsAll, SendsFrom, SendsThese, SendsTo}
+use Rattle.kanal.proofs.Sending.{these_on}
+use Rattle.kanal.specs.declared.send_stream.SendStage.{SendStage}
+use Rattle.kanal.specs.Sends.{SendsOn, LeftBy, SendsComing, SendsStream, SendsThese, StreamGoesOn, flattened, pass_at, stage_begun, stage_idle}
 
 module _ {T P : Type 0} (w : HistoryRelations T P) where
-  these_on : (old mid new : P) (earlier later : List T) → SendsThese w old earlier mid → SendsThese w mid later new → SendsThese w old (earlier ++ later) new
-  these_on old mid new [] later before after = subst (λ p. SendsThese w p later new) (sym before) after
-  these_on old mid new (message ∷ earlier) later before after = (before.0, before.1, these_on before.0 mid new earlier later before.2 after)
-
-  all_on : (old mid new : P) (earlier later : List T) (answer : Result (Unit {0}) SendError) → SendsThese w old earlier mid → SendsAll w mid later new answer → SendsAll w old (earlier ++ later) new answer
-  all_on old mid new earlier later (Ok done) before after = these_on old mid new earlier later before after
-  all_on old mid new earlier later (Err error) before after = (
-    earlier ++ after.0,
-    after.1,
-    after.2,
-    after.3,
-    ap (λ xs. earlier ++ xs) after.4 ∙ sym (append_assoc earlier after.0 (after.1 ∷ after.2)),
-    these_on old mid after.3 earlier after.0 before after.5,
-    after.6,
+  goes_on : (before middle after : Runs T) (old mid new : P) → SendsOn w before old middle mid → SendsOn w middle mid after new → SendsOn w before old after new
+  goes_on before middle after old mid new went step = (
+    went.0 ++ step.0,
+    these_on w old mid new went.0 step.0 went.1 step.1,
+    λ later last came. subst (λ xs. before xs last) (sym (append_assoc went.0 step.0 later)) (went.2 (step.0 ++ later) last (step.2 later last came)),
   )
 
-  -- what is answered of what is left is answered of all
-  pub from_on : (old new : Option (P × T)) (before after : List T) (answer : Result (Unit {0}) SendError) → HasSent w old before new after → SendsFrom w new after answer → SendsFrom w old before answer
-  from_on None new before after answer sent came = subst (λ n. SendsFrom w n after answer) sent came
-  from_on (Some o) None before after answer sent came = absurd sent
-  from_on (Some o) (Some n) before after answer sent came =
-      (came.0, subst (λ xs. SendsAll w o.0 xs came.0 answer) (sym sent.1) (all_on o.0 n.0 came.0 sent.0 (n.1 ∷ after) answer sent.2 came.1))
+  comes_on : (before after : Runs T) (old mid new : P) (answer : Result (Unit {0}) SendError) → SendsOn w before old after mid → SendsComing w after mid new answer → SendsComing w before old new answer
+  comes_on before after old mid new (Ok done) went came = (went.0 ++ came.0, went.2 came.0 None came.1, these_on w old mid new went.0 came.0 went.1 came.2)
+  comes_on before after old mid new (Err error) went came =
+      (went.0 ++ came.0, came.1, came.2, went.2 came.0 (Some came.1) came.3, these_on w old mid came.2 went.0 came.0 went.1 came.4, came.5)
 
-  pub to_on : (old new : Option (P × T)) (before after : List T) (kept : P) (answer : Result (Unit {0}) SendError) → HasSent w old before new after → SendsTo w new after (Some kept) answer → SendsTo w old before (Some kept) answer
-  to_on None new before after kept answer sent came = subst (λ n. SendsTo w n after (Some kept) answer) sent came
-  to_on (Some o) None before after kept answer sent came = absurd sent
-  to_on (Some o) (Some n) before after kept answer sent came =
-      subst (λ xs. SendsAll w o.0 xs kept answer) (sym sent.1) (all_on o.0 n.0 kept sent.0 (n.1 ∷ after) answer sent.2 came)
+  -- from where a task was to where it is, by options of passes
+  abbrev pub Went : Option P → Runs T → Option P → Runs T → Type 0
+  Went first before next after = IfSome first (λ old. IsSomeAnd next (λ new. SendsOn w before old after new))
+
+  abbrev pub Ended : Option P → Runs T → Option P → Result (Unit {0}) SendError → Type 0
+  Ended first coming kept answer = IfSome first (λ old. IsSomeAnd kept (λ new. SendsComing w coming old new answer))
+
+  abbrev pub Gives : Option P → Runs T → Result (Unit {0}) SendError → Type 0
+  Gives first coming answer = IfSome first (λ old. (new : P) × SendsComing w coming old new answer)
+
+  pub went_here : (first : Option P) (coming : Runs T) → Went first coming first coming
+  went_here None coming = tt
+  went_here (Some old) coming = ([], refl, λ later last came. came)
+
+  pub went_on : (first next free : Option P) (before middle after : Runs T) → Went first before next middle → Went next middle free after → Went first before free after
+  went_on None next free before middle after went step = tt
+  went_on (Some old) None free before middle after went step = absurd went
+  went_on (Some old) (Some mid) None before middle after went step = absurd step
+  went_on (Some old) (Some mid) (Some new) before middle after went step = goes_on before middle after old mid new went step
+
+  pub ended_on : (first next kept : Option P) (before after : Runs T) (answer : Result (Unit {0}) SendError) → Went first before next after → Ended next after kept answer → Ended first before kept answer
+  ended_on None next kept before after answer went came = tt
+  ended_on (Some old) None kept before after answer went came = absurd went
+  ended_on (Some old) (Some mid) None before after answer went came = absurd came
+  ended_on (Some old) (Some mid) (Some new) before after answer went came = comes_on before after old mid new answer went came
+
+  pub gives_on : (first next : Option P) (before after : Runs T) (answer : Result (Unit {0}) SendError) → Went first before next after → Gives next after answer → Gives first before answer
+  gives_on None next before after answer went came = tt
+  gives_on (Some old) None before after answer went came = absurd went
+  gives_on (Some old) (Some mid) before after answer went came = (came.0, comes_on before after old mid came.0 answer went came.1)
 
   -- what is known with the pass that was left is known without it
-  pub from_to : (old : Option (P × T)) (before : List T) (kept : Option P) (answer : Result (Unit {0}) SendError) → SendsTo w old before kept answer → SendsFrom w old before answer
-  from_to None before kept answer came = came
-  from_to (Some o) before None answer came = absurd came
-  from_to (Some o) before (Some new) answer came = (new, came)
+  pub gives_ended : (first kept : Option P) (coming : Runs T) (answer : Result (Unit {0}) SendError) → Ended first coming kept answer → Gives first coming answer
+  gives_ended None kept coming answer came = tt
+  gives_ended (Some old) None coming answer came = absurd came
+  gives_ended (Some old) (Some new) coming answer came = (new, came)
 
-  pub sent_here : (begun : Option (P × T)) (rest : List T) → HasSent w begun rest begun rest
-  sent_here None rest = refl
-  sent_here (Some b) rest = ([], refl, refl)
+  item_first : (message : T) (before after : Runs T) → before [] (Some message) → After before message after → (pass : P) (later : List T) (last : Option T) → LeftBy (Some (pass, message)) after later last → before later last
+  item_first message before after first rest pass [] None came = absurd came
+  item_first message before after first rest pass [] (Some x) came = subst (λ y. before [] (Some y)) (sym came) first
+  item_first message before after first rest pass (x ∷ xs) last came = subst (λ y. before (y ∷ xs) last) (sym came.0) (rest xs last came.1)
 
-  -- one more was sent, and the next is begun
-  pub sent_on : (old : Option (P × T)) (pass mid : P) (message next : T) (before rest : List T)
-      → HasSent w old before (Some (pass, message)) (next ∷ rest) → Sends w pass mid message (Ok tt) → HasSent w old before (Some (mid, next)) rest
-  sent_on None pass mid message next before rest sent made = absurd (cc)
-  sent_on (Some o) pass mid message next before rest sent made = (
-    sent.0 ++ message ∷ [],
-    sent.1 ∙ sym (append_assoc sent.0 (message ∷ []) (next ∷ rest)),
-    these_on o.0 pass mid sent.0 (message ∷ []) sent.2 (mid, made, refl),
-  )
+  -- an item came
+  pub went_item : (pass : P) (message : T) (before after : Runs T) → before [] (Some message) → After before message after → Went (Some pass) before (Some pass) (LeftBy (Some (pass, message)) after)
+  went_item pass message before after first rest = ([], refl, item_first message before after first rest pass)
 
-  nothing_left : (rest : List T) → length rest ≡ 0 → rest ≡ []
-  nothing_left [] none = refl
-  nothing_left (message ∷ rest) none = absurd (cc)
+  -- it was sent
+  pub went_sent : (pass mid : P) (message : T) (rest : Runs T) → Sends w pass mid message (Ok tt) → Went (Some pass) (LeftBy (Some (pass, message)) rest) (Some mid) rest
+  went_sent pass mid message rest made = (message ∷ [], (mid, made, refl), λ later last came. (refl, came))
 
-  -- the last was sent
-  pub from_last : (pass mid : P) (message : T) (rest : List T) → length rest ≡ 0 → Sends w pass mid message (Ok tt) → SendsTo w (Some (pass, message)) rest (Some mid) (Ok tt)
-  from_last pass mid message rest none made = subst (λ xs. SendsTo w (Some (pass, message)) xs (Some mid) (Ok tt)) (sym (nothing_left rest none)) (mid, made, refl)
+  -- none came yet
+  pub went_within : (pass : P) (before after : Runs T) → Within before after → Went (Some pass) before (Some pass) after
+  went_within pass before after within = ([], refl, within)
 
-  -- the message was refused
-  pub from_refused : (pass mid : P) (message : T) (rest : List T) (error : SendError) → Sends w pass mid message (Err error) → SendsTo w (Some (pass, message)) rest (Some mid) (Err error)
-  from_refused pass mid message rest error made = ([], message, rest, pass, refl, refl, made)
+  -- none comes
+  pub ended_here : (pass : P) (coming : Runs T) → coming [] None → Ended (Some pass) coming (Some pass) (Ok tt)
+  ended_here pass coming came = ([], came, refl)
+
+  -- it was refused
+  pub ended_refused : (pass mid : P) (message : T) (rest : Runs T) (error : SendError) → Sends w pass mid message (Err error) → Ended (Some pass) (LeftBy (Some (pass, message)) rest) (Some mid) (Err error)
+  ended_refused pass mid message rest error made = ([], message, pass, refl, refl, made)
+
+  busy : (begun : P × T) (idle : Option P) (pass : P) → (is_some idle ≡ true → Some begun ≡ None) → idle ≡ Some pass → ⊥
+  busy begun idle pass one is = let e : Some begun ≡ None = one (subst (λ o. is_some o ≡ true) (sym is) refl) in cc
+
+  -- where no send is begun, the pass is that of the next
+  pub at_rest : (first : Option P) (before : Runs T) (begun : Option (P × T)) (idle : Option P) (given : Runs T) (pass : P) → (is_some idle ≡ true → begun ≡ None) → idle ≡ Some pass → Went first before (pass_at begun idle) (LeftBy begun given) → Went first before (Some pass) given
+  at_rest first before None idle given pass one is went = subst (λ o. Went first before o given) is went
+  at_rest first before (Some begun) idle given pass one is went = absurd (busy begun idle pass one is)
+
+  pub from_rest : (first : Option P) (before : Runs T) (begun : Option (P × T)) (idle : Option P) (given : Runs T) (pass : P) → (is_some idle ≡ true → begun ≡ None) → idle ≡ Some pass → Went first before (Some pass) given → Went first before (pass_at begun (Some pass)) (LeftBy begun given)
+  from_rest first before None idle given pass one is went = went
+  from_rest first before (Some begun) idle given pass one is went = absurd (busy begun idle pass one is)
+
+  -- what a task may answer from where it is it may answer from where it was
+  pub same_on : {Sender Hist Log Prefix Internal : Type 0} (held next : Option (Sender × SendStage T Hist P Log Prefix Internal)) (before after : Runs T) (answer : Result (Unit {0}) SendError) → is_some held ≡ true → is_some next ≡ true
+      → StreamGoesOn w (flattened (option_map (λ h. stage_begun h.1) held)) (flattened (option_map (λ h. stage_idle h.1) held)) before (flattened (option_map (λ h. stage_begun h.1) next)) (flattened (option_map (λ h. stage_idle h.1) next)) after
+      → MatchOption next (answer ≡ Err Finished) (λ h. SendsStream w (stage_begun h.1) (stage_idle h.1) after answer)
+      → MatchOption held (answer ≡ Err Finished) (λ h. SendsStream w (stage_begun h.1) (stage_idle h.1) before answer)
+  same_on None next before after answer was is went came = absurd (cc)
+  same_on (Some h) None before after answer was is went came = absurd (cc)
+  same_on (Some h) (Some n) before after answer was is went came =
+      gives_on (pass_at (stage_begun h.1) (stage_idle h.1)) (pass_at (stage_begun n.1) (stage_idle n.1)) (LeftBy (stage_begun h.1) before) (LeftBy (stage_begun n.1) after) answer went came

@@ -1,11 +1,16 @@
--- What a task sends of a list of messages, one after the other.
-use Rattle.std.specs.Prelude.{◌≡◌, Bool, List, [], ◌∷◌, ◌++◌, Option, Some, None, Result, Ok, Err, MatchOption, MatchResult, is_some, option_map}
+-- What a task sends of a list of messages, or of what a stream gives, one after the other.
+use Rattle.std.specs.Prelude.{◌≡◌, ℕ, Bool, List, [], ◌∷◌, ◌++◌, Option, Some, None, Result, Ok, Err, IfSome, IsSomeAnd, MatchOption, MatchResult, is_some, option_map}
 use Rattle.std.specs.Vec.Iter.{into_iter_items}
+use Rattle.futures.specs.Runs.{LeadsIf, Runs}
 use Rattle.kanal_core.specs.declared.error.SendError.{SendError}
+use Rattle.kanal_core.specs.declared.error.SendError.TheVariants.{Finished}
 use Rattle.kanal_state.specs.Handles.{Sends}
 use Rattle.kanal_state.specs.HistoryRelations.{HistoryRelations}
-use Rattle.kanal_futures.specs.Futures.{suspended_begun}
+use Rattle.kanal_futures.specs.Futures.{suspended_begun, suspended_source}
 use Rattle.kanal.specs.declared.send_all.SendAll.{SendAll}
+use Rattle.kanal.specs.declared.send_stream.SendStream.{SendStream}
+use Rattle.kanal.specs.declared.send_stream.SendStage.{SendStage}
+use Rattle.kanal.specs.declared.send_stream.SendStage.TheVariants.{Busy, Idle}
 
 -- what is in an option in an option
 abbrev pub flattened : {A : Type 0} → Option (Option A) → Option A
@@ -16,6 +21,15 @@ flattened (Some inner) = inner
 abbrev pub left_by : {P T : Type 0} → Option (P × T) → List T → List T
 left_by None rest = rest
 left_by (Some begun) rest = begun.1 ∷ rest
+
+-- the pass of the send that was begun, or of the next
+abbrev pub pass_at : {P T : Type 0} → Option (P × T) → Option P → Option P
+pass_at None idle = idle
+pass_at (Some begun) idle = Some begun.0
+
+-- the message that is being sent, and then what the stream gives
+abbrev pub LeftBy : {P T : Type 0} → Option (P × T) → Runs T → Runs T
+LeftBy begun given = LeadsIf begun (λ b message. message ≡ b.1) given
 
 module _ {T P : Type 0} (w : HistoryRelations T P) where
   -- the messages were sent, one after the other
@@ -42,6 +56,29 @@ module _ {T P : Type 0} (w : HistoryRelations T P) where
   HasSent old before new after =
       MatchOption old (new ≡ None) (λ o. MatchOption new ⊥ (λ n. (sent : List T) × (o.1 ∷ before ≡ sent ++ n.1 ∷ after) × SendsThese o.0 sent n.0))
 
+  -- all that comes was sent, and the answer is `Ok`; or all before a message was, and that was refused with this answer
+  abbrev pub SendsComing : Runs T → P → P → Result (Unit {0}) SendError → Type 0
+  SendsComing coming old new answer =
+      MatchResult answer (λ _. (sent : List T) × coming sent None × SendsThese old sent new)
+      (λ error. (sent : List T) × (message : T) × (mid : P) × coming sent (Some message) × SendsThese old sent mid × Sends w mid new message (Err error))
+
+  -- what becomes of the message that is being sent, and of what the stream gives then
+  abbrev pub SendsStream : Option (P × T) → Option P → Runs T → Result (Unit {0}) SendError → Type 0
+  SendsStream begun idle given answer = IfSome (pass_at begun idle) (λ old. (new : P) × SendsComing (LeftBy begun given) old new answer)
+
+  -- the same, where the pass is known that was left
+  abbrev pub SendsStreamTo : Option (P × T) → Option P → Runs T → Option P → Result (Unit {0}) SendError → Type 0
+  SendsStreamTo begun idle given kept answer = IfSome (pass_at begun idle) (λ old. IsSomeAnd kept (λ new. SendsComing (LeftBy begun given) old new answer))
+
+  -- some messages were sent; what may come now may come behind them
+  abbrev pub SendsOn : Runs T → P → Runs T → P → Type 0
+  SendsOn before old after new = (sent : List T) × SendsThese old sent new × ((later : List T) (last : Option T) → after later last → before (sent ++ later) last)
+
+  -- the same, from where a task was to where it is
+  abbrev pub StreamGoesOn : Option (P × T) → Option P → Runs T → Option (P × T) → Option P → Runs T → Type 0
+  StreamGoesOn begun idle before next free after =
+      IfSome (pass_at begun idle) (λ old. IsSomeAnd (pass_at next free) (λ new. SendsOn (LeftBy begun before) old (LeftBy next after) new))
+
 module _ {T Hist Pass Log Prefix Internal : Type 0} where
   -- the message that is being sent, with the pass of its send
   abbrev pub all_begun : SendAll T Hist Pass Log Prefix Internal → Option (Pass × T)
@@ -62,3 +99,49 @@ module _ {T Hist Pass Log Prefix Internal : Type 0} where
   -- the sender is still held
   abbrev pub all_held : SendAll T Hist Pass Log Prefix Internal → Bool
   all_held m = is_some m.sending
+
+module _ {T Hist Pass Log Prefix Internal : Type 0} where
+  -- the message that is being sent, with the pass of its send
+  abbrev pub stage_begun : SendStage T Hist Pass Log Prefix Internal → Option (Pass × T)
+  stage_begun (Idle pass) = None
+  stage_begun (Busy suspended) = suspended_begun suspended
+
+  -- the pass of the next send, where none is begun
+  abbrev pub stage_idle : SendStage T Hist Pass Log Prefix Internal → Option Pass
+  stage_idle (Idle pass) = Some pass
+  stage_idle (Busy suspended) = None
+
+  -- what it waits for: an item, or its send
+  abbrev pub StageWaits : (ℕ → Type 0) → SendStage T Hist Pass Log Prefix Internal → ℕ → Type 0
+  StageWaits needs (Idle pass) s = needs s
+  StageWaits needs (Busy suspended) s = s ≡ suspended_source suspended
+
+module _ {S T Hist Pass Log Prefix Internal : Type 0} where
+  -- the message that is being sent, with the pass of its send
+  abbrev pub stream_begun : SendStream S T Hist Pass Log Prefix Internal → Option (Pass × T)
+  stream_begun m = flattened (option_map (λ held. stage_begun held.1) m.held)
+
+  -- the pass of the next send, where none is begun
+  abbrev pub stream_idle : SendStream S T Hist Pass Log Prefix Internal → Option Pass
+  stream_idle m = flattened (option_map (λ held. stage_idle held.1) m.held)
+
+  -- the stream whose items are sent
+  abbrev pub sent_stream : SendStream S T Hist Pass Log Prefix Internal → S
+  sent_stream m = m.stream
+
+  -- the pass that is left at the answer
+  abbrev pub stream_ended : SendStream S T Hist Pass Log Prefix Internal → Option Pass
+  stream_ended m = m.ended
+
+  -- the sender is still held
+  abbrev pub stream_held : SendStream S T Hist Pass Log Prefix Internal → Bool
+  stream_held m = is_some m.held
+
+  -- what it waits for: its send, or an item
+  abbrev pub StreamWaits : (S → ℕ → Type 0) → SendStream S T Hist Pass Log Prefix Internal → ℕ → Type 0
+  StreamWaits needs m s = IfSome m.held (λ held. StageWaits (needs m.stream) held.1 s)
+
+  -- what it may answer
+  abbrev pub StreamGives : HistoryRelations T Pass → (S → Runs T) → SendStream S T Hist Pass Log Prefix Internal → Result (Unit {0}) SendError → Type 0
+  StreamGives w yields m answer =
+      MatchOption m.held (answer ≡ Err Finished) (λ held. SendsStream w (stage_begun held.1) (stage_idle held.1) (yields m.stream) answer)

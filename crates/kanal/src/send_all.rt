@@ -1,134 +1,167 @@
-//! A task that sends the messages of a list, and drops its sender at the end: as many in one poll as go in.
+//! A task that sends what a stream gives, and drops its sender at the stream's end: as much in one poll as goes in.
 //!
 //! Each send is one of `kanal_futures`, by the pass that the send before it gave back.
-ghost use Rattle.std.specs.Prelude.{◌≡◌, ⊤, true, false, Err, IsSomeAnd, MatchOption};
-ghost use Rattle.std.specs.Vec.Iter.{into_iter_items};
+ghost use Rattle.std.specs.Prelude.{◌≡◌, MatchOption, None, false, is_some, true};
 ghost use Rattle.futures.specs.Poll.{IfReady, OnPending};
 ghost use Rattle.futures.specs.Task.{Covers, Keeps};
-ghost use Rattle.kanal.specs.Sends.{HasSent, SendsFrom, SendsTo, all_begun, all_ended, all_held, all_rest};
-ghost use Rattle.kanal_core.specs.declared.error.SendError.{SendError};
-ghost use Rattle.kanal_futures.specs.Futures.{call_begun, call_source, suspended_begun, suspended_source};
+ghost use Rattle.kanal.specs.Sends.{SendsStreamTo, StreamGives, StreamGoesOn, StreamWaits, sent_stream, stream_begun, stream_ended, stream_held, stream_idle};
+ghost use Rattle.kanal_futures.specs.Futures.{call_begun, call_source};
 
 use crate::async_sender::AsyncSender;
-use futures::Future;
 use futures::task::{Context, Poll};
+use futures::{Future, Stream};
 use kanal_core::error::SendError;
 use kanal_futures::{Sending, SuspendedSend};
 use kanal_state::{History, NoHistory};
-use std::vec::IntoIter;
 
-// The messages that one poll sends, before other tasks get their turn.
-const IN_ONE_POLL: u32 = 128;
+// The turns of one poll, before other tasks get theirs: a message takes two, one to come and one to be sent.
+const IN_ONE_POLL: u32 = 256;
 
-/// Sends the messages of a list, as `AsyncSender::send_all` answers it.
+/// What a task does next that sends a stream.
+pub(crate) enum SendStage<T, H: History<T>> {
+    /// It asks for an item, which is sent by this pass.
+    Idle(H::Pass),
+    /// It sends one.
+    Busy(SuspendedSend<T, H>),
+}
+
+/// Sends what a stream gives, as `AsyncSender::send_stream` answers it.
 ///
-/// A poll never waits. It sends as many as go in, and after 128 asks for another poll, so that other tasks get their
-/// turn. With its answer the sender goes, and the rest where a send was refused. After its answer it answers
-/// `Err(SendError::Finished)`.
+/// A poll never waits. It sends as many items as come and go in, and after 128 asks for another poll, so that other
+/// tasks get their turn. With its answer the sender goes. After its answer it answers `Err(SendError::Finished)`.
 ///
-/// Its drop takes a message back that waits for a place; that and the rest are dropped, and the sender goes.
-pub struct SendAll<T, H: History<T> = NoHistory> {
-    pub(crate) sending: Option<(AsyncSender<T, H>, SuspendedSend<T, H>)>,
-    pub(crate) rest: IntoIter<T>,
-    /// The pass of a list that was sent, or refused, so that each send shows in it.
+/// Its drop takes a message back that waits for a place; that and the stream are dropped, and the sender goes.
+pub struct SendStream<S, T, H: History<T> = NoHistory> {
+    pub(crate) held: Option<(AsyncSender<T, H>, SendStage<T, H>)>,
+    pub(crate) stream: S,
+    /// The pass that is left at the answer, so that each send shows in it.
     pub(crate) ended: Option<H::Pass>,
 }
 
-impl<T: Drop, H: History<T>> Drop for SendAll<T, H> {
+impl<S: Drop, T: Drop, H: History<T>> Drop for SendStream<S, T, H> {
     fn drop(self) {
-        let SendAll {
-            sending,
-            rest,
+        let SendStream {
+            held,
+            stream,
             ended,
         } = self;
-        drop(rest);
+        drop(stream);
         drop(ended);
-        if let Some((sender, suspended)) = sending {
-            drop(Sending::resume(sender.channel(), suspended));
+        if let Some((sender, stage)) = held {
+            match stage {
+                SendStage::Idle(pass) => drop(pass),
+                SendStage::Busy(suspended) => drop(Sending::resume(sender.channel(), suspended)),
+            }
             drop(sender);
         }
     }
 }
 
-fn send_each<T: Drop, H: History<T>>(
+fn send_each<S: Stream<Item = T>, T: Drop, H: History<T>>(
     call: &mut Sending<'_, T, H>,
-    rest: &mut IntoIter<T>,
+    idle: &mut Option<H::Pass>,
+    stream: &mut S,
     cx: &mut Context<'_>,
-) -> Poll<(Option<H::Pass>, Result<(), SendError>)>
-    ensures sent { IfReady result (λ r. SendsTo H.relations (call_begun call.old) (into_iter_items rest.old) r.0 r.1) }
-    ensures begun { OnPending result (HasSent H.relations (call_begun call.old) (into_iter_items rest.old)
-        (call_begun call.new) (into_iter_items rest.new)) }
-    ensures registered { OnPending result (Covers cx.new (λ s. s ≡ call_source call.new)) }
+) -> Poll<Result<(), SendError>>
+    requires one { is_some idle.old ≡ true → call_begun call.old ≡ None }
+    requires pollable { S.can_poll stream.old }
+    ensures sent { IfReady result (SendsStreamTo H.relations (call_begun call.old) idle.old (S.yields stream.old)
+        idle.new) }
+    ensures begun { OnPending result (StreamGoesOn H.relations (call_begun call.old) idle.old (S.yields stream.old)
+        (call_begun call.new) idle.new (S.yields stream.new)) }
+    ensures one { OnPending result (is_some idle.new ≡ true → call_begun call.new ≡ None) }
+    ensures again { OnPending result (S.can_poll stream.new) }
+    ensures registered { OnPending result (Covers cx.new
+        (λ s. MatchOption idle.new (s ≡ call_source call.new) (λ _. S.needs stream.new s))) }
     ensures kept { Keeps cx.old cx.new }
 {
     for _ in 0..IN_ONE_POLL {
-        match call.poll(cx) {
-            Poll::Pending => return Poll::Pending,
-            Poll::Ready(None) => return Poll::Ready((None, Ok(()))),
-            Poll::Ready(Some(sent)) => {
-                let (pass, answer) = sent.into_parts();
-                if let Err(error) = answer {
-                    return Poll::Ready((Some(pass), Err(error)));
-                }
-                let Some(message) = rest.next() else {
-                    return Poll::Ready((Some(pass), Ok(())));
-                };
-                call.restart(pass, message);
+        match idle.take() {
+            Some(pass) => match stream.poll_next(cx) {
+                Poll::Pending => {
+                    *idle = Some(pass);
+                    return Poll::Pending;
+                },
+                Poll::Ready(None) => {
+                    *idle = Some(pass);
+                    return Poll::Ready(Ok(()));
+                },
+                Poll::Ready(Some(message)) => call.restart(pass, message),
+            },
+            None => match call.poll(cx) {
+                Poll::Pending => return Poll::Pending,
+                Poll::Ready(None) => return Poll::Ready(Err(SendError::Finished)),
+                Poll::Ready(Some(sent)) => {
+                    let (pass, answer) = sent.into_parts();
+                    *idle = Some(pass);
+                    if let Err(error) = answer {
+                        return Poll::Ready(Err(error));
+                    }
+                },
             },
         }
     }
     cx.yield_now()
 }
 
-impl<T: Drop, H: History<T>> Future for SendAll<T, H> {
+impl<S: Stream<Item = T>, T: Drop, H: History<T>> Future for SendStream<S, T, H> {
     type Output = Result<(), SendError>;
 
-    ghost needs = { λ m s. IsSomeAnd m.sending (λ held. s ≡ suspended_source held.1) };
+    ghost can_poll = { λ m. S.can_poll m.stream };
 
-    ghost gives = { λ m answer. MatchOption m.sending (answer ≡ Err SendError.Finished)
-        (λ held. SendsFrom H.relations (suspended_begun held.1) (into_iter_items m.rest) answer) };
+    ghost needs = { StreamWaits S.needs };
 
-    /// Sends as many messages as go in. It never waits.
+    ghost gives = { StreamGives H.relations S.yields };
+
+    /// Sends what comes and goes in. It never waits.
     ///
     /// # Examples
     /// ```text
-    /// let mut all = sender.send_all(numbers);
-    /// task.poll(&mut all)   answers  Pending         with 2 sent, where 3 are to go into a channel for 2
-    /// task.poll(&mut all)   answers  Ready(Ok(()))   after a receive
+    /// let mut all = sender.send_stream(numbers.stream());
+    /// task.poll(&mut all)   answers  Pending         while senders of `numbers` are left
+    /// task.poll(&mut all)   answers  Ready(Ok(()))   after their last message
     /// ```
     fn poll(&mut self, cx: &mut Context<'_>) -> Poll<Result<(), SendError>>
-        ensures value { IfReady result (λ r. MatchOption self.old.sending (r ≡ Err SendError.Finished)
-            (λ held. SendsFrom H.relations (suspended_begun held.1) (into_iter_items self.old.rest) r)) }
-        ensures again { OnPending result ⊤ }
-        ensures same { OnPending result ((r : _)
-            → MatchOption self.new.sending (r ≡ Err SendError.Finished)
-            (λ held. SendsFrom H.relations (suspended_begun held.1) (into_iter_items self.new.rest) r)
-            → MatchOption self.old.sending (r ≡ Err SendError.Finished)
-            (λ held. SendsFrom H.relations (suspended_begun held.1) (into_iter_items self.old.rest) r)) }
-        ensures registered { OnPending result (Covers cx.new
-            (λ s. IsSomeAnd self.new.sending (λ held. s ≡ suspended_source held.1))) }
+        requires { S.can_poll (sent_stream self.old) }
+        ensures value { IfReady result (StreamGives H.relations S.yields self.old) }
+        ensures again { OnPending result (S.can_poll (sent_stream self.new)) }
+        ensures same { OnPending result ((r : _) → StreamGives H.relations S.yields self.new r
+            → StreamGives H.relations S.yields self.old r) }
+        ensures registered { OnPending result (Covers cx.new (StreamWaits S.needs self.new)) }
         ensures kept { Keeps cx.old cx.new }
-        ensures begun { OnPending result (HasSent H.relations (all_begun self.old) (all_rest self.old)
-            (all_begun self.new) (all_rest self.new)) }
-        ensures made { IfReady result (λ r. all_held self.old ≡ true
-            → SendsTo H.relations (all_begun self.old) (all_rest self.old) (all_ended self.new) r) }
-        ensures gone { IfReady result (λ _. all_held self.new ≡ false) }
-        ensures held { OnPending result (all_held self.new ≡ true) }
+        ensures begun { OnPending result (StreamGoesOn H.relations (stream_begun self.old) (stream_idle self.old)
+            (S.yields (sent_stream self.old)) (stream_begun self.new) (stream_idle self.new)
+            (S.yields (sent_stream self.new))) }
+        ensures made { IfReady result (λ r. stream_held self.old ≡ true
+            → SendsStreamTo H.relations (stream_begun self.old) (stream_idle self.old)
+            (S.yields (sent_stream self.old)) (stream_ended self.new) r) }
+        ensures gone { IfReady result (λ _. stream_held self.new ≡ false) }
+        ensures held { OnPending result (stream_held self.new ≡ true) }
     {
-        let Some((sender, suspended)) = self.sending.take() else {
+        let Some((sender, stage)) = self.held.take() else {
             return Poll::Ready(Err(SendError::Finished));
         };
+        let (suspended, mut idle) = match stage {
+            SendStage::Idle(pass) => (SuspendedSend::new(None), Some(pass)),
+            SendStage::Busy(suspended) => (suspended, None),
+        };
         let mut call = Sending::resume(sender.channel(), suspended);
-        match send_each(&mut call, &mut self.rest, cx) {
-            Poll::Ready((ended, answer)) => {
+        match send_each(&mut call, &mut idle, &mut self.stream, cx) {
+            Poll::Ready(answer) => {
                 drop(call);
                 drop(sender);
-                self.ended = ended;
+                self.ended = idle;
                 Poll::Ready(answer)
             },
             Poll::Pending => {
-                let suspended = call.suspend();
-                match self.sending.replace((sender, suspended)) {
+                let stage = match idle {
+                    None => SendStage::Busy(call.suspend()),
+                    Some(pass) => {
+                        drop(call);
+                        SendStage::Idle(pass)
+                    },
+                };
+                match self.held.replace((sender, stage)) {
                     None => Poll::Pending,
                     Some(_held) => unreachable!(),
                 }

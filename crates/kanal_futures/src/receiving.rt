@@ -34,15 +34,8 @@ impl<T: Drop, H: History<T>> ReceiveAnswer<T, H> {
     }
 }
 
-/// Receives a message in a task, by the pass that it carries.
-///
-/// A poll never waits. The first one that gets the lock takes the front message; where there is none,
-/// the receiver waits until a message is sent or the channel ends. Where another holds the lock the poll
-/// makes no call and asks for another poll: at once where the channel has no buffer, and else after a pause,
-/// which is longer with each such poll in a row.
-///
-/// A drop never waits, too: a started wait is withdrawn by an internal call, and a message that
-/// was handed over before is dropped. The pass is gone then.
+/// Receives a message in a task, by the pass that it carries. It is polled and dropped as a `ReceiveFuture`; after a
+/// drop the pass is gone.
 pub type Receiving<'a, T, H> = TaskCall<'a, T, H, (), OfReceive>;
 
 /// A future that receives a message by this pass. It does nothing before its first poll.

@@ -34,15 +34,8 @@ impl<T: Drop, H: History<T>> SendAnswer<T, H> {
     }
 }
 
-/// Sends a message in a task, by the pass that it carries.
-///
-/// A poll never waits. The first one that gets the lock offers the message; where there is no place for
-/// it, the message waits in the line until a receiver takes it or the channel ends. Where another holds the
-/// lock the poll makes no call and asks for another poll: at once where the channel has no buffer, and else
-/// after a pause, which is longer with each such poll in a row.
-///
-/// A drop never waits, too: a message that waits is withdrawn by an internal call, and dropped.
-/// The pass is gone then.
+/// Sends a message in a task, by the pass that it carries. It is polled and dropped as a `SendFuture`; after a drop
+/// the pass is gone.
 pub type Sending<'a, T, H> = TaskCall<'a, T, H, T, OfSend>;
 
 /// A send between two of its polls, apart from its channel.

@@ -73,3 +73,43 @@ fn a_poll_sends_up_to_a_limit(rt: HostRuntime) {
     let none = block_on(&rt, other.send_all(up_to(&rt, 0)));
     equal(&rt, none.expect(&rt, "a task"), Ok(()));
 }
+
+/// A stream is sent as it comes: it waits for an item, then for a place, and its end is the sender's.
+#[test]
+fn a_stream_is_sent_over_its_polls(rt: HostRuntime) {
+    let (source, numbers, task) = ends_and_task::<u64>(&rt, 4);
+    let (sender, receiver, _task) = ends_and_task::<u64>(&rt, 1);
+    let mut all = sender.send_stream(numbers.stream());
+    equal(&rt, task.poll(&mut all), Poll::Pending);
+    holds(&rt, !task.is_woken());
+    for number in 1..=2 {
+        equal(&rt, source.try_send(&rt, number), Ok(true));
+    }
+    holds(&rt, task.is_woken());
+    equal(&rt, task.poll(&mut all), Poll::Pending);
+    drop(source);
+    equal(&rt, receiver.try_recv(&rt), Ok(Some(1)));
+    equal(&rt, task.poll(&mut all), Poll::Ready(Ok(())));
+    equal(&rt, receiver.sender_count(&rt), 0);
+    equal(&rt, receiver.try_recv(&rt), Ok(Some(2)));
+    equal(&rt, receiver.try_recv(&rt), Err(ReceiveError::SendClosed));
+}
+
+/// A refused item ends it: the rest stays with the stream's channel.
+#[test]
+fn a_close_ends_a_stream(rt: HostRuntime) {
+    let (source, numbers, task) = ends_and_task::<u64>(&rt, 4);
+    let (sender, receiver, _task) = ends_and_task::<u64>(&rt, 1);
+    let mut all = sender.send_stream(numbers.stream());
+    for number in 1..=3 {
+        equal(&rt, source.try_send(&rt, number), Ok(true));
+    }
+    equal(&rt, task.poll(&mut all), Poll::Pending);
+    equal(&rt, receiver.close(&rt), Ok(()));
+    equal(
+        &rt,
+        task.poll(&mut all),
+        Poll::Ready(Err(SendError::Closed)),
+    );
+    equal(&rt, numbers.len(&rt), 1);
+}

@@ -2,4 +2,3 @@ pub mod Calling
 pub mod Receiving
 pub mod Loops
 pub mod Sending
-pub mod Streaming

@@ -7,22 +7,25 @@ use Rattle.kanal_core.specs.declared.error.SendError.{SendError}
 use Rattle.kanal_core.specs.declared.error.SendError.TheVariants.{Finished}
 use Rattle.kanal_state.specs.Handles.{Sends}
 use Rattle.kanal_state.specs.HistoryRelations.{HistoryRelations}
-use Rattle.kanal.proofs.Sending.{these_on}
-use Rattle.kanal.specs.declared.send_stream.SendStage.{SendStage}
-use Rattle.kanal.specs.Sends.{SendsOn, LeftBy, SendsComing, SendsStream, SendsThese, StreamGoesOn, flattened, pass_at, stage_begun, stage_idle}
+use Rattle.kanal.specs.declared.send_all.SendStage.{SendStage}
+use Rattle.kanal.specs.Sends.{SendsOn, LeftBy, SendsComing, SendsAll, SendsAllTo, SendsThese, SendsSome, flattened, pass_at, stage_begun, stage_idle}
 
 module _ {T P : Type 0} (w : HistoryRelations T P) where
+  these_on : (old mid new : P) (earlier later : List T) → SendsThese w old earlier mid → SendsThese w mid later new → SendsThese w old (earlier ++ later) new
+  these_on old mid new [] later before after = subst (λ p. SendsThese w p later new) (sym before) after
+  these_on old mid new (message ∷ earlier) later before after = (before.0, before.1, these_on before.0 mid new earlier later before.2 after)
+
   goes_on : (before middle after : Runs T) (old mid new : P) → SendsOn w before old middle mid → SendsOn w middle mid after new → SendsOn w before old after new
   goes_on before middle after old mid new went step = (
     went.0 ++ step.0,
-    these_on w old mid new went.0 step.0 went.1 step.1,
+    these_on old mid new went.0 step.0 went.1 step.1,
     λ later last came. subst (λ xs. before xs last) (sym (append_assoc went.0 step.0 later)) (went.2 (step.0 ++ later) last (step.2 later last came)),
   )
 
   comes_on : (before after : Runs T) (old mid new : P) (answer : Result (Unit {0}) SendError) → SendsOn w before old after mid → SendsComing w after mid new answer → SendsComing w before old new answer
-  comes_on before after old mid new (Ok done) went came = (went.0 ++ came.0, went.2 came.0 None came.1, these_on w old mid new went.0 came.0 went.1 came.2)
+  comes_on before after old mid new (Ok done) went came = (went.0 ++ came.0, went.2 came.0 None came.1, these_on old mid new went.0 came.0 went.1 came.2)
   comes_on before after old mid new (Err error) went came =
-      (went.0 ++ came.0, came.1, came.2, went.2 came.0 (Some came.1) came.3, these_on w old mid came.2 went.0 came.0 went.1 came.4, came.5)
+      (went.0 ++ came.0, came.1, came.2, went.2 came.0 (Some came.1) came.3, these_on old mid came.2 went.0 came.0 went.1 came.4, came.5)
 
   -- from where a task was to where it is, by options of passes
   abbrev pub Went : Option P → Runs T → Option P → Runs T → Type 0
@@ -100,10 +103,17 @@ module _ {T P : Type 0} (w : HistoryRelations T P) where
 
   -- what a task may answer from where it is it may answer from where it was
   pub same_on : {Sender Hist Log Prefix Internal : Type 0} (held next : Option (Sender × SendStage T Hist P Log Prefix Internal)) (before after : Runs T) (answer : Result (Unit {0}) SendError) → is_some held ≡ true → is_some next ≡ true
-      → StreamGoesOn w (flattened (option_map (λ h. stage_begun h.1) held)) (flattened (option_map (λ h. stage_idle h.1) held)) before (flattened (option_map (λ h. stage_begun h.1) next)) (flattened (option_map (λ h. stage_idle h.1) next)) after
-      → MatchOption next (answer ≡ Err Finished) (λ h. SendsStream w (stage_begun h.1) (stage_idle h.1) after answer)
-      → MatchOption held (answer ≡ Err Finished) (λ h. SendsStream w (stage_begun h.1) (stage_idle h.1) before answer)
+      → SendsSome w (flattened (option_map (λ h. stage_begun h.1) held)) (flattened (option_map (λ h. stage_idle h.1) held)) before (flattened (option_map (λ h. stage_begun h.1) next)) (flattened (option_map (λ h. stage_idle h.1) next)) after
+      → MatchOption next (answer ≡ Err Finished) (λ h. SendsAll w (stage_begun h.1) (stage_idle h.1) after answer)
+      → MatchOption held (answer ≡ Err Finished) (λ h. SendsAll w (stage_begun h.1) (stage_idle h.1) before answer)
   same_on None next before after answer was is went came = absurd (cc)
   same_on (Some h) None before after answer was is went came = absurd (cc)
   same_on (Some h) (Some n) before after answer was is went came =
       gives_on (pass_at (stage_begun h.1) (stage_idle h.1)) (pass_at (stage_begun n.1) (stage_idle n.1)) (LeftBy (stage_begun h.1) before) (LeftBy (stage_begun n.1) after) answer went came
+
+  -- what a task answers at its end it may answer from where it was
+  pub ended_at : {Sender Hist Log Prefix Internal : Type 0} (held : Option (Sender × SendStage T Hist P Log Prefix Internal)) (kept : Option P) (given : Runs T) (answer : Result (Unit {0}) SendError) → is_some held ≡ true
+      → SendsAllTo w (flattened (option_map (λ h. stage_begun h.1) held)) (flattened (option_map (λ h. stage_idle h.1) held)) given kept answer
+      → MatchOption held (answer ≡ Err Finished) (λ h. SendsAll w (stage_begun h.1) (stage_idle h.1) given answer)
+  ended_at None kept given answer is came = absurd (cc)
+  ended_at (Some h) kept given answer is came = gives_ended (pass_at (stage_begun h.1) (stage_idle h.1)) kept (LeftBy (stage_begun h.1) given) answer came

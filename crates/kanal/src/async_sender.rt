@@ -3,20 +3,19 @@
 //! Calls are generic in the caller's pass; a call that takes no caller is made by the pass of no content.
 ghost use Rattle.std.specs.Prelude.{◌≡◌, ◌≢◌, IfSome, IsSome, None, Ok, Some, true, codes};
 ghost use Rattle.kanal.specs.Handles.{Clones, handle_of_sender, sender_for_tasks, viewed_sender};
-ghost use Rattle.kanal.specs.Sends.{all_held, all_left, sent_stream, stream_begun, stream_held};
+ghost use Rattle.kanal.specs.Sends.{all_begun, all_held, all_stream};
 ghost use Rattle.kanal_events.specs.declared.event.Side.{Side};
 ghost use Rattle.kanal_futures.specs.Plain.{message_in};
 ghost use Rattle.kanal_state.specs.Handles.{TriesToSend, TriesToSendNow};
 
 use crate::handle::Handle;
-use crate::send_all::SendAll;
-use crate::send_stream::{SendStage, SendStream};
+use crate::send_all::{SendAll, SendStage};
 use crate::sender::Sender;
 use crate::sender_view::SenderView;
 use futures::Stream;
 use kanal_channel::Shared;
 use kanal_core::error::{SendError, TooMany};
-use kanal_futures::{SendFuture, SuspendedSend, send_future};
+use kanal_futures::{SendFuture, send_future};
 use kanal_state::{CallContext, CountedSender, History, NoHistory, SendSide};
 use std::fmt;
 use std::ops::Deref;
@@ -192,33 +191,9 @@ impl<T: Drop, H: History<T, Pass = ()>> AsyncSender<T, H> {
         send_future(self.channel(), message)
     }
 
-    /// A future that owns this sender. It sends the messages in order, as many in one poll as go in, up to 128, and
-    /// at its end drops the sender. Neither this call nor a poll waits for anybody.
-    ///
-    /// The future answers `Ok(())` once all are sent. One that is dropped before has sent a beginning of them.
-    ///
-    /// # Errors
-    /// As `send`. The messages before the refused one were sent; that and the rest are dropped.
-    ///
-    /// # Examples
-    /// ```text
-    /// block_on(&rt, sender.send_all(numbers))   gives  Ok(())   and no sender is left, where it was the last
-    /// ```
-    pub fn send_all(self, messages: Vec<T>) -> SendAll<T, H>
-        ensures held { all_held result ≡ true }
-        ensures messages { all_left result ≡ messages.items }
-    {
-        let mut rest = messages.into_iter();
-        let begun = rest.next().map(|message| ((), message));
-        SendAll {
-            sending: Some((self, SuspendedSend::new(begun))),
-            rest,
-            ended: None,
-        }
-    }
-
     /// A future that owns this sender. It sends the stream's items in order, as many in one poll as come and go in, up
-    /// to 128, and at the stream's end drops the sender. Neither this call nor a poll waits for anybody.
+    /// to 128, and at the stream's end drops the sender. Neither this call nor a poll waits for anybody. A list, or what
+    /// any iterator gives, is a stream by `stream::iter`.
     ///
     /// The future answers `Ok(())` once the stream has ended and all is sent. One that is dropped before has sent a
     /// beginning of it.
@@ -228,14 +203,15 @@ impl<T: Drop, H: History<T, Pass = ()>> AsyncSender<T, H> {
     ///
     /// # Examples
     /// ```text
-    /// block_on(&rt, sender.send_stream(numbers.stream()))   gives  Ok(())   once no sender of `numbers` is left
+    /// block_on(&rt, sender.send_all(stream::iter(1..=9)))   gives  Ok(())   and no sender is left, where it was the last
+    /// block_on(&rt, sender.send_all(numbers.stream()))      gives  Ok(())   once no sender of `numbers` is left
     /// ```
-    pub fn send_stream<S: Stream<Item = T>>(self, stream: S) -> SendStream<S, T, H>
-        ensures held { stream_held result ≡ true }
-        ensures begun { stream_begun result ≡ None }
-        ensures stream { sent_stream result ≡ stream }
+    pub fn send_all<S: Stream<Item = T>>(self, stream: S) -> SendAll<S, T, H>
+        ensures held { all_held result ≡ true }
+        ensures begun { all_begun result ≡ None }
+        ensures stream { all_stream result ≡ stream }
     {
-        SendStream {
+        SendAll {
             held: Some((self, SendStage::Idle(()))),
             stream,
             ended: None,

@@ -4,7 +4,7 @@
 ghost use Rattle.std.specs.Prelude.{◌≡◌, MatchOption, None, false, is_some, true};
 ghost use Rattle.futures.specs.Poll.{IfReady, OnPending};
 ghost use Rattle.futures.specs.Task.{Covers, Keeps};
-ghost use Rattle.kanal.specs.Sends.{SendsStreamTo, StreamGives, StreamGoesOn, StreamWaits, sent_stream, stream_begun, stream_ended, stream_held, stream_idle};
+ghost use Rattle.kanal.specs.Sends.{SendsAllTo, AllGives, SendsSome, AllWaits, all_stream, all_begun, all_ended, all_held, all_idle};
 ghost use Rattle.kanal_futures.specs.Futures.{call_begun, call_source};
 
 use crate::async_sender::AsyncSender;
@@ -25,22 +25,22 @@ pub(crate) enum SendStage<T, H: History<T>> {
     Busy(SuspendedSend<T, H>),
 }
 
-/// Sends what a stream gives, as `AsyncSender::send_stream` answers it.
+/// Sends what a stream gives, as `AsyncSender::send_all` answers it.
 ///
 /// A poll never waits. It sends as many items as come and go in, and after 128 asks for another poll, so that other
 /// tasks get their turn. With its answer the sender goes. After its answer it answers `Err(SendError::Finished)`.
 ///
 /// Its drop takes a message back that waits for a place; that and the stream are dropped, and the sender goes.
-pub struct SendStream<S, T, H: History<T> = NoHistory> {
+pub struct SendAll<S, T, H: History<T> = NoHistory> {
     pub(crate) held: Option<(AsyncSender<T, H>, SendStage<T, H>)>,
     pub(crate) stream: S,
     /// The pass that is left at the answer, so that each send shows in it.
     pub(crate) ended: Option<H::Pass>,
 }
 
-impl<S: Drop, T: Drop, H: History<T>> Drop for SendStream<S, T, H> {
+impl<S: Drop, T: Drop, H: History<T>> Drop for SendAll<S, T, H> {
     fn drop(self) {
-        let SendStream {
+        let SendAll {
             held,
             stream,
             ended,
@@ -65,9 +65,9 @@ fn send_each<S: Stream<Item = T>, T: Drop, H: History<T>>(
 ) -> Poll<Result<(), SendError>>
     requires one { is_some idle.old ≡ true → call_begun call.old ≡ None }
     requires pollable { S.can_poll stream.old }
-    ensures sent { IfReady result (SendsStreamTo H.relations (call_begun call.old) idle.old (S.yields stream.old)
+    ensures sent { IfReady result (SendsAllTo H.relations (call_begun call.old) idle.old (S.yields stream.old)
         idle.new) }
-    ensures begun { OnPending result (StreamGoesOn H.relations (call_begun call.old) idle.old (S.yields stream.old)
+    ensures begun { OnPending result (SendsSome H.relations (call_begun call.old) idle.old (S.yields stream.old)
         (call_begun call.new) idle.new (S.yields stream.new)) }
     ensures one { OnPending result (is_some idle.new ≡ true → call_begun call.new ≡ None) }
     ensures again { OnPending result (S.can_poll stream.new) }
@@ -104,39 +104,39 @@ fn send_each<S: Stream<Item = T>, T: Drop, H: History<T>>(
     cx.yield_now()
 }
 
-impl<S: Stream<Item = T>, T: Drop, H: History<T>> Future for SendStream<S, T, H> {
+impl<S: Stream<Item = T>, T: Drop, H: History<T>> Future for SendAll<S, T, H> {
     type Output = Result<(), SendError>;
 
     ghost can_poll = { λ m. S.can_poll m.stream };
 
-    ghost needs = { StreamWaits S.needs };
+    ghost needs = { AllWaits S.needs };
 
-    ghost gives = { StreamGives H.relations S.yields };
+    ghost gives = { AllGives H.relations S.yields };
 
     /// Sends what comes and goes in. It never waits.
     ///
     /// # Examples
     /// ```text
-    /// let mut all = sender.send_stream(numbers.stream());
+    /// let mut all = sender.send_all(numbers.stream());
     /// task.poll(&mut all)   answers  Pending         while senders of `numbers` are left
     /// task.poll(&mut all)   answers  Ready(Ok(()))   after their last message
     /// ```
     fn poll(&mut self, cx: &mut Context<'_>) -> Poll<Result<(), SendError>>
-        requires { S.can_poll (sent_stream self.old) }
-        ensures value { IfReady result (StreamGives H.relations S.yields self.old) }
-        ensures again { OnPending result (S.can_poll (sent_stream self.new)) }
-        ensures same { OnPending result ((r : _) → StreamGives H.relations S.yields self.new r
-            → StreamGives H.relations S.yields self.old r) }
-        ensures registered { OnPending result (Covers cx.new (StreamWaits S.needs self.new)) }
+        requires { S.can_poll (all_stream self.old) }
+        ensures value { IfReady result (AllGives H.relations S.yields self.old) }
+        ensures again { OnPending result (S.can_poll (all_stream self.new)) }
+        ensures same { OnPending result ((r : _) → AllGives H.relations S.yields self.new r
+            → AllGives H.relations S.yields self.old r) }
+        ensures registered { OnPending result (Covers cx.new (AllWaits S.needs self.new)) }
         ensures kept { Keeps cx.old cx.new }
-        ensures begun { OnPending result (StreamGoesOn H.relations (stream_begun self.old) (stream_idle self.old)
-            (S.yields (sent_stream self.old)) (stream_begun self.new) (stream_idle self.new)
-            (S.yields (sent_stream self.new))) }
-        ensures made { IfReady result (λ r. stream_held self.old ≡ true
-            → SendsStreamTo H.relations (stream_begun self.old) (stream_idle self.old)
-            (S.yields (sent_stream self.old)) (stream_ended self.new) r) }
-        ensures gone { IfReady result (λ _. stream_held self.new ≡ false) }
-        ensures held { OnPending result (stream_held self.new ≡ true) }
+        ensures begun { OnPending result (SendsSome H.relations (all_begun self.old) (all_idle self.old)
+            (S.yields (all_stream self.old)) (all_begun self.new) (all_idle self.new)
+            (S.yields (all_stream self.new))) }
+        ensures made { IfReady result (λ r. all_held self.old ≡ true
+            → SendsAllTo H.relations (all_begun self.old) (all_idle self.old)
+            (S.yields (all_stream self.old)) (all_ended self.new) r) }
+        ensures gone { IfReady result (λ _. all_held self.new ≡ false) }
+        ensures held { OnPending result (all_held self.new ≡ true) }
     {
         let Some((sender, stage)) = self.held.take() else {
             return Poll::Ready(Err(SendError::Finished));

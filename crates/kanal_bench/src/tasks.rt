@@ -40,8 +40,7 @@ pub fn send_list<R>(rt: &R, sender: AsyncSender<u64>, count: u64) -> io::Result<
 where
     R: Wait + RandomSource + AllocGlobal,
 {
-    let numbers = (0..count).collect(rt.alloc())?;
-    let _sent = block_on(rt, sender.send_all(numbers))?;
+    let _sent = block_on(rt, sender.send_all(stream::iter(0..count)))?;
     Ok(())
 }
 

@@ -3,7 +3,7 @@
 use anyhow::Result;
 use futures::executor::block_on;
 use futures::test::MockTask;
-use futures::{StreamExt, TryStreamExt, future};
+use futures::{StreamExt, TryStreamExt, future, stream};
 use kanal::error::ReceiveError;
 use kanal::{AsyncReceiver, AsyncSender};
 use std::alloc::AllocGlobal;
@@ -84,8 +84,7 @@ fn send_numbers<R>(rt: &R, sender: AsyncSender<u64>) -> Result<()>
 where
     R: Wait + RandomSource + AllocGlobal,
 {
-    let numbers: Vec<u64> = (1..=20).collect(rt.alloc())?;
-    block_on(rt, sender.send_all(numbers))??;
+    block_on(rt, sender.send_all(stream::iter(1..=20)))??;
     Ok(())
 }
 

@@ -36,15 +36,15 @@ where
     Ok(block_on(rt, future::join(a, b))?)
 }
 
-/// Three clients and a hub as tasks on one executor: a client sends a list or a stream, and then its sender goes; the
+/// Three clients and a hub as tasks on one executor: a client sends its numbers, and then its sender goes; the
 /// hub adds up what comes by all channels until each has ended.
 pub fn clients_of_one_hub<R: Wait + RandomSource + AllocGlobal + Print>(rt: &R) -> Result<()> {
     let (to_a, a) = kanal::bounded_async::<u64>(rt.alloc(), 1)?;
     let (to_b, b) = kanal::bounded_async::<u64>(rt.alloc(), 1)?;
     let (to_c, c) = kanal::bounded_async::<u64>(rt.alloc(), 1)?;
-    let one = to_a.send_all((1..=4).collect(rt.alloc())?);
-    let two = to_b.send_all((10..=12).collect(rt.alloc())?);
-    let three = to_c.send_stream(stream::iter(100..=101));
+    let one = to_a.send_all(stream::iter(1..=4));
+    let two = to_b.send_all(stream::iter(10..=12));
+    let three = to_c.send_all(stream::iter(100..=101));
     let mut streams = Vec::new(rt.alloc());
     streams.push(a.stream())?;
     streams.push(b.stream())?;

@@ -2,12 +2,16 @@
 use super::{HandleCall, HandleKit};
 use crate::answer::{AnyAnswer, received, sent};
 use crate::given::Message;
-use futures::StreamExt;
 use futures::task::Poll;
 use futures::test::MockTask;
+use futures::{StreamExt, stream};
 use kanal::error::{ReceiveError, SendError};
 use kanal::{AsyncReceiver, ReceiveFuture, ReceiveStream, SendAll, SendFuture, prefer};
 use std::sync::Wait;
+use std::vec::IntoIter;
+
+/// The sends of a list of messages.
+type List = SendAll<stream::Iter<IntoIter<Message>>, Message>;
 
 /// What a poll of the send answers. One that was refused is over.
 fn poll_send(task: &MockTask, future: &mut Option<SendFuture<'_, Message>>) -> AnyAnswer {
@@ -85,7 +89,7 @@ fn poll_each(task: &MockTask, receiver: &AsyncReceiver<Message>) -> AnyAnswer {
 }
 
 /// What a poll of a list's sends answers.
-fn poll_list(task: &MockTask, list: Option<SendAll<Message>>) -> AnyAnswer {
+fn poll_list(task: &MockTask, list: Option<List>) -> AnyAnswer {
     let Some(mut list) = list else {
         return AnyAnswer::NoMemory;
     };
@@ -140,10 +144,10 @@ impl<'a, R: Wait> HandleKit<'a, R> {
     }
 
     /// The sends of a list of one message, which own a clone of the sender; none where memory was refused.
-    fn new_list(&self, number: u64) -> Option<SendAll<Message>> {
+    fn new_list(&self, number: u64) -> Option<List> {
         let mut messages = Vec::new(self.tx.channel().alloc());
         messages.push(self.given.message(number)?).ok()?;
         let sender = self.tx.clone_async(self.rt).ok()?;
-        Some(sender.send_all(messages))
+        Some(sender.send_all(stream::iter(messages)))
     }
 }

@@ -4,9 +4,9 @@ use Rattle.futures.specs.Runs.{After}
 use Rattle.kanal_futures.specs.Futures.{call_begun}
 use Rattle.kanal_state.specs.Handles.{Sends}
 use Rattle.kanal.specs.Sends.{LeftBy, pass_at}
-use Rattle.kanal.proofs.Streaming.{Went, at_rest, ended_here, ended_on, ended_refused, from_rest, went_item, went_on, went_sent, went_within}
-use Rattle.kanal.proofs.send_stream.send_each.Goals as goal
-use Rattle.kanal.proofs.send_stream.send_each.Goals.{in-Some+in-Ready-Some, in-None+in-Ready-Some-poll+in_default}
+use Rattle.kanal.proofs.Sending.{Went, at_rest, ended_here, ended_on, ended_refused, from_rest, went_item, went_on, went_sent, went_within}
+use Rattle.kanal.proofs.send_all.send_each.Goals as goal
+use Rattle.kanal.proofs.send_all.send_each.Goals.{in-Some+in-Ready-Some, in-None+in-Ready-Some-poll+in_default}
 
 pub returns-in-Pending-clause-begun : goal.returns-in-Pending-clause-begun
 returns-in-Pending-clause-begun g c =

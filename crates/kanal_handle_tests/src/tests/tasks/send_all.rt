@@ -1,24 +1,17 @@
-//! What a task sends of a list: in order, up to a refusal, its end or its drop; and its sender goes.
+//! What a task sends of a stream: in order, up to a refusal, its end or its drop; and its sender goes.
 use super::given::ends_and_task;
 use crate::tests::given::{equal, holds};
 use futures::executor::block_on;
+use futures::stream;
 use futures::task::Poll;
 use kanal::error::{ReceiveError, SendError};
 use kanal::unbounded_async;
-use std::alloc::AllocGlobal;
-use std::process::Abort;
-
-/// The numbers from 1 to the last.
-fn up_to(rt: &(impl Abort + AllocGlobal), last: u64) -> Vec<u64> {
-    let numbers = (1..=last).collect(rt.alloc());
-    numbers.expect(rt, "a list")
-}
 
 /// It waits for a place, sends on, and is the last sender.
 #[test]
 fn a_list_is_sent_over_its_polls(rt: HostRuntime) {
     let (sender, receiver, task) = ends_and_task::<u64>(&rt, 2);
-    let mut all = sender.send_all(up_to(&rt, 3));
+    let mut all = sender.send_all(stream::iter(1..=3));
     equal(&rt, task.poll(&mut all), Poll::Pending);
     holds(&rt, !task.is_woken());
     equal(&rt, receiver.try_recv(&rt), Ok(Some(1)));
@@ -35,25 +28,11 @@ fn a_list_is_sent_over_its_polls(rt: HostRuntime) {
     equal(&rt, receiver.try_recv(&rt), Err(ReceiveError::SendClosed));
 }
 
-/// A close refuses the message that waits, and the sender goes.
-#[test]
-fn a_close_ends_a_list(rt: HostRuntime) {
-    let (sender, receiver, task) = ends_and_task::<u64>(&rt, 2);
-    let mut all = sender.send_all(up_to(&rt, 4));
-    equal(&rt, task.poll(&mut all), Poll::Pending);
-    equal(&rt, receiver.close(&rt), Ok(()));
-    equal(
-        &rt,
-        task.poll(&mut all),
-        Poll::Ready(Err(SendError::Closed)),
-    );
-}
-
 /// Its drop takes back the message that waits, and the sender goes.
 #[test]
 fn a_dropped_list_has_sent_a_beginning(rt: HostRuntime) {
     let (sender, receiver, task) = ends_and_task::<u64>(&rt, 1);
-    let mut all = sender.send_all(up_to(&rt, 3));
+    let mut all = sender.send_all(stream::iter(1..=3));
     equal(&rt, task.poll(&mut all), Poll::Pending);
     drop(all);
     equal(&rt, receiver.try_recv(&rt), Ok(Some(1)));
@@ -65,12 +44,12 @@ fn a_dropped_list_has_sent_a_beginning(rt: HostRuntime) {
 fn a_poll_sends_up_to_a_limit(rt: HostRuntime) {
     let (sender, receiver) = unbounded_async::<u64>(rt.alloc()).expect(&rt, "a channel");
     let (other, _other_end, task) = ends_and_task::<u64>(&rt, 0);
-    let mut all = sender.send_all(up_to(&rt, 200));
+    let mut all = sender.send_all(stream::iter(1..=200));
     equal(&rt, task.poll(&mut all), Poll::Pending);
     holds(&rt, task.is_woken());
     equal(&rt, receiver.len(&rt), 128);
     equal(&rt, task.poll(&mut all), Poll::Ready(Ok(())));
-    let none = block_on(&rt, other.send_all(up_to(&rt, 0)));
+    let none = block_on(&rt, other.send_all(stream::empty()));
     equal(&rt, none.expect(&rt, "a task"), Ok(()));
 }
 
@@ -79,7 +58,7 @@ fn a_poll_sends_up_to_a_limit(rt: HostRuntime) {
 fn a_stream_is_sent_over_its_polls(rt: HostRuntime) {
     let (source, numbers, task) = ends_and_task::<u64>(&rt, 4);
     let (sender, receiver, _task) = ends_and_task::<u64>(&rt, 1);
-    let mut all = sender.send_stream(numbers.stream());
+    let mut all = sender.send_all(numbers.stream());
     equal(&rt, task.poll(&mut all), Poll::Pending);
     holds(&rt, !task.is_woken());
     for number in 1..=2 {
@@ -95,12 +74,12 @@ fn a_stream_is_sent_over_its_polls(rt: HostRuntime) {
     equal(&rt, receiver.try_recv(&rt), Err(ReceiveError::SendClosed));
 }
 
-/// A refused item ends it: the rest stays with the stream's channel.
+/// A close refuses the message that waits; the rest stays with the stream's channel.
 #[test]
 fn a_close_ends_a_stream(rt: HostRuntime) {
     let (source, numbers, task) = ends_and_task::<u64>(&rt, 4);
     let (sender, receiver, _task) = ends_and_task::<u64>(&rt, 1);
-    let mut all = sender.send_stream(numbers.stream());
+    let mut all = sender.send_all(numbers.stream());
     for number in 1..=3 {
         equal(&rt, source.try_send(&rt, number), Ok(true));
     }

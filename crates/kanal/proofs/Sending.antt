@@ -37,10 +37,6 @@ module _ {T P : Type 0} (w : HistoryRelations T P) where
   abbrev pub Gives : Option P → Runs T → Result (Unit {0}) SendError → Type 0
   Gives first coming answer = IfSome first (λ old. (new : P) × SendsComing w coming old new answer)
 
-  pub went_here : (first : Option P) (coming : Runs T) → Went first coming first coming
-  went_here None coming = tt
-  went_here (Some old) coming = ([], refl, λ later last came. came)
-
   pub went_on : (first next free : Option P) (before middle after : Runs T) → Went first before next middle → Went next middle free after → Went first before free after
   went_on None next free before middle after went step = tt
   went_on (Some old) None free before middle after went step = absurd went

@@ -126,8 +126,3 @@ module _ {T W : Type 0} where
       let one = some.1 in
       let both = same_at [] x xs one.front w one.back one.stood (e ∙ sym some.0) tt one.free in
       ap (λ (z : Waiter T W). z ∷ xs) both.0 ∙ ap (λ (zs : List (Waiter T W)). w ∷ zs) (both.1 ∙ sym one.left)
-
-  -- where no place is first, nobody waits
-  pub nobody_first : (ws : List (Waiter T W)) → None ≡ first_place ws → ws ≡ []
-  nobody_first [] is = refl
-  nobody_first (x ∷ xs) is = absurd (cc)

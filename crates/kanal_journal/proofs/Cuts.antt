@@ -1,5 +1,5 @@
 -- A cut of a run is a run, and what the report says of the first steps is what that run tells.
-use Rattle.kanal_journal.proofs.Common.{◌≡◌, ℕ, ◌≤◌, ◌<◌, suc, ltb, List, [], ◌∷◌, ◌++◌, length, filter, refl, sym, ap, ◌∙◌, arith, length-append, append-nil, append_assoc, lt-ltb, le-ltb, filter-append, Event, Outcome, Settlement, Account, Leads, numbered}
+use Rattle.kanal_journal.proofs.Common.{◌≡◌, ℕ, ◌≤◌, ◌<◌, ltb, List, [], ◌∷◌, ◌++◌, length, filter, refl, sym, ap, ◌∙◌, arith, length-append, append-nil, append_assoc, lt-ltb, le-ltb, filter-append, Event, Outcome, Settlement, Account, Leads, numbered}
 
 module _ {T : Type 0} where
   abbrev pub AllBefore : ℕ → List (Settlement T) → Type 0
@@ -25,10 +25,6 @@ module _ {T : Type 0} where
   from-append : (n : ℕ) (xs ys : List (Settlement T)) → AllFrom n xs → AllFrom n ys → AllFrom n (xs ++ ys)
   from-append n [] ys a b = b
   from-append n (x ∷ xs) ys a b = (a.0, from-append n xs ys a.1 b)
-
-  numbered_before : (n : ℕ) (ss : List (ℕ × Outcome T)) → AllBefore (suc n) (numbered n ss)
-  numbered_before n [] = tt
-  numbered_before n (s ∷ ss) = (omega arith, numbered_before n ss)
 
   numbered_from : (n : ℕ) (ss : List (ℕ × Outcome T)) → AllFrom n (numbered n ss)
   numbered_from n [] = tt

@@ -1,5 +1,5 @@
 -- What a running channel holds and tells after a step was noted.
-use Rattle.kanal_journal.proofs.Common.{◌≡◌, ℕ, ◌+◌, ◌≤◌, zero, suc, List, [], ◌∷◌, ◌++◌, length, map, take, Option, Some, None, refl, sym, ap, subst, inl, inr, ◌⊎◌, arith, length-append, cases_Bool, length-map, Outcome, LineEntry, Line, bare, tickets, under, Ticket, ChannelView, line_of, Handles, Event, CloneTx, CloneRx, DropTx, DropRx, Reply, Settlement, Running, Account, AccountStep, added, numbered as with_number, handles_after, opening_account, opening_line, AreGiven, waiting_count, is_done, told_of, reply_of, settled_of, drained_of, cleared_of, RunningStep, IsOpened, IsWithinEvents, IsSame, account_of}
+use Rattle.kanal_journal.proofs.Common.{◌≡◌, ℕ, ◌+◌, ◌≤◌, zero, suc, List, [], ◌∷◌, ◌++◌, length, map, take, Option, Some, None, refl, sym, ap, subst, inl, inr, ◌⊎◌, arith, length-append, cases_Bool, length-map, Outcome, LineEntry, Line, bare, tickets, under, Ticket, ChannelView, line_of, Handles, Event, CloneTx, CloneRx, DropTx, DropRx, Reply, Settlement, Running, Account, added, numbered as with_number, handles_after, opening_account, opening_line, AreGiven, waiting_count, is_done, told_of, reply_of, settled_of, drained_of, cleared_of, RunningStep, IsOpened, IsWithinEvents, IsSame, account_of}
 use Rattle.kanal_events.specs.declared.step_result.StepResult.{StepResult}
 use Rattle.kanal_journal.specs.StepResult.{ServedPost}
 use Rattle.kanal_journal.proofs.Counting.{told-counts, told-count}
@@ -25,10 +25,6 @@ module _ {T : Type 0} where
         let told = added (account_of replies old) e noted.told in
         same-account (line_of new.core) told.line new.handles told.handles replies replies new.settled.items told.settled new.drained.items told.drained new.cleared.items told.cleared
         noted.line noted.handles refl noted.settled noted.drained noted.cleared
-
-    -- so the account goes on by what the event tells
-    pub noted-told : AccountStep (account_of replies old) e (account_of (replies ++ reply ∷ []) new)
-    noted-told = (noted.told, noted.answers, noted-all)
 
   -- as many settlements are noted as there were
   pub noted-count : (n : ℕ) (old new : List (Settlement T)) (settled : List (ℕ × Outcome T)) → new ≡ old ++ with_number n settled → length new ≡ length old + length settled

@@ -62,9 +62,6 @@ but-apart t [] a = tt
 but-apart t (u ∷ ts) a = elim (cases_Bool (u == t)) [ inl e ↦ rw e (but-apart t ts a.1) | inr e ↦ rw e (none-less t u ts a.0, but-apart t ts a.1) ]
 
 module _ {T : Type 0} where
-  tickets-cons : (o : Option ℕ) (m : T) (xs : List (LineEntry T)) → tickets (record { message = m; ticket = o } ∷ xs) ≡ cons_option o (tickets xs)
-  tickets-cons o m xs = refl
-
   without-cons : (t : ℕ) (o : Option ℕ) (m : T) (rest : List (LineEntry T)) (ts : List ℕ) → tickets rest ≡ but t ts → tickets (cond (not (is_ticket t o)) (record { message = m; ticket = o } ∷ rest) rest) ≡ but t (cons_option o ts)
   without-cons t None m rest ts h = h
   without-cons t (Some u) m rest ts h = elim (cases_Bool (u == t)) [ inl e ↦ rw e h | inr e ↦ rw e (ap (λ xs. u ∷ xs) h) ]
@@ -73,15 +70,6 @@ module _ {T : Type 0} where
   pub tickets-without : (t : ℕ) (xs : List (LineEntry T)) → tickets (filter (λ e. not (holds_ticket t e)) xs) ≡ but t (tickets xs)
   tickets-without t [] = refl
   tickets-without t (x ∷ xs) = without-cons t x.ticket x.message (filter (λ e. not (holds_ticket t e)) xs) (tickets xs) (tickets-without t xs)
-
-  found-cons : (t : ℕ) (o : Option ℕ) (m : T) (rest : List (LineEntry T)) (ts : List ℕ) → ((messages rest ≡ []) → has t ts ≡ false) → messages (cond (is_ticket t o) (record { message = m; ticket = o } ∷ rest) rest) ≡ [] → has t (cons_option o ts) ≡ false
-  found-cons t None m rest ts k h = k h
-  found-cons t (Some u) m rest ts k h = elim (cases_Bool (u == t)) [ inl e ↦ absurd (cc (rw e at h)) | inr e ↦ rw e (k (rw e at h)) ]
-
-  -- a ticket with no message in the line is not there
-  pub found-none : (t : ℕ) (xs : List (LineEntry T)) → found t xs ≡ [] → has t (tickets xs) ≡ false
-  found-none t [] h = refl
-  found-none t (x ∷ xs) h = found-cons t x.ticket x.message (filter (holds_ticket t) xs) (tickets xs) (λ k. found-none t xs k) h
 
   -- and one with a message is there
   there-cons : (t : ℕ) (o : Option ℕ) (x : T) (rest : List (LineEntry T)) (ts : List ℕ) (m : T) (ms : List T) → (messages rest ≡ m ∷ ms → has t ts ≡ true) → messages (cond (is_ticket t o) (record { message = x; ticket = o } ∷ rest) rest) ≡ m ∷ ms → has t (cons_option o ts) ≡ true

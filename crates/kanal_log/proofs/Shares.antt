@@ -52,22 +52,9 @@ worthless n s e = let r = doubled-least (n - s.halvings) s.count in omega arith
 pub both-none : (s t : Share) → (both s t).count ≡ 0 → (s.count ≡ 0) × (t.count ≡ 0)
 both-none s t e = let a = doubled-least t.halvings s.count in let b = doubled-least s.halvings t.count in (omega arith, omega arith)
 
--- all of the right is a share
-pub whole-has : (s : Share) → IsWhole s → HasShare s
-whole-has s e = let least = doubled-least s.halvings 1 in omega (arith, e, least)
-
 -- who has a share has more than nothing with another one, too
 pub both-has : (s t : Share) → HasShare t → HasShare (both s t)
 both-has s t has = let least = doubled-least s.halvings t.count in omega (arith, has, least)
-
--- who has two halves of all of the right has all of it
-pub whole-halves : (s : Share) → IsWhole s → IsWhole (both (half s) (half s))
-whole-halves s e =
-    let h = s.halvings in
-    let up : h + 1 + (h + 1) ≡ suc (h + 1 + h) = omega arith in
-    let one : doubled (h + 1) s.count ≡ doubled (h + 1 + h) 1 = ap (λ x. doubled (h + 1) x) e ∙ doubled-twice (h + 1) h (h + 1 + h) 1 refl in
-    let all : doubled (h + 1 + (h + 1)) 1 ≡ doubled (suc (h + 1 + h)) 1 = ap (λ k. doubled k 1) up in
-    omega arith
 
 -- nothing adds nothing to a share
 pub both-nothing : (s : Share) → both nothing s ≡ s

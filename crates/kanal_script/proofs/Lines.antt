@@ -12,11 +12,6 @@ read_more bytes text rest words rest' more (inl e) (inl f) = inl (rw (e, f) (sim
 read_more bytes text rest words rest' more (inl e) (inr f) = inr ((rw (e, append_assoc) (ap (λ xs. text ++ xs) f.0)), f.1)
 read_more bytes text rest words rest' more (inr e) f = absurd (omega (arith, ap length e.1))
 
--- a line that is read is taken
-pub read_shorter : (rest words rest' : List ℕ) → 0 < length rest → IsReadTo rest (line words) rest' → length rest' < length rest
-read_shorter rest words rest' more (inl e) = rw e (simp (length-append) (omega arith))
-read_shorter rest words rest' more (inr e) = rw e.1 more
-
 -- a script that is read so far, and then the line of one more event
 pub event_more : (bytes : List ℕ) (capacity : Option ℕ) (events events' : List (Event ℕ)) (event : Event ℕ) (rest rest' : List ℕ) → 0 < length rest → IsReadTo bytes (script_text capacity events) rest → IsReadTo rest (line (event_words event)) rest' → events' ≡ events ++ (event ∷ []) → IsReadTo bytes (script_text capacity events') rest'
 event_more bytes capacity events events' event rest rest' more before next e =

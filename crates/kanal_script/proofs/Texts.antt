@@ -1,5 +1,5 @@
 -- One piece of an answer after another.
-use Rattle.kanal_script.proofs.Common.{◌≡◌, ℕ, ◌<◌, ◌+◌, List, [], ◌∷◌, ◌++◌, take, drop, decimal, sym, refl, ap, ◌∙◌, append_assoc, append-nil, Option, Some, None, length, get_or, min, add-one, drop-cons, arith, subst, inl, inr, take_more, take_all, drop_all, take-append-drop, cases_lt, Appends, Keeps, AppendsBeginning, line, messages_text, settlements_text, settlement_words, reply_words, counted, drained_count, cleared_count, count_settled, replies_text}
+use Rattle.kanal_script.proofs.Common.{◌≡◌, ℕ, ◌<◌, ◌+◌, List, [], ◌∷◌, ◌++◌, take, drop, decimal, sym, refl, ap, ◌∙◌, append_assoc, append-nil, Option, Some, None, length, get_or, add-one, drop-cons, arith, subst, take_more, take-append-drop, Appends, Keeps, AppendsBeginning, line, messages_text, settlements_text, settlement_words, reply_words, counted, drained_count, cleared_count, count_settled, replies_text}
 use Rattle.kanal_events.specs.declared.event.Reply.{Reply}
 use Rattle.kanal_journal.specs.declared.journal.report.Settlement.{Settlement}
 
@@ -34,14 +34,6 @@ message_more a b c messages i inside before next =
 pub settlement_more : (a b c : Option (List ℕ)) (settled : List (Settlement ℕ)) (i : ℕ) (d : Settlement ℕ) → i < length settled → Appends a b (settlements_text (take i settled)) → Appends b c (line (settlement_words (get_or settled i d))) → Appends a c (settlements_text (take (i + 1) settled))
 settlement_more a b c settled i d inside before next =
     rw (take_more settled i d inside, settlements_text-append (take i settled) (get_or settled i d ∷ []), append-nil (line (settlement_words (get_or settled i d)))) (appends_more a b c _ _ before next)
-
--- as many as there are
-pub take-min : {X : Type 0} (n : ℕ) (xs : List X) → take (min n (length xs)) xs ≡ take n xs
-take-min n xs = elim (cases_lt n (length xs)) [ inl h ↦ ap (λ k. take k xs) (omega arith) | inr h ↦ (ap (λ k. take k xs) (omega arith) ∙ take_all (length xs) xs (omega arith)) ∙ sym (take_all n xs h) ]
-
--- the rest of as many as there are
-pub drop-min : {X : Type 0} (n : ℕ) (xs : List X) → drop (min n (length xs)) xs ≡ drop n xs
-drop-min n xs = elim (cases_lt n (length xs)) [ inl h ↦ ap (λ k. drop k xs) (omega arith) | inr h ↦ (ap (λ k. drop k xs) (omega arith) ∙ drop_all (length xs) xs (omega arith)) ∙ sym (drop_all n xs h) ]
 
 -- what is written, and what is still to write, are the report
 abbrev pub IsPrintedTo : Option (List ℕ) → Option (List ℕ) → List ℕ → List ℕ → Type 0

@@ -1,13 +1,9 @@
 -- Cutting a line into words.
-use Rattle.kanal_script.proofs.Common.{◌≡◌, ◌≢◌, ℕ, ◌<◌, ◌+◌, ◌⊎◌, ◌^◌, zero, suc, decimal, codes, nat_lt, ◌&&◌, Option, Some, None, IsSome, IsNone, Bool, true, false, true≢false, List, [], ◌∷◌, ◌++◌, length, take, drop, get_or, refl, sym, ap, ◌∙◌, subst, inl, inr, append_assoc, append-nil, add-one, drop-cons, arith, ne_eqb, take_more, drop_all, ltb-true, digit_from_value, decimal_is_IsNumeral, IsAscii, IsUtf8, AllDigits, capacity_words, is_separator, word_of, after_word, IsWord, EndsWord, FitsWord, limit_word}
+use Rattle.kanal_script.proofs.Common.{◌≡◌, ◌≢◌, ℕ, ◌<◌, ◌+◌, ◌⊎◌, ◌^◌, zero, suc, decimal, codes, nat_lt, ◌&&◌, Option, Some, None, IsSome, IsNone, true, false, List, [], ◌∷◌, ◌++◌, take, drop, refl, ap, ◌∙◌, inl, inr, arith, ne_eqb, ltb-true, digit_from_value, decimal_is_IsNumeral, IsAscii, IsUtf8, AllDigits, capacity_words, is_separator, word_of, after_word, IsWord, EndsWord, FitsWord, limit_word}
 use Rattle.std.specs.Cmp.{first_so, second_so}
 use Rattle.std.specs.List.{list_all}
 use Rattle.std.proofs.lemmas.Str.{IsUtf8-from_ascii}
 use Rattle.std.proofs.lemmas.Str.Ascii.{IsAscii-nil}
-
--- the list from a place on: what stands there, and the rest
-at_place : (bytes : List ℕ) (i : ℕ) → i < length bytes → drop i bytes ≡ get_or bytes i 0 ∷ drop (i + 1) bytes
-at_place bytes i inside = subst (λ k. drop i bytes ≡ get_or bytes i 0 ∷ drop k bytes) (sym (add-one i)) (drop-cons bytes i 0 inside)
 
 -- a byte that is no separator belongs to the word
 word_on : (b : ℕ) (bs : List ℕ) → is_separator b ≡ false → word_of (b ∷ bs) ≡ b ∷ word_of bs
@@ -26,31 +22,6 @@ after_end b bs e = rw e refl
 -- so far no separator was seen
 abbrev pub IsCutTo : ℕ → List ℕ → Type 0
 IsCutTo i bytes = (take i bytes ++ word_of (drop i bytes) ≡ word_of bytes) × (after_word (drop i bytes) ≡ after_word bytes)
-
-pub cut_more : (bytes : List ℕ) (i : ℕ) → i < length bytes → is_separator (get_or bytes i 0) ≡ false → IsCutTo i bytes → IsCutTo (i + 1) bytes
-cut_more bytes i inside more cut =
-    let there = at_place bytes i inside in (
-      ap (λ xs. xs ++ word_of (drop (i + 1) bytes)) (take_more bytes i 0 inside)
-          ∙ append_assoc (take i bytes) (get_or bytes i 0 ∷ []) (word_of (drop (i + 1) bytes))
-          ∙ sym (ap (λ xs. take i bytes ++ xs) (ap word_of there ∙ word_on (get_or bytes i 0) (drop (i + 1) bytes) more))
-          ∙ cut.0,
-      sym (ap after_word there ∙ after_on (get_or bytes i 0) (drop (i + 1) bytes) more) ∙ cut.1,
-    )
-
-pub cut_here : (bytes : List ℕ) (i : ℕ) → i < length bytes → is_separator (get_or bytes i 0) ≡ true → IsCutTo i bytes → (take i bytes ≡ word_of bytes) × (drop i bytes ≡ after_word bytes)
-cut_here bytes i inside end cut =
-    let there = at_place bytes i inside in (
-      sym (append-nil (take i bytes)) ∙ sym (ap (λ xs. take i bytes ++ xs) (ap word_of there ∙ word_end (get_or bytes i 0) (drop (i + 1) bytes) end)) ∙ cut.0,
-      there ∙ sym (ap after_word there ∙ after_end (get_or bytes i 0) (drop (i + 1) bytes) end) ∙ cut.1,
-    )
-
-pub cut_end : (bytes : List ℕ) (i : ℕ) → i ≡ length bytes → IsCutTo i bytes → (take (length bytes) bytes ≡ word_of bytes) × (drop (length bytes) bytes ≡ after_word bytes)
-cut_end bytes i is cut =
-    let none = drop_all (length bytes) bytes (omega arith) in
-    let cut' = subst (λ k. IsCutTo k bytes) is cut in (
-      sym (append-nil (take (length bytes) bytes)) ∙ sym (ap (λ xs. take (length bytes) bytes ++ word_of xs) none) ∙ cut'.0,
-      none ∙ sym (ap after_word none) ∙ cut'.1,
-    )
 
 -- what is neither a space nor a line feed is no separator,
 not_separator : (b : ℕ) → b ≢ 32 → b ≢ 10 → is_separator b ≡ false

@@ -4,3 +4,4 @@ pub mod Answering
 pub mod Backs
 pub mod Draining
 pub mod Starting
+pub mod Batching

@@ -12,6 +12,8 @@ ghost use Rattle.kanal_events.specs.declared.event.Event.TheVariants.{Recv};
 ghost use Rattle.kanal_events.specs.StepResult.{may_wait};
 ghost use Rattle.kanal_state.specs.Makes.{HasReplied, HasTooLittleRoom};
 ghost use Rattle.kanal_state.specs.Results.{received_after, received_by};
+ghost use Rattle.kanal_state.specs.Frames.{OnlyLineMoves};
+ghost use Rattle.kanal_channel.specs.Batches.{ReceivesThese};
 
 use crate::operation::Operation;
 use crate::shared::{Locked, Shared};
@@ -20,8 +22,9 @@ use kanal_cell::{At, Clock, deadline_after};
 use kanal_core::error::{ReceiveError, ReceiveErrorTimeout};
 use kanal_core::internal::Outcome;
 use kanal_events::event::{Event, Reply};
-use kanal_state::History;
 use kanal_state::answers::{asked_by, drained_by, received_after, received_by, timed_received_by};
+use kanal_state::{History, State};
+use std::collections::VecDeque;
 use std::sync::Wait;
 use std::time;
 use std::time::Duration;
@@ -95,6 +98,36 @@ impl<T> Operation<T, ()> for OfReceive {
         ensures { result ≡ Err ReceiveError.Finished }
     {
         Err(ReceiveError::Finished)
+    }
+}
+
+/// How many messages a receiver takes at once: all where it is the only one, and otherwise at least one and no more
+/// than half of what would be its share.
+fn share<T: Drop, H: History<T>>(state: &State<T, H>) -> usize {
+    let (_senders, receivers) = state.counts();
+    if receivers < 2 {
+        return state.len();
+    }
+    (state.len() / (2 * receivers as usize)).max(1)
+}
+
+#[tactic(auto, using(crate::proofs::Batching::folds_more, crate::proofs::Batching::receives_at_once))]
+fn pop_each<T: Drop, H: History<T>>(
+    state: &mut State<T, H>,
+    log: &H::Log,
+    pass: &mut H::Pass,
+    into: &mut VecDeque<T>,
+)
+    requires empty { into.old.items ≡ [] }
+    ensures received { ReceivesThese H.relations pass.old into.new.items pass.new }
+    ensures rest { OnlyLineMoves state.old state.new }
+{
+    let most = into.capacity().min(share(state));
+    while into.len() < most {
+        let Some(message) = state.pop(log, pass) else {
+            return;
+        };
+        into.push_back_reserved(message);
     }
 }
 
@@ -198,6 +231,18 @@ impl<T: Drop, H: History<T>> Shared<T, H> {
         }
         let until = At { clock, deadline };
         received_in_time(self.make_until::<R, (), OfReceive, At<'_, C>>(rt, pass, (), &until))
+    }
+
+    /// Receives what lies in the buffer, oldest first, while there is room for it: all under one lock, each by a
+    /// receive of its own. It never waits: where the lock is held, or a notice is to be applied, it receives nothing.
+    pub fn recv_ready(&self, pass: &mut H::Pass, into: &mut VecDeque<T>)
+        requires empty { into.old.items ≡ [] }
+        ensures received { ReceivesThese H.relations pass.old into.new.items pass.new }
+    {
+        if let Some(mut locked) = self.try_lock_quiet() {
+            pop_each(&mut locked.state, &self.log, pass, into);
+            locked.unlock_and_drain();
+        }
     }
 
     /// Moves all messages to the vector's end, those of waiting senders too, and answers how many they

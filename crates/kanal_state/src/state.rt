@@ -288,6 +288,14 @@ impl<T: Drop, H: History<T>> State<T, H> {
         self.core.is_full()
     }
 
+    /// How many messages lie in the buffer.
+    #[inline]
+    pub fn len(&self) -> usize
+        ensures exact { result ≡ buffered self.now.1 }
+    {
+        self.core.len()
+    }
+
     /// Whether no message is in the buffer, whoever waits.
     #[inline]
     pub fn is_empty(&self) -> bool

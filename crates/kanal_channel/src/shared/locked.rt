@@ -140,6 +140,17 @@ impl<T: Drop, H: History<T>> Shared<T, H> {
         Some(self.locked(state))
     }
 
+    /// Tries once to get the lock; `None` where it is held, and where there were notices, which are applied then.
+    #[inline]
+    pub(crate) fn try_lock_quiet(&self) -> Option<Locked<'_, T, H>> {
+        let locked = self.try_lock_raw()?;
+        if self.has_no_notices() {
+            return Some(locked);
+        }
+        locked.unlock_and_drain();
+        None
+    }
+
     #[inline]
     pub(super) fn locked<'a>(&'a self, state: MutexGuard<'a, State<T, H>>) -> Locked<'a, T, H> {
         let internal_pass = state.internal_pass();

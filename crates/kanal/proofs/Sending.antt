@@ -1,31 +1,56 @@
 -- What a task sends of a stream: what polls sent before comes before what is sent later.
-use Rattle.std.proofs.Common.{◌≡◌, true, List, [], ◌∷◌, ◌++◌, Option, Some, None, MatchOption, Result, Ok, Err, option_map, refl, sym, subst, append_assoc}
+use Rattle.std.proofs.Common.{◌≡◌, ◌∙◌, true, false, List, [], ◌∷◌, ◌++◌, Option, Some, None, MatchOption, Result, Ok, Err, option_map, refl, sym, subst, append_assoc}
 use Rattle.std.specs.Option.{IfSome, IsSomeAnd}
 use Rattle.std.specs.Prelude.{is_some}
-use Rattle.futures.specs.Runs.{After, Runs, Within}
+use Rattle.futures.specs.Runs.{After, Leads, Runs, Within}
+use Rattle.kanal_channel.proofs.Batching.{folds_on}
 use Rattle.kanal_core.specs.declared.error.SendError.{SendError}
 use Rattle.kanal_core.specs.declared.error.SendError.TheVariants.{Finished}
 use Rattle.kanal_state.specs.Handles.{Sends}
 use Rattle.kanal_state.specs.HistoryRelations.{HistoryRelations}
 use Rattle.kanal.specs.declared.send_all.SendStage.{SendStage}
-use Rattle.kanal.specs.Sends.{SendsOn, LeftBy, SendsComing, SendsAll, SendsAllTo, SendsThese, SendsSome, flattened, pass_at, stage_begun, stage_idle}
+use Rattle.kanal.specs.Sends.{Behind, ComesFrom, LeftBy, SendsAll, SendsAllTo, SendsComing, SendsSoFar, SendsOn, SendsSome, StillGives, flattened, pass_at, stage_begun, stage_idle}
+
+module _ {T : Type 0} where
+  leads_first : (message : T) (before after : Runs T) → before [] (Some message) → After before message after → Within before (Leads (λ item. item ≡ message) after)
+  leads_first message before after first rest [] None came = absurd came
+  leads_first message before after first rest [] (Some x) came = subst (λ y. before [] (Some y)) (sym came) first
+  leads_first message before after first rest (x ∷ xs) last came = subst (λ y. before (y ∷ xs) last) (sym came.0) (rest xs last came.1)
+
+  -- one more came
+  pub behind_more : (came : List T) (message : T) (before after : Runs T) → before [] (Some message) → After before message after → Within (Behind came before) (Behind (came ++ message ∷ []) after)
+  behind_more [] message before after first rest items last given = leads_first message before after first rest items last given
+  behind_more (m ∷ came) message before after first rest [] last given = given
+  behind_more (m ∷ came) message before after first rest (x ∷ xs) last given = (given.0, behind_more came message before after first rest xs last given.1)
+
+  -- what comes behind may come to less
+  pub behind_within : (came : List T) (before after : Runs T) → Within before after → Within (Behind came before) (Behind came after)
+  behind_within [] before after within items last given = within items last given
+  behind_within (m ∷ came) before after within [] last given = given
+  behind_within (m ∷ came) before after within (x ∷ xs) last given = (given.0, behind_within came before after within xs last given.1)
+
+  -- what was sent came before what is left
+  pub behind_sent : (sent left : List T) (rest : Runs T) (later : List T) (last : Option T) → Behind left rest later last → Behind (sent ++ left) rest (sent ++ later) last
+  behind_sent [] left rest later last given = given
+  behind_sent (m ∷ sent) left rest later last given = (refl, behind_sent sent left rest later last given)
+
+-- a stream that has ended gives no more
+pub gives_none : {S T : Type 0} (yields : S → Runs T) (stream : Option S) → is_some stream ≡ false → StillGives yields stream [] None
+gives_none yields None over = (refl, refl)
+gives_none yields (Some stream) over = absurd (cc)
 
 module _ {T P : Type 0} (w : HistoryRelations T P) where
-  these_on : (old mid new : P) (earlier later : List T) → SendsThese w old earlier mid → SendsThese w mid later new → SendsThese w old (earlier ++ later) new
-  these_on old mid new [] later before after = subst (λ p. SendsThese w p later new) (sym before) after
-  these_on old mid new (message ∷ earlier) later before after = (before.0, before.1, these_on before.0 mid new earlier later before.2 after)
-
   goes_on : (before middle after : Runs T) (old mid new : P) → SendsOn w before old middle mid → SendsOn w middle mid after new → SendsOn w before old after new
   goes_on before middle after old mid new went step = (
     went.0 ++ step.0,
-    these_on old mid new went.0 step.0 went.1 step.1,
+    folds_on (λ p m q. Sends w p q m (Ok tt)) old mid new went.0 step.0 went.1 step.1,
     λ later last came. subst (λ xs. before xs last) (sym (append_assoc went.0 step.0 later)) (went.2 (step.0 ++ later) last (step.2 later last came)),
   )
 
   comes_on : (before after : Runs T) (old mid new : P) (answer : Result (Unit {0}) SendError) → SendsOn w before old after mid → SendsComing w after mid new answer → SendsComing w before old new answer
-  comes_on before after old mid new (Ok done) went came = (went.0 ++ came.0, went.2 came.0 None came.1, these_on old mid new went.0 came.0 went.1 came.2)
+  comes_on before after old mid new (Ok done) went came = (went.0 ++ came.0, went.2 came.0 None came.1, folds_on (λ p m q. Sends w p q m (Ok tt)) old mid new went.0 came.0 went.1 came.2)
   comes_on before after old mid new (Err error) went came =
-      (went.0 ++ came.0, came.1, came.2, went.2 came.0 (Some came.1) came.3, these_on old mid came.2 went.0 came.0 went.1 came.4, came.5)
+      (went.0 ++ came.0, came.1, came.2, went.2 came.0 (Some came.1) came.3, folds_on (λ p m q. Sends w p q m (Ok tt)) old mid came.2 went.0 came.0 went.1 came.4, came.5)
 
   -- from where a task was to where it is, by options of passes
   abbrev pub Went : Option P → Runs T → Option P → Runs T → Type 0
@@ -60,18 +85,24 @@ module _ {T P : Type 0} (w : HistoryRelations T P) where
   gives_ended (Some old) None coming answer came = absurd came
   gives_ended (Some old) (Some new) coming answer came = (new, came)
 
-  item_first : (message : T) (before after : Runs T) → before [] (Some message) → After before message after → (pass : P) (later : List T) (last : Option T) → LeftBy (Some (pass, message)) after later last → before later last
-  item_first message before after first rest pass [] None came = absurd came
-  item_first message before after first rest pass [] (Some x) came = subst (λ y. before [] (Some y)) (sym came) first
-  item_first message before after first rest pass (x ∷ xs) last came = subst (λ y. before (y ∷ xs) last) (sym came.0) (rest xs last came.1)
-
-  -- an item came
-  pub went_item : (pass : P) (message : T) (before after : Runs T) → before [] (Some message) → After before message after → Went (Some pass) before (Some pass) (LeftBy (Some (pass, message)) after)
-  went_item pass message before after first rest = ([], refl, item_first message before after first rest pass)
-
   -- it was sent
   pub went_sent : (pass mid : P) (message : T) (rest : Runs T) → Sends w pass mid message (Ok tt) → Went (Some pass) (LeftBy (Some (pass, message)) rest) (Some mid) rest
   went_sent pass mid message rest made = (message ∷ [], (mid, made, refl), λ later last came. (refl, came))
+
+  -- some were sent, from the front
+  went_front : (pass : P) (front left : List T) (next : Option (P × T)) (free : Option P) (rest : Runs T) → SendsSoFar w pass front next free left
+      → Went (Some pass) (Behind front rest) (pass_at next free) (LeftBy next (Behind left rest))
+  went_front pass front left (Some begun) free rest went = (went.0, went.1, λ later last came. subst (λ xs. Behind xs rest (went.0 ++ later) last) (sym (went.2 ∙ append_assoc went.0 (begun.1 ∷ []) left)) (behind_sent went.0 (begun.1 ∷ left) rest later last came))
+  went_front pass front left None None rest went = absurd went
+  went_front pass front left None (Some new) rest went = (went.0, went.1, λ later last came. subst (λ xs. Behind xs rest (went.0 ++ later) last) (sym (went.2 ∙ append_assoc went.0 [] left)) (behind_sent went.0 left rest later last came))
+
+  -- a message came, and some were sent
+  pub went_message : (first : Option P) (before was : Runs T) (pass : P) (message : T) (came left : List T) (gives : Runs T) (next : Option (P × T)) (free : Option P)
+      → Went first before (Some pass) was → ComesFrom was (Behind came gives) message → SendsSoFar w pass (message ∷ came) next free left → Went first before (pass_at next free) (LeftBy next (Behind left gives))
+  went_message first before was pass message came left gives next free went item sent =
+      let front = Behind (message ∷ came) gives in
+      let here = went_on first (Some pass) (Some pass) before was front went ([], refl, leads_first message was (Behind came gives) item.0 item.1) in
+      went_on first (Some pass) (pass_at next free) before front (LeftBy next (Behind left gives)) here (went_front pass (message ∷ came) left next free gives sent)
 
   -- none came yet
   pub went_within : (pass : P) (before after : Runs T) → Within before after → Went (Some pass) before (Some pass) after
@@ -96,6 +127,11 @@ module _ {T P : Type 0} (w : HistoryRelations T P) where
   pub from_rest : (first : Option P) (before : Runs T) (begun : Option (P × T)) (idle : Option P) (given : Runs T) (pass : P) → (is_some idle ≡ true → begun ≡ None) → idle ≡ Some pass → Went first before (Some pass) given → Went first before (pass_at begun (Some pass)) (LeftBy begun given)
   from_rest first before None idle given pass one is went = went
   from_rest first before (Some begun) idle given pass one is went = absurd (busy begun idle pass one is)
+
+  -- the same by equal options
+  pub some_same : (before after : Runs T) (begun begun' next next' : Option (P × T)) (idle idle' free free' : Option P) → SendsSome w begun idle before next free after
+      → begun' ≡ begun → idle' ≡ idle → next' ≡ next → free' ≡ free → SendsSome w begun' idle' before next' free' after
+  some_same before after begun begun' next next' idle idle' free free' went b i n f = rw (b, i, n, f) went
 
   -- what a task may answer from where it is it may answer from where it was
   pub same_on : {Sender Hist Log Prefix Internal : Type 0} (held next : Option (Sender × SendStage T Hist P Log Prefix Internal)) (before after : Runs T) (answer : Result (Unit {0}) SendError) → is_some held ≡ true → is_some next ≡ true

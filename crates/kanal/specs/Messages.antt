@@ -1,5 +1,6 @@
 -- What a receiver's iterator hands out, and how a loop over its messages ends.
-use Rattle.std.specs.Prelude.{◌≡◌, false, List, [], ◌∷◌, Option, Result, Ok, Err, IfSome, MatchOption, MatchResult}
+use Rattle.std.specs.Prelude.{◌≡◌, false, List, [], ◌∷◌, Option, Result, Ok, Err, IfSome, IsSomeAnd, MatchOption, MatchResult}
+use Rattle.std.specs.List.{FoldsTo}
 use denote.Param.Members.{Mut, Called}
 use Rattle.kanal_core.specs.declared.error.ReceiveError.{ReceiveError}
 use Rattle.kanal_core.specs.declared.error.ReceiveError.TheVariants.{SendClosed}
@@ -17,12 +18,25 @@ module _ {T P : Type 0} (w : HistoryRelations T P) where
   abbrev pub ReceivesNext : P → P → Option T → Type 0
   ReceivesNext old new item = MatchOption item (IsRefused old new) (λ message. Receives w old new (Ok message))
 
+module _ {T F R : Type 0} (call : Mut F (T × Unit {0}) R) where
+  -- each message was handed to the call, in order, which answered so
+  abbrev pub CallsEach : R → F → List T → F → Type 0
+  CallsEach went = FoldsTo (λ f message g. Called call f (message, tt) went g)
+
 module _ {T P F R : Type 0} (w : HistoryRelations T P) (call : Mut F (T × Unit {0}) R) where
   -- the messages were received one after the other, the last of them first in the list, and each was handed to the call, which answered so
   abbrev pub HandsEach : R → P → F → List T → P → F → Type 0
   HandsEach went old first [] new last = (old ≡ new) × (first ≡ last)
   HandsEach went old first (message ∷ earlier) new last =
       (mid : P) × (f : F) × HandsEach went old first earlier mid f × Receives w mid new (Ok message) × Called call f (message, tt) went last
+
+  -- some messages were received and handed to the call so
+  abbrev pub HandsSome : R → P → F → P → F → Type 0
+  HandsSome went old first new last = (messages : List T) × HandsEach went old first messages new last
+
+  -- the same, by options of passes; of a pass that is gone nothing is said
+  abbrev pub HandsOn : R → Option P → F → Option P → F → Type 0
+  HandsOn went before first after last = IfSome before (λ old. IsSomeAnd after (λ new. HandsSome went old first new last))
 
   -- each message that was received was handed to the call, which answered so, and the next receive was refused with this error
   abbrev pub EndsBy : R → P → P → F → ReceiveError → Type 0

@@ -10,7 +10,7 @@ ghost use Rattle.kanal_futures.specs.Streams.{stream_is_over, stream_pass};
 ghost use Rattle.kanal_state.specs.Handles.{AsksForTheEnd, Drains, TriesToReceive, TriesToReceiveNow};
 ghost use Rattle.kanal_state.specs.Makes.{HasTooLittleRoom};
 
-use crate::each::{ForEach, TryForEach};
+use crate::each::{ForEach, Room, TryForEach};
 use crate::handle::Handle;
 use crate::receiver::Receiver;
 use crate::receiver_view::ReceiverView;
@@ -217,7 +217,8 @@ impl<T: Drop, H: History<T, Pass = ()>> AsyncReceiver<T, H> {
     }
 
     /// A future that hands each message that comes to the call, until no more come: as many in one poll as are
-    /// there, up to 128. The call runs with no lock held. Neither this call nor a poll waits for anybody.
+    /// there, up to 528. One taking of the lock brings up to 32 of the buffer, and where other receivers are left no more
+    /// than half of this one's share. The call runs with no lock held. Neither this call nor a poll waits for anybody.
     ///
     /// The future answers `Ok` exactly where it ended since no sender is left and nothing is in the line.
     ///
@@ -236,11 +237,12 @@ impl<T: Drop, H: History<T, Pass = ()>> AsyncReceiver<T, H> {
         ForEach {
             stream: self.stream(),
             call,
+            room: Room::new(self.channel().alloc()),
         }
     }
 
     /// A future that hands each message that comes to the call, until no more come or the call answers an error,
-    /// which is handed on: as `for_each`.
+    /// which is handed on: as `for_each`, a message at a time.
     ///
     /// It answers `Ok(Ok(()))` where it ended since no sender is left and nothing is in the line, and
     /// `Ok(Err(error))` where the call answered that error. The rest is still in the line then, but for a message

@@ -1,15 +1,15 @@
 //! The sender of a channel for tasks, over which the sender for threads and the view are made.
 //!
 //! Calls are generic in the caller's pass; a call that takes no caller is made by the pass of no content.
-ghost use Rattle.std.specs.Prelude.{◌≡◌, ◌≢◌, IfSome, IsSome, None, Ok, Some, true, codes};
+ghost use Rattle.std.specs.Prelude.{◌≡◌, ◌≢◌, [], IfSome, IsSome, None, Ok, Some, true, codes};
 ghost use Rattle.kanal.specs.Handles.{Clones, handle_of_sender, sender_for_tasks, viewed_sender};
-ghost use Rattle.kanal.specs.Sends.{all_begun, all_held, all_stream};
+ghost use Rattle.kanal.specs.Sends.{all_begun, all_held, all_ready, all_stream};
 ghost use Rattle.kanal_events.specs.declared.event.Side.{Side};
 ghost use Rattle.kanal_futures.specs.Plain.{message_in};
 ghost use Rattle.kanal_state.specs.Handles.{TriesToSend, TriesToSendNow};
 
 use crate::handle::Handle;
-use crate::send_all::{SendAll, SendStage};
+use crate::send_all::{Ready, SendAll, SendStage};
 use crate::sender::Sender;
 use crate::sender_view::SenderView;
 use futures::Stream;
@@ -17,6 +17,7 @@ use kanal_channel::Shared;
 use kanal_core::error::{SendError, TooMany};
 use kanal_futures::{SendFuture, send_future};
 use kanal_state::{CallContext, CountedSender, History, NoHistory, SendSide};
+use std::collections::VecDeque;
 use std::fmt;
 use std::ops::Deref;
 use std::sync::{Arc, Wait};
@@ -191,15 +192,16 @@ impl<T: Drop, H: History<T, Pass = ()>> AsyncSender<T, H> {
         send_future(self.channel(), message)
     }
 
-    /// A future that owns this sender. It sends the stream's items in order, as many in one poll as come and go in, up
-    /// to 128, and at the stream's end drops the sender. Neither this call nor a poll waits for anybody. A list, or what
-    /// any iterator gives, is a stream by `stream::iter`.
+    /// A future that owns this sender. It sends the stream's items in order, as many in one poll as come and go in, and
+    /// at the stream's end drops the sender. In one taking of the lock it sends up to 32, which it takes from the stream
+    /// before: no more than there were places for. Neither this call nor a poll waits for anybody. A list, or what any
+    /// iterator gives, is a stream by `stream::iter`.
     ///
     /// The future answers `Ok(())` once the stream has ended and all is sent. One that is dropped before has sent a
     /// beginning of it.
     ///
     /// # Errors
-    /// As `send`. The items before the refused one were sent; that and the stream are dropped.
+    /// As `send`. The items before the refused one were sent; that and the stream are dropped, and what had come behind it.
     ///
     /// # Examples
     /// ```text
@@ -209,11 +211,17 @@ impl<T: Drop, H: History<T, Pass = ()>> AsyncSender<T, H> {
     pub fn send_all<S: Stream<Item = T>>(self, stream: S) -> SendAll<S, T, H>
         ensures held { all_held result ≡ true }
         ensures begun { all_begun result ≡ None }
-        ensures stream { all_stream result ≡ stream }
+        ensures stream { all_stream result ≡ Some stream }
+        ensures none { all_ready result ≡ [] }
     {
+        let ready = Ready {
+            queue: VecDeque::new(self.channel().alloc()),
+            places: 0,
+        };
         SendAll {
             held: Some((self, SendStage::Idle(()))),
-            stream,
+            stream: Some(stream),
+            ready,
             ended: None,
         }
     }

@@ -1,7 +1,7 @@
 -- Calls that are made one after the other, and a call that is made by itself.
 use Rattle.std.proofs.Common.{Ok}
 use Rattle.std.specs.List.{FoldsTo}
-use Rattle.kanal_channel.proofs.Common.{◌≡◌, List, [], ◌++◌, subst, refl, sym, inl, HistoryRelations, Recv, Send}
+use Rattle.kanal_channel.proofs.Common.{List, [], ◌++◌, subst, refl, sym, inl, HistoryRelations, Recv, Send}
 use Rattle.std.proofs.Common.{◌∷◌}
 use Rattle.kanal_events.specs.declared.event.Reply.TheVariants.{Got, Sent}
 use Rattle.kanal_state.specs.Calls.{IsTold}

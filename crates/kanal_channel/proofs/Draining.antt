@@ -1,5 +1,5 @@
 -- A drain: what it tells, and what it adds to a vector.
-use Rattle.kanal_channel.proofs.Common.{◌≡◌, ◌==◌, true, true≢false, List, [], ◌++◌, length, IfOk, false, refl, ap, sym, ◌∙◌, inl, inr, subst, cases_Bool, Line, Drain, is_no_memory, take_line, Call, drained_of, drained_of_left, reply_of, reply_of_left, Drains, StepAppendPost, drained_by, HistoryRelations}
+use Rattle.kanal_channel.proofs.Common.{◌≡◌, ◌==◌, true, true≢false, List, [], ◌++◌, length, IfOk, refl, ap, sym, ◌∙◌, inl, inr, subst, cases_Bool, Line, Drain, is_no_memory, take_line, Call, drained_of, drained_of_left, reply_of, reply_of_left, Drains, StepAppendPost, drained_by, HistoryRelations}
 use Rattle.std.proofs.lemmas.List.{append-nil, length-map}
 use Rattle.kanal_events.specs.declared.step_result.StepResult.{StepResult}
 use Rattle.kanal_events.specs.declared.step_result.Leaving.{Leaving}

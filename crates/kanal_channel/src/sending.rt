@@ -2,8 +2,8 @@
 //!
 //! Each call here is one event, and its answer is what the reply reads as. `OfSend` is all that tells a send from
 //! a receive where it waits.
-ghost use Rattle.std.specs.Prelude.{◌≡◌, ◌≢◌, ◌∷◌, ◌++◌, List, [], cond, Err, IfErr, IfOk, IfSome, IsSome, None, Ok, true};
-ghost use Rattle.std.specs.Option.{option_to_list};
+ghost use Rattle.std.specs.Prelude.{◌≡◌, ◌≢◌, ◌∷◌, [], cond, Err, IfErr, IfOk, IfSome, IsSome, None, Ok, true};
+ghost use Rattle.std.specs.Result.{result_err};
 ghost use Rattle.std.specs.Duration.{as_nanos};
 ghost use Rattle.kanal_state.specs.Handles.{Sends, SendsInTime, TriesToSend, TriesToSendNow};
 ghost use Rattle.kanal_core.specs.declared.error.SendError.{SendError};
@@ -13,7 +13,7 @@ ghost use Rattle.kanal_state.specs.Makes.{Comes, HasReplied};
 ghost use Rattle.kanal_state.specs.Refusals.{StartedNoWait};
 ghost use Rattle.kanal_state.specs.Results.{entered_by, sent_after, sent_by};
 ghost use Rattle.kanal_state.specs.Frames.{OnlyLineMoves};
-ghost use Rattle.kanal_channel.specs.Batches.{SendsThese};
+ghost use Rattle.kanal_channel.specs.Batches.{SendsFront};
 ghost use Rattle.kanal_channel.specs.Deadlines.{GivesBack};
 
 use crate::operation::Operation;
@@ -111,26 +111,23 @@ impl<T> Operation<T, T> for OfSend {
     }
 }
 
-#[tactic(auto, using(crate::proofs::Batching::folds_more, crate::proofs::Batching::sends_at_once))]
 fn push_each<T: Drop, H: History<T>>(
     state: &mut State<T, H>,
     log: &H::Log,
     pass: &mut H::Pass,
     message: T,
     behind: &mut VecDeque<T>,
-) -> Option<T>
-    ensures sent { (sent : List T) × SendsThese H.relations pass.old sent pass.new
-        × (message ∷ behind.old.items ≡ sent ++ option_to_list result ++ behind.new.items) }
+) -> Result<usize, T>
+    ensures sent { SendsFront H.relations pass.old pass.new (message ∷ behind.old.items) (result_err result)
+        behind.new.items }
     ensures rest { OnlyLineMoves state.old state.new }
 {
     let mut next = Some(message);
     while let Some(message) = next {
-        if let Err(back) = state.push(log, pass, message) {
-            return Some(back);
-        }
+        state.push(log, pass, message)?;
         next = behind.pop_front();
     }
-    None
+    Ok(state.places())
 }
 
 impl<T: Drop, H: History<T>> Shared<T, H> {
@@ -289,18 +286,26 @@ impl<T: Drop, H: History<T>> Shared<T, H> {
     }
 
     /// Sends the message and those behind it while they go in at once: all under one lock, each by a send of its own.
-    /// The first that doesn't go in comes back, and the rest stays. It never waits: where the lock is held, or a notice
-    /// is to be applied, the message comes back.
-    pub fn send_ready(&self, pass: &mut H::Pass, message: T, behind: &mut VecDeque<T>) -> Option<T>
-        ensures sent { (sent : List T) × SendsThese H.relations pass.old sent pass.new
-            × (message ∷ behind.old.items ≡ sent ++ option_to_list result ++ behind.new.items) }
+    /// `Ok` says how many places are free then. It never waits.
+    ///
+    /// # Errors
+    /// The first message that doesn't go in; the rest stays. Where the lock is held, or a notice is to be applied, that
+    /// is the message.
+    pub fn send_ready(
+        &self,
+        pass: &mut H::Pass,
+        message: T,
+        behind: &mut VecDeque<T>,
+    ) -> Result<usize, T>
+        ensures sent { SendsFront H.relations pass.old pass.new (message ∷ behind.old.items) (result_err result)
+            behind.new.items }
     {
         let Some(mut locked) = self.try_lock_quiet() else {
-            return Some(message);
+            return Err(message);
         };
-        let back = push_each(&mut locked.state, &self.log, pass, message, behind);
+        let sent = push_each(&mut locked.state, &self.log, pass, message, behind);
         locked.unlock_and_drain();
-        back
+        sent
     }
 
     /// Sends the message, and waits where there is no place for it, until the deadline, which is the clock's

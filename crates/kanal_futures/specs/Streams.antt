@@ -1,7 +1,8 @@
 -- Where a stream is, and what its messages are.
-use Rattle.std.specs.Prelude.{◌≡◌, ◌≢◌, ◌⊎◌, ℕ, Bool, false, Option, Some, Result, Err, IsSome, MatchOption, MatchResult, is_some}
+use Rattle.std.specs.Prelude.{◌≡◌, ◌≢◌, ◌⊎◌, ℕ, Bool, false, List, Option, Some, Result, Err, IfSome, IsSome, IsSomeAnd, MatchOption, MatchResult, is_some}
 use Rattle.kanal_core.specs.declared.error.ReceiveError.{ReceiveError}
 use Rattle.kanal_core.specs.declared.error.ReceiveError.TheVariants.{SendClosed}
+use Rattle.kanal_channel.specs.Batches.{ReceivesThese}
 use Rattle.kanal_state.specs.Handles.{Receives}
 use Rattle.kanal_state.specs.HistoryRelations.{HistoryRelations}
 use Rattle.kanal_futures.specs.declared.stream.ReceiveStream.{ReceiveStream}
@@ -41,6 +42,10 @@ module _ {T P : Type 0} where
     pub from : before ≡ Some old
     pub to : after ≡ Some new
     pub receives : Receives w old new answer
+
+  -- by the pass that was there before these messages were received, and the pass that is there after received the last
+  abbrev pub HaveReceived : HistoryRelations T P → Option P → List T → Option P → Type 0
+  HaveReceived w before messages after = IfSome before (λ old. IsSomeAnd after (λ new. ReceivesThese w old messages new))
 
   -- a receive by the pass that was there before was refused so
   abbrev pub StreamRefused : HistoryRelations T P → Option P → Option P → Option ReceiveError → Type 0

@@ -81,8 +81,21 @@ impl<'a, T: Drop, H: History<T>, M: Drop, A: Operation<T, M>> TaskCall<'a, T, H,
         }
     }
 
-    pub(crate) fn shared(&self) -> &'a Shared<T, H> {
+    /// The channel. It never waits.
+    /// Example: `sending.shared().alloc()` is what the channel asks memory of.
+    pub fn shared(&self) -> &'a Shared<T, H> {
         self.shared
+    }
+
+    /// The pass, and what is asked, of a call that was not made yet.
+    #[inline]
+    pub(crate) fn take_fresh(&mut self) -> Option<(H::Pass, M)>
+        ensures fresh { IfSome result (λ begun. call_begun self.old ≡ Some begun) }
+        ensures over { IfSome result (λ _. call_begun self.new ≡ None) }
+        ensures same { IfNone result (call_begun self.new ≡ call_begun self.old) }
+        ensures source { call_source self.new ≡ call_source self.old }
+    {
+        self.state.take()
     }
 
     pub(crate) fn is_waiting(&self) -> bool
@@ -155,6 +168,16 @@ impl<'a, T: Drop, H: History<T>, M: Drop, A: Operation<T, M>> TaskCall<'a, T, H,
         }
     }
 
+    /// Asks this by this pass, of a call that was taken out. Its pauses go on as they were.
+    #[inline]
+    pub(crate) fn put_fresh(&mut self, pass: H::Pass, asked: M)
+        requires over { call_begun self.old ≡ None }
+        ensures fresh { call_begun self.new ≡ Some (pass, asked) }
+        ensures source { call_source self.new ≡ call_source self.old }
+    {
+        self.state = Progress::Zero(pass, asked);
+    }
+
     /// Asks this by this pass, of a future that has answered. The spare waker stays.
     /// Example: `sending.restart(pass, 8)` sends 8 by the pass that `into_parts` gave back.
     pub fn restart(&mut self, pass: H::Pass, asked: M)
@@ -162,7 +185,7 @@ impl<'a, T: Drop, H: History<T>, M: Drop, A: Operation<T, M>> TaskCall<'a, T, H,
         ensures fresh { call_begun self.new ≡ Some (pass, asked) }
         ensures source { call_source self.new ≡ call_source self.old }
     {
-        self.state = Progress::Zero(pass, asked);
+        self.put_fresh(pass, asked);
         self.pauses = PollBackoff::new();
     }
 

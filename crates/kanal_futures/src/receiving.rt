@@ -1,8 +1,10 @@
 //! Receiving in a task: the case of a call that is asked with nothing.
 ghost use Rattle.std.specs.Prelude.{◌≡◌, ◌∷◌, [], IfOk, Some, codes, false};
 ghost use Rattle.kanal_state.specs.Handles.{Receives};
-ghost use Rattle.kanal_futures.specs.Futures.{call_begun};
+ghost use Rattle.kanal_futures.specs.Futures.{call_begun, call_source};
 ghost use Rattle.kanal_futures.specs.Plain.{is_over};
+ghost use Rattle.kanal_futures.specs.Streams.{HaveReceived};
+ghost use Rattle.kanal_futures.specs.Tasks.{passes};
 
 use crate::answer::TaskAnswer;
 use crate::call::TaskCall;
@@ -10,6 +12,7 @@ use crate::plain::PlainFuture;
 use kanal_channel::{OfReceive, Shared};
 use kanal_core::error::ReceiveError;
 use kanal_state::{History, NoHistory};
+use std::collections::VecDeque;
 use std::fmt;
 
 /// What a receive in a task came to: the answer, and the pass. Contracts see what the pass was at first, what
@@ -37,6 +40,24 @@ impl<T: Drop, H: History<T>> ReceiveAnswer<T, H> {
 /// Receives a message in a task, by the pass that it carries. It is polled and dropped as a `ReceiveFuture`; after a
 /// drop the pass is gone.
 pub type Receiving<'a, T, H> = TaskCall<'a, T, H, (), OfReceive>;
+
+impl<T: Drop, H: History<T>> Receiving<'_, T, H> {
+    /// Receives what lies in the buffer, oldest first, while there is room for it, and where no wait was started.
+    #[inline]
+    pub(crate) fn recv_ready(&mut self, into: &mut VecDeque<T>)
+        requires empty { into.old.items ≡ [] }
+        ensures received { HaveReceived H.relations (passes (call_begun self.old)) into.new.items
+            (passes (call_begun self.new)) }
+        ensures source { call_source self.new ≡ call_source self.old }
+    {
+        let Some((pass, asked)) = self.take_fresh() else {
+            return;
+        };
+        let mut pass = pass;
+        self.shared().recv_ready(&mut pass, into);
+        self.put_fresh(pass, asked);
+    }
+}
 
 /// A future that receives a message by this pass. It does nothing before its first poll.
 ///

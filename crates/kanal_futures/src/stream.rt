@@ -1,7 +1,7 @@
 //! The messages of a channel in a task, one after the other.
 //!
 //! Each item is a receive of its own, by the pass that the stream carries.
-ghost use Rattle.std.specs.Prelude.{◌≡◌, ⊤, true, false, Some, None, Ok, Err, IfSome, IfNone, IsSome, OnSome, codes};
+ghost use Rattle.std.specs.Prelude.{◌≡◌, [], ⊤, true, false, Some, None, Ok, Err, IfSome, IfNone, IsSome, OnSome, codes};
 ghost use Rattle.std.specs.Option.{option_copied};
 ghost use Rattle.futures.specs.Task.{Covers, Keeps};
 ghost use Rattle.futures.specs.Poll.{IfReady, OnPending};
@@ -9,7 +9,7 @@ ghost use Rattle.futures.specs.Runs.{After, Within};
 ghost use Rattle.kanal_state.specs.Handles.{AsksForTheEnd, Receives};
 ghost use Rattle.kanal_futures.specs.Futures.{call_begun};
 ghost use Rattle.kanal_futures.specs.Plain.{HasAnswered};
-ghost use Rattle.kanal_futures.specs.Streams.{EndsSo, StreamRefused, HasNone, HasReceived, WaitsAt, stream_fault, stream_is_over, stream_pass, stream_source, stream_waits};
+ghost use Rattle.kanal_futures.specs.Streams.{EndsSo, StreamRefused, HasNone, HasReceived, HaveReceived, WaitsAt, stream_fault, stream_is_over, stream_pass, stream_source, stream_waits};
 
 use crate::receiving::{ReceiveAnswer, Receiving, recv_in_task};
 use futures::task::{Context, Poll};
@@ -17,6 +17,7 @@ use futures::{Future, Stream};
 use kanal_channel::Shared;
 use kanal_core::error::ReceiveError;
 use kanal_state::{CallContext, History, NoHistory};
+use std::collections::VecDeque;
 use std::fmt;
 
 /// The messages of a receiver, as `AsyncReceiver::stream` answers them.
@@ -68,6 +69,29 @@ impl<T: Drop, H: History<T>> ReceiveStream<'_, T, H> {
         ensures fault { option_copied result ≡ stream_fault self.now }
     {
         self.fault.as_ref()
+    }
+
+    /// Receives what lies in the buffer, oldest first, while there is room for it in the queue: all under one lock, each
+    /// by a receive of its own. Where other receivers are left it takes no more than half of its share.
+    ///
+    /// It never waits, and receives nothing where the stream has ended or waits, where the lock is held, or where
+    /// another call waits.
+    ///
+    /// # Examples
+    /// ```text
+    /// stream.recv_ready(&mut queue)   puts   1, 2   into the queue, where 1 and 2 were sent
+    /// ```
+    #[inline]
+    pub fn recv_ready(&mut self, into: &mut VecDeque<T>)
+        requires empty { into.old.items ≡ [] }
+        ensures received { HaveReceived H.relations (stream_pass self.old) into.new.items (stream_pass self.new) }
+        ensures fault { stream_fault self.new ≡ stream_fault self.old }
+        ensures ended { stream_is_over self.old ≡ true → into.new.items ≡ [] }
+        ensures source { stream_source self.new ≡ stream_source self.old }
+    {
+        if self.fault.is_none() {
+            self.receiving.recv_ready(into);
+        }
     }
 
     #[inline]

@@ -1,5 +1,5 @@
 -- What is kept of a call that was noted.
-use Rattle.kanal_state.proofs.Common.{◌≡◌, ◌-◌, ap, sym, subst, inl, inr, Line, Event, DropTx, DropRx, StepResult, StepSpec, step, Tells, told_of, IsDrop, MovesNoMessage, IsToldOn, call_of, call_from}
+use Rattle.kanal_state.proofs.Common.{◌≡◌, ap, sym, subst, inl, inr, Line, Event, DropTx, DropRx, StepResult, StepSpec, step, Tells, told_of, IsDrop, MovesNoMessage, IsToldOn, call_of, call_from}
 
 module _ {T : Type 0} where
   -- a call that was told the line's step is told so on that line

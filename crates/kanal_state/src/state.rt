@@ -2,10 +2,10 @@
 //!
 //! Each call lends the core to one step and has the call that was made kept, before the lock is released; a call
 //! that is refused for memory is not kept. Nothing else changes a core.
-ghost use Rattle.std.specs.Prelude.{◌≡◌, ◌↔◌, ◌==◌, ◌++◌, true, false, not, None, Some, IsSome, IfErr, IfNone, IfOk, IfSome, OnOk};
+ghost use Rattle.std.specs.Prelude.{◌≡◌, ◌↔◌, ◌==◌, ◌-◌, ◌++◌, true, false, not, None, Some, IsSome, IfErr, IfNone, IfOk, IfSome, OnOk};
 ghost use Rattle.std.specs.Vec.{vec_capacity, vec_len};
 ghost use Rattle.kanal_core.specs.Channel.{line_of};
-ghost use Rattle.kanal_core.specs.Line.{Line, buffered, is_at, last_word};
+ghost use Rattle.kanal_core.specs.Line.{Line, buffered, capacity_word, is_at, last_word};
 ghost use Rattle.kanal_core.specs.Tickets.{number_of};
 ghost use Rattle.kanal_core.specs.Waiters.{waiter_of, without};
 ghost use Rattle.kanal_events.specs.Leaving.{Leave, LeaveTried, gone_of};
@@ -286,6 +286,14 @@ impl<T: Drop, H: History<T>> State<T, H> {
         ensures { result ≡ is_at (buffered self.now.1) self.now.1.capacity }
     {
         self.core.is_full()
+    }
+
+    /// How many places of the buffer are free. Without a limit no length is subtracted from less than the largest word.
+    #[inline]
+    pub fn places(&self) -> usize
+        ensures exact { result ≡ capacity_word self.now.1.capacity - buffered self.now.1 }
+    {
+        self.core.capacity().saturating_sub(self.core.len())
     }
 
     /// How many messages lie in the buffer.

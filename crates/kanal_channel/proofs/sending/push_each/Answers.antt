@@ -13,7 +13,7 @@ loop-next-preserved g c =
     let message = c.in-Some.message in
     let sent = c.loop-next.invariant.sent in
     let more = sent.0 ++ message ∷ [] in
-    let here = sends_at_once w old new message c.in_default-push.ensures.made c.in_default-push.ensures.told in
+    let here = sends_at_once w old new message c.in_ok-push.ensures.made c.in_ok-push.ensures.told in
     let is = ap (λ next. sent.0 ++ option_to_list next ++ c.loop-next.behind.items) c.in-Some.is
     ∙ ap (λ xs. more ++ xs) c.pop_front-next.ensures.items
     ∙ sym (append_assoc more (option_to_list c.pop_front-next.result) c.pop_front-next.new.self.items) in

@@ -5,6 +5,7 @@ use futures::executor::block_on;
 use futures::task::Poll;
 use kanal::error::ReceiveError;
 use kanal::unbounded_async;
+use std::collections::VecDeque;
 
 /// It hands over what is there, waits, goes on with what it is given, and ends with the last sender.
 #[test]
@@ -25,19 +26,20 @@ fn a_loop_goes_on_over_its_polls(rt: HostRuntime) {
     equal(&rt, sum, 123);
 }
 
-/// A poll takes 128 messages, and then asks for another.
+/// A poll takes up to 528 messages, and then asks for another.
 #[test]
 fn a_poll_has_a_limit(rt: HostRuntime) {
     let (sender, receiver) = unbounded_async::<u64>(rt.alloc()).expect(&rt, "a channel");
-    for number in 0..200 {
+    for number in 0..600 {
         equal(&rt, send_in_task(&rt, &sender, number), Ok(()));
     }
     let (_other, _ends, task) = ends_and_task::<u64>(&rt, 1);
-    let mut count = 0u64;
+    let mut count = 0usize;
     let mut each = receiver.for_each(|_number| count = count.wrapping_add(1));
     equal(&rt, task.poll(&mut each), Poll::Pending);
     holds(&rt, task.is_woken());
-    equal(&rt, sender.len(&rt), 72);
+    let left = sender.len(&rt);
+    holds(&rt, left >= 72);
     equal(&rt, sender.close(&rt), Ok(()));
     equal(
         &rt,
@@ -45,7 +47,28 @@ fn a_poll_has_a_limit(rt: HostRuntime) {
         Poll::Ready(Err(ReceiveError::Closed)),
     );
     drop(each);
-    equal(&rt, count, 128);
+    equal(&rt, count.wrapping_add(left), 600);
+}
+
+/// One taking of the lock brings all that there is room for, beside another receiver no more than half of a share.
+#[test]
+fn a_receiver_leaves_another_its_share(rt: HostRuntime) {
+    let (sender, receiver) = unbounded_async::<u64>(rt.alloc()).expect(&rt, "a channel");
+    for number in 0..12 {
+        equal(&rt, send_in_task(&rt, &sender, number), Ok(()));
+    }
+    let other = receiver.clone(&rt).expect(&rt, "a clone");
+    let mut queue = VecDeque::with_capacity(rt.alloc(), 8).expect(&rt, "room");
+    receiver.stream().recv_ready(&mut queue);
+    equal(&rt, queue.pop_front(), Some(0));
+    equal(&rt, queue.len(), 2);
+    equal(&rt, other.try_recv(&rt), Ok(Some(3)));
+    drop(other);
+    let mut queue = VecDeque::with_capacity(rt.alloc(), 7).expect(&rt, "room");
+    receiver.stream().recv_ready(&mut queue);
+    equal(&rt, queue.pop_front(), Some(4));
+    equal(&rt, queue.len(), 6);
+    equal(&rt, receiver.try_recv(&rt), Ok(Some(11)));
 }
 
 /// The call's error ends the loop: what comes later stays in the line.

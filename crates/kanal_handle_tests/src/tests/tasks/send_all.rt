@@ -39,18 +39,39 @@ fn a_dropped_list_has_sent_a_beginning(rt: HostRuntime) {
     equal(&rt, receiver.try_recv(&rt), Err(ReceiveError::SendClosed));
 }
 
-/// A poll sends 128 messages, and then asks for another; an empty list ends at once.
+/// A poll sends up to 1,024 messages, and then asks for another; an empty list ends at once.
 #[test]
 fn a_poll_sends_up_to_a_limit(rt: HostRuntime) {
     let (sender, receiver) = unbounded_async::<u64>(rt.alloc()).expect(&rt, "a channel");
     let (other, _other_end, task) = ends_and_task::<u64>(&rt, 0);
-    let mut all = sender.send_all(stream::iter(1..=200));
+    let mut all = sender.send_all(stream::iter(1..=1_100));
     equal(&rt, task.poll(&mut all), Poll::Pending);
     holds(&rt, task.is_woken());
-    equal(&rt, receiver.len(&rt), 128);
+    holds(&rt, receiver.len(&rt) <= 1_024);
     equal(&rt, task.poll(&mut all), Poll::Ready(Ok(())));
+    equal(&rt, receiver.len(&rt), 1_100);
     let none = block_on(&rt, other.send_all(stream::empty()));
     equal(&rt, none.expect(&rt, "a task"), Ok(()));
+}
+
+/// No item is taken for which there was no place, unless another sender took it: the rest stays where it is.
+#[test]
+fn a_stream_is_not_asked_ahead_of_the_places(rt: HostRuntime) {
+    let (source, numbers) = unbounded_async::<u64>(rt.alloc()).expect(&rt, "a channel");
+    let (sender, receiver, task) = ends_and_task::<u64>(&rt, 8);
+    for number in 1..=20 {
+        equal(&rt, source.try_send(&rt, number), Ok(true));
+    }
+    let mut all = sender.send_all(numbers.stream());
+    equal(&rt, task.poll(&mut all), Poll::Pending);
+    equal(&rt, numbers.len(&rt), 11);
+    for number in 1..=9 {
+        equal(&rt, receiver.try_recv(&rt), Ok(Some(number)));
+    }
+    equal(&rt, task.poll(&mut all), Poll::Pending);
+    drop(all);
+    equal(&rt, receiver.try_recv(&rt), Ok(Some(10)));
+    equal(&rt, numbers.len(&rt).wrapping_add(receiver.len(&rt)), 9);
 }
 
 /// A stream is sent as it comes: it waits for an item, then for a place, and its end is the sender's.

@@ -2,7 +2,7 @@ use Rattle.std.proofs.Common.{◌≡◌, false, Ok, Err, of_calls, subst}
 use denote.Param.Members.{Called}
 use Rattle.std.specs.Option.{IfNone, IfSome, IsSome}
 use Rattle.kanal_futures.specs.Streams.{EndsSo, HasReceived, StreamRefused, stream_fault, stream_is_over, stream_pass}
-use Rattle.kanal.proofs.Loops.{until_broken, until_ended, until_on}
+use Rattle.kanal.proofs.Loops.{hands_received, until_broken, until_ended, until_on}
 use Rattle.kanal.proofs.each.TryForEachFuture.poll.Goals as goal
 
 pub returns-in-Err-clause-value : goal.returns-in-Err-clause-value
@@ -42,8 +42,9 @@ loop-preserved g c =
     let received = subst (λ o. IfSome o (λ m. HasReceived w (stream_pass old) (stream_pass new) (Ok m))) got.field-0-is got.ensures.received in
     let going = subst (λ o. IfSome o (λ _. stream_is_over new ≡ false)) got.field-0-is got.ensures.further in
     let called = subst (λ r. Called g.F.FnMut c.loop.self.call (got.message, tt) r c.call.new.self) c.in_default.is (record { met = c.call.ensures.met }) in
+    let handed = hands_received w g.F.FnMut (Ok tt) (stream_pass old) (stream_pass new) c.loop.self.call c.call.new.self got.message received called in
     let callable = c.loop.invariant.0 in (
       search of_calls,
       λ fact held. c.poll_next.ensures.kept fact (c.loop.invariant.1 fact held),
-      λ answer all. c.loop.invariant.2 answer (until_on w g.F.FnMut (stream_pass old) (stream_pass new) (stream_is_over old) (stream_is_over new) c.loop.self.call c.call.new.self got.message answer received going called all),
+      λ answer all. c.loop.invariant.2 answer (until_on w g.F.FnMut (stream_pass old) (stream_pass new) (stream_is_over old) (stream_is_over new) c.loop.self.call c.call.new.self answer handed going all),
     )

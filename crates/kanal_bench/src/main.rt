@@ -4,8 +4,8 @@
 //! `kanal_bench SCENARIO CAPACITY COUNT` sends numbers through a channel and prints the wrapping sum of
 //! those that were received. SCENARIO is `seq` (one thread sends and receives in turn), `spsc` (one thread
 //! sends, one receives), `mpsc` (four send, one receives) or `mpmc` (four send, four receive); `async-seq`,
-//! `async-spsc` and `async-mpmc` are the same in tasks, one a thread, `loop-spsc` and `loop-mpmc` by one `send_all`
-//! and one `for_each` a task, `async-many` has 32 sending tasks on two threads and 32 receiving ones on two more,
+//! `async-spsc` and `async-mpmc` are the same in tasks, one a thread, `loop-seq`, `loop-spsc` and `loop-mpmc` by one
+//! `send_all` and one `for_each` a task, `async-many` has 32 sending tasks on two threads and 32 receiving ones on two more,
 //! and `history-seq` is `seq` on a channel with one history.
 //! CAPACITY is a number, or `u` for a channel without limit. Each of k senders sends the numbers 0, 1, ..
 //! below COUNT / k.
@@ -57,6 +57,8 @@ enum Scenario {
     InTurn,
     /// One task does so.
     TaskInTurn,
+    /// One task does so by two loops.
+    LoopsInTurn,
     /// One thread does so on a channel with one history.
     InOneHistory,
     /// Threads send, and others receive.
@@ -73,16 +75,17 @@ impl Scenario {
     fn least_capacity(self) -> usize {
         match self {
             Scenario::InTurn | Scenario::TaskInTurn | Scenario::InOneHistory => 1,
-            Scenario::Crowd(_) | Scenario::Wait => 0,
+            Scenario::LoopsInTurn | Scenario::Crowd(_) | Scenario::Wait => 0,
             Scenario::Stall => 4,
         }
     }
 }
 
 /// The scenarios on a channel of a given capacity, by their words.
-const SCENARIOS: [(&str, Scenario); 13] = [
+const SCENARIOS: [(&str, Scenario); 14] = [
     ("seq", Scenario::InTurn),
     ("async-seq", Scenario::TaskInTurn),
+    ("loop-seq", Scenario::LoopsInTurn),
     ("history-seq", Scenario::InOneHistory),
     ("spsc", Scenario::Crowd(crowd::ONE_TO_ONE)),
     ("mpsc", Scenario::Crowd(crowd::FOUR_TO_ONE)),
@@ -150,7 +153,7 @@ where
 {
     let Some((_word, scenario)) = SCENARIOS.iter().find(|it| it.0 == scenario) else {
         bail!(
-            "scenarios: seq spsc mpsc mpmc async-seq,-spsc,-mpmc,-many loop-spsc,-mpmc history-seq wait stall finish leave drops pool"
+            "scenarios: seq spsc mpsc mpmc async-seq,-spsc,-mpmc,-many loop-seq,-spsc,-mpmc history-seq wait stall finish leave drops pool"
         );
     };
     let (alloc, count) = (rt.alloc(), number(words, 1)?);
@@ -163,6 +166,10 @@ where
         Scenario::TaskInTurn => {
             let (sender, receiver) = capacity.open(alloc)?;
             tasks::add_up(&rt, sender.as_async(), receiver.as_async(), count)?
+        },
+        Scenario::LoopsInTurn => {
+            let (sender, receiver) = capacity.open(alloc)?;
+            tasks::add_up_in_loops(&rt, sender.to_async(), receiver.as_async(), count)?
         },
         Scenario::InOneHistory => one_history::in_turn(&rt, alloc, capacity, count)?,
         Scenario::Crowd(crowd) => {

@@ -26,6 +26,23 @@ where
     block_on(rt, sum)
 }
 
+/// Sends and receives in turn, in one task, by one `AsyncSender::send_all` and one `AsyncReceiver::for_each`.
+pub fn add_up_in_loops<R>(
+    rt: &R,
+    sender: AsyncSender<u64>,
+    receiver: &AsyncReceiver<u64>,
+    count: u64,
+) -> io::Result<u64>
+where
+    R: Wait + RandomSource + AllocGlobal,
+{
+    let mut sum = 0u64;
+    let all = sender.send_all(stream::iter(0..count));
+    let each = receiver.for_each(|number| sum = sum.wrapping_add(number));
+    let _ended = block_on(rt, future::join(all, each))?;
+    Ok(sum)
+}
+
 /// Sends the numbers below the count.
 pub fn send_all<R>(rt: &R, sender: &AsyncSender<u64>, count: u64) -> io::Result<()>
 where
